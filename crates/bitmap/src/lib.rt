@@ -1,0 +1,102 @@
+// Bits of a bitmap: bit i is bit i mod 8 of byte i div 8, bit 0 lowest. An inner crate: its callers meet what it asks.
+ghost use Prim.Native.Nat.{_%_, _+_, _/_, _<_, _^_, _≤_};
+ghost use Rattle.bitmap.specs.Push.{Covers, pushBit, trues};
+ghost use Rattle.model.specs.Basics.{tab};
+ghost use Rattle.model.specs.Bitmap.{bitAt, bytesFor, from, shortBits, validAt};
+ghost use lib.Count.{ones};
+ghost use lib.ListN.{length};
+ghost use mathlib.Core.Path.{_≡_};
+
+// Whether bit i is set, counted from a starting bit; the sum of the two may be past the largest number.
+fn bit_from(bitmap: &[u8], start: usize, i: usize) -> bool
+    requires { ⌜ start < 8 ⌝ }
+    requires { ⌜ (start + i) / 8 < length (now bitmap) ⌝ }
+    ensures { λ r. ⌜ r ≡ bitAt (now (bitmap .entry)) (start + i) ⌝ }
+{
+    let p = start + i % 8;
+    let byte = bitmap[i / 8 + p / 8];
+    ((byte >> ((p % 8) as u8)) & 1) == 1
+}
+
+// Appends bit i, the bits before it being written: the first bit of a byte starts the byte anew.
+pub fn push_bit(bitmap: &mut [u8], i: usize, on: bool)
+    requires { ⌜ i / 8 < length (now bitmap) ⌝ }
+    ensures { λ _. ⌜ now (bitmap .exit) ≡ pushBit (now (bitmap .entry)) i on ⌝ }
+{
+    let at = i / 8;
+    if i % 8 == 0 {
+        bitmap[at] = on as u8;
+    } else {
+        let byte = bitmap[at];
+        bitmap[at] = byte | ((on as u8) << ((i % 8) as u8));
+    }
+}
+
+// How many bytes n bits take.
+pub fn bytes_for(n: usize) -> usize
+    ensures { λ r. ⌜ r ≡ bytesFor n ⌝ }
+{
+    n / 8 + (n % 8 + 7) / 8
+}
+
+// How many bytes n bits take that begin at a starting bit.
+fn bytes_from(start: usize, n: usize) -> usize
+    requires { ⌜ start < 8 ⌝ }
+    ensures { λ r. ⌜ r ≡ bytesFor (start + n) ⌝ }
+{
+    n / 8 + (n % 8 + start + 7) / 8
+}
+
+// Whether a bitmap that is not empty has fewer than n bits.
+pub fn is_short(bitmap: &[u8], start: usize, n: usize) -> bool
+    requires { ⌜ start < 8 ⌝ }
+    ensures { λ r. ⌜ r ≡ shortBits (from start (now (bitmap .entry))) n ⌝ }
+{
+    if bitmap.len() == 0 {
+        return false;
+    }
+    bitmap.len() < bytes_from(start, n)
+}
+
+// Whether bit i of n is set, or the bitmap is empty.
+pub fn is_valid(bitmap: &[u8], start: usize, i: usize, n: usize) -> bool
+    requires { ⌜ Covers (from start (now bitmap)) n ⌝ }
+    requires { ⌜ i < n ⌝ }
+    ensures { λ r. ⌜ r ≡ validAt (from start (now (bitmap .entry))) i ⌝ }
+{
+    if bitmap.len() == 0 {
+        return true;
+    }
+    bit_from(bitmap, start, i)
+}
+
+// How many of the m lowest bits of a byte are set: the others are masked.
+fn ones_below(byte: u8, m: usize) -> usize
+    requires { ⌜ m < 9 ⌝ }
+    ensures { λ r. ⌜ r ≡ ones (byte % 2 ^ m) ⌝ }
+{
+    if m == 8 {
+        return u8::count_ones(byte) as usize;
+    }
+    let mask = (1u8 << (m as u8)) - 1;
+    u8::count_ones(byte & mask) as usize
+}
+
+// How many of the first n bits are set, byte by byte.
+pub fn count_set(bitmap: &[u8], n: usize) -> usize
+    requires { ⌜ bytesFor n ≤ length (now bitmap) ⌝ }
+    ensures { λ r. ⌜ r ≡ trues (tab (bitAt (now (bitmap .entry))) 0 n) ⌝ }
+{
+    let mut found: usize = 0;
+    let mut k: usize = 0;
+    let mut left = n;
+    while 8 < left {
+        found += ones_below(bitmap[k], 8);
+        k += 1;
+        left -= 8;
+    }
+    if left == 0 {
+        return found;
+    }
+    found + ones_below(bitmap[k], left)
+}

@@ -1,0 +1,6 @@
+pub mod OffsetLaws
+pub mod RowLaws
+pub mod PutLaws
+pub mod WriteLaws
+pub mod WalkLaws
+pub mod AnswerLaws

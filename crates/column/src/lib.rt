@@ -1,0 +1,5 @@
+// Reading, checking and writing list columns, slot by slot. An inner crate: its callers meet what it asks.
+pub mod answers;
+pub mod checks;
+pub mod elements;
+pub mod offsets;

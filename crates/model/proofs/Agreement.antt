@@ -1,0 +1,57 @@
+-- Demand 3, one claim about any call: "Take any two runs of one operation or one recipe .. they share one answer, however the
+-- columns are laid out and whatever all bytes not shown hold .. each is exactly what demand 2's definitions give from those equal
+-- things alone."
+use mathlib.Core.Path.{_≡_, refl}
+use Rattle.model.specs.Basics.{Lent}
+use Rattle.model.specs.Limits.{Limits}
+use Rattle.model.specs.Column.{Column, Arguments, rowsOf, shownBy}
+use Rattle.model.specs.Rows.{ListCall, onLent, onCall}
+use Rattle.model.specs.Outcome.{listOutcome, anyValueOutcome, elementOutcome, repeatOutcome}
+use Rattle.model.specs.Recipe.{recipeShown, recipeOutcome}
+use Rattle.model.specs.Call.{Call, list, anyValue, element, listRepeat, recipe, shown, listsOf, argumentsOf, end, endShown, Formed, SameLent, sameAbsent, sameGiven, SameCall, sameUnary, sameSetOp, sameSlice, sameResize, sameReplace, sameRemove, Alike, alikeList, alikeAnyValue, alikeElement, alikeListRepeat, alikeRecipe}
+use Rattle.model.proofs.ColumnLaws.{same-rows, same-arguments}
+use Rattle.model.proofs.OutcomeLaws.{formed-columns, gate-open}
+
+-- two alike calls show one thing
+same-lent : {s s′ : Lent Arguments} → SameLent s s′ → onLent shownBy s ≡ onLent shownBy s′
+unfolding onLent
+same-lent sameAbsent = refl
+same-lent (sameGiven e) = cc (same-arguments e)
+
+same-call : {q q′ : ListCall Column Arguments} → SameCall q q′ → onCall rowsOf shownBy q ≡ onCall rowsOf shownBy q′
+unfolding onCall
+same-call (sameUnary k e) = cc (same-rows e)
+same-call (sameSetOp k e f) = cc (same-rows e, same-rows f)
+same-call (sameSlice e f g h) = cc (same-rows e, same-arguments f, same-arguments g, same-lent h)
+same-call (sameResize e f h) = cc (same-rows e, same-arguments f, same-lent h)
+same-call (sameReplace e f g h) = cc (same-rows e, same-arguments f, same-arguments g, same-arguments h)
+same-call (sameRemove e f h) = cc (same-rows e, same-arguments f, same-arguments h)
+
+same-shown : {q q′ : Call Column Arguments} → Alike q q′ → shown q ≡ shown q′
+unfolding shown
+same-shown (alikeList l s) = cc (same-call s)
+same-shown (alikeAnyValue l e) = cc (same-rows e)
+same-shown (alikeElement l e f) = cc (same-rows e, same-arguments f)
+same-shown (alikeListRepeat l e f) = cc (same-rows e, same-arguments f)
+same-shown (alikeRecipe p a b o t e f g) = cc (same-rows e, same-rows f, same-arguments g)
+
+-- a call on well-formed columns ends in what they show
+from-shown : (L : Limits) (q : Call Column Arguments) → Formed q → end L q ≡ endShown L (shown q)
+unfolding end endShown shown listsOf argumentsOf listOutcome anyValueOutcome elementOutcome repeatOutcome recipeOutcome recipeShown
+from-shown L (list q l) f = rw (gate-open _ _ (formed-columns (f .lists) (f .arguments)))
+from-shown L (anyValue c l) f = rw (gate-open _ _ (formed-columns (f .lists) (f .arguments)))
+from-shown L (element c a l) f = rw (gate-open _ _ (formed-columns (f .lists) (f .arguments)))
+from-shown L (listRepeat c a l) f = rw (gate-open _ _ (formed-columns (f .lists) (f .arguments)))
+from-shown L (recipe p c d e a b o t) f = rw (gate-open _ _ (formed-columns (f .lists) (f .arguments)))
+
+-- what demand 3 says of two runs
+pub record Agree (L : Limits) (q q′ : Call Column Arguments) : Type 0 where
+  -- "The refusal number or all counts are the same, the written results are equal, and so is the tally after"
+  pub shares : end L q ≡ end L q′
+  -- "each is exactly what demand 2's definitions give from those equal things alone"
+  pub exact : end L q ≡ endShown L (shown q)
+  -- and those things, what is shown of the two calls, are equal
+  pub shows : shown q ≡ shown q′
+
+pub agreement : (L : Limits) (q q′ : Call Column Arguments) → Formed q → Formed q′ → Alike q q′ → Agree L q q′
+agreement L q q′ f f′ a = record { shares = cc (from-shown L q f, from-shown L q′ f′, same-shown a); exact = from-shown L q f; shows = same-shown a }

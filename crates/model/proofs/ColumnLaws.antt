@@ -1,0 +1,34 @@
+-- "Two columns show equal rows when they have equally many rows, the same rows are null, and every other row has one length in
+-- both and at each place a null in both or the same value": then the rows that they show are one list. So for equal arguments.
+use Prim.Native.Nat.{ℕ, _<_}
+use mathlib.Core.Path.{_≡_, refl, ap}
+use mathlib.Core.Bool.{Bool, true, false}
+use native.Mathlib.Nat.{zero-add}
+use lib.ListN.{length}
+use Rattle.model.specs.Basics.{pick}
+use Rattle.model.specs.Bitmap.{validAt}
+use Rattle.model.specs.Column.{nul, val, nullRow, listRow, Column, Arguments, rowCount, lengthAt, elemAt, rowAt, rowsOf, shownBy, EqualRows, EqualArguments}
+use Rattle.model.proofs.TabLaws.{tab-ext}
+
+-- two choices are equal where the tests are, and what they choose where those hold
+pub pick-same : {A : Type 0} (p q : Bool) (x y z : A) → p ≡ q → (p ≡ true → x ≡ y) → pick p x z ≡ pick q y z
+pick-same true q x y z e h = rw (← e) (h refl)
+pick-same false q x y z e h = rw (← e)
+
+module _ {c d : Column} (e : EqualRows c d) where
+  pub same-row : (r : ℕ) → r < rowCount (c .offsets) → rowAt c r ≡ rowAt d r
+  unfolding rowAt
+  same-row r l =
+      pick-same (validAt (c .rows) r) (validAt (d .rows) r) _ _ nullRow (e .nulls r l)
+      (λ v. rw (← (e .lengths r l v)) (ap listRow (tab-ext _ _ _ _ (lengthAt c r) (λ i h. e .places r i l v h))))
+
+  pub same-rows : rowsOf c ≡ rowsOf d
+  unfolding rowsOf
+  same-rows = rw (← (e .many)) (tab-ext (rowAt c) (rowAt d) 0 0 _ (λ r l. simp zero-add (same-row r l)))
+
+pub same-arguments : {a b : Arguments} → EqualArguments a b → shownBy a ≡ shownBy b
+unfolding shownBy elemAt
+same-arguments {a} {b} e =
+    rw (← (e .many))
+    (tab-ext (elemAt (a .values) (a .bits)) (elemAt (b .values) (b .bits)) 0 0 (length (a .values))
+    (λ i l. simp zero-add (pick-same (validAt (a .bits) i) (validAt (b .bits) i) _ _ nul (e .nulls i l) (λ v. ap val (e .values i l v)))))

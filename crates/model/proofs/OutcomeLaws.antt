@@ -1,0 +1,25 @@
+-- "A list or argument column is well-formed when neither 1 nor 2 below applies to it": a call on such columns passes those two
+-- refusals.
+use Prim.Native.Nat.{ℕ}
+use mathlib.Core.Path.{_≡_, refl}
+use mathlib.Core.Bool.{Bool, true, false}
+use mathlib.Core.List.{List}
+use lib.Dec.{eqb}
+use Rattle.model.specs.Basics.{pick, any, All, none, more}
+use Rattle.model.specs.Column.{Column, Arguments, refusal1, refusal2, refusal2ᵃ, WellFormed, WellFormedᵃ}
+use Rattle.model.specs.Outcome.{Outcome, refused, gate, columnsRefusal}
+
+-- a test that fails at each element holds of none
+any-none : {A : Type 0} {P : A → Type 0} {xs : List A} (p : A → Bool) → ((x : A) → P x → p x ≡ false) → All P xs → any p xs ≡ false
+unfolding any
+any-none p h none = refl
+any-none p h (more {x} f fs) = rw (h x f) (any-none p h fs)
+
+pub formed-columns : {cs : List Column} {es : List Arguments} → All WellFormed cs → All WellFormedᵃ es → columnsRefusal cs es ≡ 0
+unfolding columnsRefusal
+formed-columns f g = rw (any-none refusal1 (λ c w. w .not1) f, any-none refusal2 (λ c w. w .not2) f, any-none refusal2ᵃ (λ a w. w .not2) g)
+
+-- no number, no refusal
+pub gate-open : {A : Type 0} (k : ℕ) (o : Outcome A) → k ≡ 0 → gate k o ≡ o
+unfolding gate
+gate-open k o h = rw h

@@ -1,0 +1,161 @@
+-- Any call, what it ends in, and when two calls are alike. Document 01, "Agreement", and demand 3.
+use Prim.Native.Nat.{ℕ}
+use mathlib.Core.List.{List, [], _∷_, map}
+use lib.ListN.{length, replicate}
+use lib.IntN.{ℤ, pos}
+use Rattle.model.specs.Basics.{Lent, absent, given, All}
+use Rattle.model.specs.Limits.{Limits}
+use Rattle.model.specs.Column.{Elem, Row, Column, Arguments, rowsOf, shownBy, WellFormed, WellFormedᵃ, EqualRows, EqualArguments}
+use Rattle.model.specs.Form.{Room, ValueRoom, RepeatRoom, Outer, isOuter, outerLength, inner, flat, offsetsFrom, formOffsets, formRows, formValues, formElements, nullRows, nullElems}
+use Rattle.model.specs.Bitmap.{pack, nulls}
+use Rattle.model.specs.Rows.{ListCall, unary, setOp, slice, resize, replace, remove, onCall, listsIn, argumentsIn}
+use Rattle.model.specs.Outcome.{Outcome, refused, made, listOutcome, listShown, anyValueOutcome, anyValueShown, elementOutcome, elementShown, repeatOutcome, repeatShown}
+use Rattle.model.specs.Recipe.{Recipe, Tally, recipeOutcome, recipeShown, tallied}
+use Rattle.model.specs.declared.Unary.{Unary}
+use Rattle.model.specs.declared.SetOp.{SetOp}
+
+-- a call: its operation with the lists and argument columns it takes, the lengths lent for results and trays, and a recipe's tally
+pub data Call (C A : Type 0) : Type 0 where
+  list : ListCall C A → Room → Call C A
+  anyValue : C → ValueRoom → Call C A
+  element : C → A → ValueRoom → Call C A
+  listRepeat : C → A → RepeatRoom → Call C A
+  -- recipe, first list, second list, argument columns, tray one, tray two, output
+  recipe : Recipe → C → C → A → Room → Room → Room → Tally → Call C A
+
+-- what is shown of a call
+unfoldable pub shown : Call Column Arguments → Call (List Row) (List Elem)
+shown (list q l) = list (onCall rowsOf shownBy q) l
+shown (anyValue c l) = anyValue (rowsOf c) l
+shown (element c a l) = element (rowsOf c) (shownBy a) l
+shown (listRepeat c a l) = listRepeat (rowsOf c) (shownBy a) l
+shown (recipe p c d e a b o t) = recipe p (rowsOf c) (rowsOf d) (shownBy e) a b o t
+
+unfoldable pub listsOf : {C A : Type 0} → Call C A → List C
+listsOf (list q l) = listsIn q
+listsOf (anyValue c l) = c ∷ []
+listsOf (element c a l) = c ∷ []
+listsOf (listRepeat c a l) = c ∷ []
+listsOf (recipe p c d e a b o t) = c ∷ d ∷ []
+
+unfoldable pub argumentsOf : {C A : Type 0} → Call C A → List A
+argumentsOf (list q l) = argumentsIn q
+argumentsOf (anyValue c l) = []
+argumentsOf (element c a l) = a ∷ []
+argumentsOf (listRepeat c a l) = a ∷ []
+argumentsOf (recipe p c d e a b o t) = e ∷ []
+
+-- an answer: the number of a refusal, or all counts
+pub data Answer : Type 0 where
+  refusal : ℕ → Answer
+  counts : List ℕ → Answer
+
+-- "An accepted list answer holds the row and element counts and the number of null rows and of null elements"
+abbrev pub listCounts : List Row → List ℕ
+listCounts ws = length ws ∷ length (flat ws) ∷ nullRows ws ∷ nullElems (flat ws) ∷ []
+
+-- "a value answer, the first and third"
+abbrev pub valueCounts : List Elem → List ℕ
+valueCounts es = length es ∷ nullElems es ∷ []
+
+-- "List-repeat's adds the inner row count and the number of null inner rows."
+abbrev pub repeatCounts : List Outer → List ℕ
+repeatCounts os =
+    length os ∷ length (flat (inner os)) ∷ nulls (map isOuter os) ∷ nullElems (flat (inner os)) ∷ length (inner os) ∷ nullRows (inner os) ∷ []
+
+-- the answer of an outcome
+unfoldable pub answerOf : {A : Type 0} → (A → List ℕ) → Outcome A → Answer
+answerOf f (refused k) = refusal k
+answerOf f (made a) = counts (f a)
+
+-- "The written results are the slots of each output slice before those; a refused call has none."
+unfoldable pub written : {A B : Type 0} → (A → List B) → Outcome A → List B
+written f (refused k) = []
+written f (made a) = f a
+
+-- what a call ends in: the answer; the written results, in slices of numbers and bitmaps; a recipe's trays, all their slots; and
+-- its tally
+pub record End : Type 0 where
+  pub answer : Answer
+  pub numbers : List (List ℤ)
+  pub bitmaps : List (List ℕ)
+  pub tray-numbers : List (List ℤ)
+  pub tray-bitmaps : List (List ℕ)
+  pub tally : Lent Tally
+
+-- an operation's end: no trays, no tally
+abbrev pub operationEnd : Answer → List (List ℤ) → List (List ℕ) → End
+operationEnd a ns bs = record { answer = a; numbers = ns; bitmaps = bs; tray-numbers = []; tray-bitmaps = []; tally = absent }
+
+unfoldable pub listNumbers : Outcome (List Row) → List (List ℤ)
+listNumbers x = written formOffsets x ∷ written (λ ws. formValues (flat ws)) x ∷ []
+
+unfoldable pub listBitmaps : Outcome (List Row) → List (List ℕ)
+listBitmaps x = written formRows x ∷ written (λ ws. formElements (flat ws)) x ∷ []
+
+unfoldable pub listEnd : Outcome (List Row) → End
+listEnd x = operationEnd (answerOf listCounts x) (listNumbers x) (listBitmaps x)
+
+unfoldable pub valueEnd : Outcome (List Elem) → End
+valueEnd x = operationEnd (answerOf valueCounts x) (written formValues x ∷ []) (written formElements x ∷ [])
+
+unfoldable pub repeatEnd : Outcome (List Outer) → End
+repeatEnd x =
+    operationEnd (answerOf repeatCounts x)
+    (written (λ os. offsetsFrom 0 (map outerLength os)) x ∷ written (λ os. formOffsets (inner os)) x ∷ written (λ os. formValues (flat (inner os))) x ∷ [])
+    (written (λ os. pack (map isOuter os)) x ∷ written (λ os. formRows (inner os)) x ∷ written (λ os. formElements (flat (inner os))) x ∷ [])
+
+-- "Trays are all zero after any call."
+unfoldable pub recipeEnd : Outcome (List Row) → Room → Room → Tally → End
+recipeEnd x a b t =
+    record
+    { answer = answerOf listCounts x;
+      numbers = listNumbers x;
+      bitmaps = listBitmaps x;
+      tray-numbers = replicate (a .offsets) (pos 0) ∷ replicate (a .values) (pos 0) ∷ replicate (b .offsets) (pos 0) ∷ replicate (b .values) (pos 0) ∷ [];
+      tray-bitmaps = replicate (a .rows) 0 ∷ replicate (a .elements) 0 ∷ replicate (b .rows) 0 ∷ replicate (b .elements) 0 ∷ [];
+      tally = given (tallied x t) }
+
+-- what a call ends in, from the columns lent: contracts name the same outcomes
+unfoldable pub end : Limits → Call Column Arguments → End
+end L (list q l) = listEnd (listOutcome L q l)
+end L (anyValue c l) = valueEnd (anyValueOutcome c l)
+end L (element c a l) = valueEnd (elementOutcome L c a l)
+end L (listRepeat c a l) = repeatEnd (repeatOutcome L c a l)
+end L (recipe p c d e a b o t) = recipeEnd (recipeOutcome L p c d e a b o) a b t
+
+-- what demand 2's definitions give from what is shown alone
+unfoldable pub endShown : Limits → Call (List Row) (List Elem) → End
+endShown L (list q l) = listEnd (listShown L q l)
+endShown L (anyValue ws l) = valueEnd (anyValueShown ws l)
+endShown L (element ws is l) = valueEnd (elementShown L ws is l)
+endShown L (listRepeat ws ns l) = repeatEnd (repeatShown L ws ns l)
+endShown L (recipe p ws rs es a b o t) = recipeEnd (recipeShown L p ws rs es a b o) a b t
+
+-- "If they start from well-formed columns"
+pub record Formed (q : Call Column Arguments) : Type 0 where
+  pub lists : All WellFormed (listsOf q)
+  pub arguments : All WellFormedᵃ (argumentsOf q)
+
+-- equally many argument columns, and equal ones
+pub data SameLent : Lent Arguments → Lent Arguments → Type 0 where
+  sameAbsent : SameLent absent absent
+  sameGiven : {a b : Arguments} → EqualArguments a b → SameLent (given a) (given b)
+
+-- one operation, on lists that show equal rows and equal arguments
+pub data SameCall : ListCall Column Arguments → ListCall Column Arguments → Type 0 where
+  sameUnary : {c d : Column} (k : Unary) → EqualRows c d → SameCall (unary k c) (unary k d)
+  sameSetOp : {c d c′ d′ : Column} (k : SetOp) → EqualRows c c′ → EqualRows d d′ → SameCall (setOp k c d) (setOp k c′ d′)
+  sameSlice : {c d : Column} {a a′ b b′ : Arguments} {s s′ : Lent Arguments} → EqualRows c d → EqualArguments a a′ → EqualArguments b b′ → SameLent s s′ → SameCall (slice c a b s) (slice d a′ b′ s′)
+  sameResize : {c d : Column} {a a′ : Arguments} {s s′ : Lent Arguments} → EqualRows c d → EqualArguments a a′ → SameLent s s′ → SameCall (resize c a s) (resize d a′ s′)
+  sameReplace : {c d : Column} {a a′ b b′ n n′ : Arguments} → EqualRows c d → EqualArguments a a′ → EqualArguments b b′ → EqualArguments n n′ → SameCall (replace c a b n) (replace d a′ b′ n′)
+  sameRemove : {c d : Column} {a a′ n n′ : Arguments} → EqualRows c d → EqualArguments a a′ → EqualArguments n n′ → SameCall (remove c a n) (remove d a′ n′)
+
+-- two runs of one operation or one recipe on columns "that show equal rows, with equal arguments, equal slice lengths lent for
+-- results and trays and an equal tally"
+pub data Alike : Call Column Arguments → Call Column Arguments → Type 0 where
+  alikeList : {q q′ : ListCall Column Arguments} (l : Room) → SameCall q q′ → Alike (list q l) (list q′ l)
+  alikeAnyValue : {c d : Column} (l : ValueRoom) → EqualRows c d → Alike (anyValue c l) (anyValue d l)
+  alikeElement : {c d : Column} {a b : Arguments} (l : ValueRoom) → EqualRows c d → EqualArguments a b → Alike (element c a l) (element d b l)
+  alikeListRepeat : {c d : Column} {a b : Arguments} (l : RepeatRoom) → EqualRows c d → EqualArguments a b → Alike (listRepeat c a l) (listRepeat d b l)
+  alikeRecipe : {c c′ d d′ : Column} {e e′ : Arguments} (p : Recipe) (a b o : Room) (t : Tally) → EqualRows c c′ → EqualRows d d′ → EqualArguments e e′ → Alike (recipe p c d e a b o t) (recipe p c′ d′ e′ a b o t)

@@ -1,0 +1,71 @@
+-- How a contract names a call: the column that slices hold as the call begins, and the outputs at entry and at exit.
+use Prim.Native.Nat.{ℕ}
+use mathlib.Core.Path.{_≡_}
+use mathlib.Core.List.{List, [], _∷_}
+use lib.ListN.{length}
+use lib.IntN.{ℤ}
+use denote.Ref.{RefT, now}
+use denote.Triple.Both.{Both}
+use Rattle.model.specs.Bitmap.{from}
+use Rattle.model.specs.Column.{Elem, Row, Column, column, Arguments, arguments}
+use Rattle.model.specs.Form.{Room, ValueRoom, flat, over, formOffsets, formRows, formValues, formElements}
+use Rattle.model.specs.Outcome.{Outcome, refused, made}
+use Rattle.model.specs.Call.{Answer, refusal, counts, answerOf, written, listCounts, valueCounts}
+use Rattle.model.specs.declared.ListAnswer.{ListAnswer}
+use Rattle.model.specs.declared.ListAnswer.the-variants as L
+use Rattle.model.specs.declared.ValueAnswer.{ValueAnswer}
+use Rattle.model.specs.declared.ValueAnswer.the-variants as V′
+
+-- a slice, at entry and at exit
+abbrev pub Slot : Type 0 → Type 0
+Slot A = Both (RefT (List A)) (RefT (List A))
+
+-- document 01's number and values for each case of an answer
+unfoldable pub told : ListAnswer → Answer
+told (L.Counts rows elements nulls null-elements) = counts (rows ∷ elements ∷ nulls ∷ null-elements ∷ [])
+told (L.Refused k) = refusal k
+
+unfoldable pub toldValue : ValueAnswer → Answer
+toldValue (V′.Counts rows nulls) = counts (rows ∷ nulls ∷ [])
+toldValue (V′.Refused k) = refusal k
+
+-- an output slice after the call: "Slots past the result keep their content.", and a refused call writes none
+abbrev pub after : {A B : Type 0} → (A → List B) → Outcome A → List B → List B
+after f x d = over (written f x) d
+
+-- the column that four slices hold as the call begins
+abbrev pub lent : Slot ℤ → Slot ℕ → Slot ℤ → Slot ℕ → Column
+lent o r v e = column (now (o .entry)) (from 0 (now (r .entry))) (now (v .entry)) (from 0 (now (e .entry)))
+
+abbrev pub lentArguments : Slot ℤ → Slot ℕ → Arguments
+lentArguments v b = arguments (now (v .entry)) (from 0 (now (b .entry)))
+
+abbrev pub room : ℕ → ℕ → ℕ → ℕ → Room
+room o r v e = record { offsets = o; rows = r; values = v; elements = e }
+
+abbrev pub valueRoom : ℕ → ℕ → ValueRoom
+valueRoom v r = record { values = v; rows = r }
+
+-- the answer and the four outputs, at entry and at exit, are those of the outcome
+pub record ListMeets (x : Outcome (List Row)) (a : ListAnswer) (o o′ : List ℤ) (r r′ : List ℕ) (v v′ : List ℤ) (e e′ : List ℕ) : Type 0 where
+  pub answer : told a ≡ answerOf listCounts x
+  pub offsets : o′ ≡ after formOffsets x o
+  pub rows : r′ ≡ after formRows x r
+  pub values : v′ ≡ after (λ ws. formValues (flat ws)) x v
+  pub elements : e′ ≡ after (λ ws. formElements (flat ws)) x e
+
+pub record ValueMeets (x : Outcome (List Elem)) (a : ValueAnswer) (v v′ : List ℤ) (r r′ : List ℕ) : Type 0 where
+  pub answer : toldValue a ≡ answerOf valueCounts x
+  pub values : v′ ≡ after formValues x v
+  pub rows : r′ ≡ after formElements x r
+
+-- the contract of a list operation: the answer and the outputs are what f gives for the lengths lent
+abbrev pub ListAnswers : (Room → Outcome (List Row)) → ListAnswer → Slot ℤ → Slot ℕ → Slot ℤ → Slot ℕ → Type 0
+ListAnswers f a o r v e =
+    ListMeets (f (room (length (now (o .entry))) (length (now (r .entry))) (length (now (v .entry))) (length (now (e .entry))))) a
+    (now (o .entry)) (now (o .exit)) (now (r .entry)) (now (r .exit)) (now (v .entry)) (now (v .exit)) (now (e .entry)) (now (e .exit))
+
+-- the contract of an operation that gives one value a row
+abbrev pub ValueAnswers : (ValueRoom → Outcome (List Elem)) → ValueAnswer → Slot ℤ → Slot ℕ → Type 0
+ValueAnswers f a v r =
+    ValueMeets (f (valueRoom (length (now (v .entry))) (length (now (r .entry))))) a (now (v .entry)) (now (v .exit)) (now (r .entry)) (now (r .exit))

@@ -1,0 +1,13 @@
+pub mod Basics
+pub mod Limits
+pub mod Bitmap
+pub mod Column
+pub mod Form
+pub mod Elements
+pub mod Slice
+pub mod Rows
+pub mod Refusals
+pub mod Outcome
+pub mod Recipe
+pub mod Call
+pub mod Contract

@@ -1,0 +1,32 @@
+// The answers of the operations and the names of those that a walk goes by. The definitions of document 01 stand in specs/.
+
+// The operations on one list without arguments.
+pub enum Unary {
+    Reverse,
+    Distinct,
+    PopFront,
+    PopBack,
+}
+
+// The operations on two lists.
+pub enum SetOp {
+    Union,
+    Intersect,
+}
+
+// The answer of a list operation: its counts, or the number of a refusal.
+pub enum ListAnswer {
+    Counts {
+        rows: usize,
+        elements: usize,
+        null_rows: usize,
+        null_elements: usize,
+    },
+    Refused(u8),
+}
+
+// The answer of an operation that gives one value a row: its counts, or the number of a refusal.
+pub enum ValueAnswer {
+    Counts { rows: usize, null_rows: usize },
+    Refused(u8),
+}

@@ -53,6 +53,13 @@ has-value-room n lv lr h =
     let a = and-true (leb n lv) (leb (bytesFor n) lr) h in
     (leb-true _ _ (a .0), leb-true _ _ (a .1))
 
+-- counts that are equal fit alike
+pub same-fit : (l : Room) {n n′ m m′ : ℕ} → n ≡ n′ → m ≡ m′ → fitsIn n m l ≡ fitsIn n′ m′ l
+same-fit l e d = rw (e, d)
+
+pub same-value-fit : (l : ValueRoom) {n n′ : ℕ} → n ≡ n′ → fitsValues n l ≡ fitsValues n′ l
+same-value-fit l e = rw e
+
 pub fitted-made : (ws : List Row) (l : Room) → fitsIn (length ws) (length (flat ws)) l ≡ true → fitted ws l ≡ made ws
 unfolding fitted
 fitted-made ws l h = rw h

@@ -1,0 +1,34 @@
+-- Where an index points in a row. Document 01, "Element:" under what each row becomes.
+use Prim.Native.Nat.{ℕ, zero, suc, _+_, _-_}
+use mathlib.Core.List.{List}
+use lib.Dec.{ltb}
+use lib.IntN.{ℤ, pos, negsuc}
+use lib.ListN.{getD}
+use Rattle.model.specs.Basics.{pick}
+use Rattle.model.specs.Limits.{Limits}
+use Rattle.model.specs.Column.{Elem, nul}
+use Rattle.model.specs.Slice as Slice
+use Rattle.model.specs.Slice.{unfit, outside, place, inRow, fits}
+use Rattle.index.specs.declared.Bound.{Bound}
+use Rattle.index.specs.declared.Bound.the-variants as B
+
+-- in a row of n elements, "1 is first, −1 last; 0 or outside gives null"
+unfoldable pub indexPlace : ℕ → ℤ → Slice.Bound
+indexPlace n (pos zero) = outside
+indexPlace n (pos (suc i)) = inRow n i
+indexPlace n (negsuc i) = pick (ltb i n) (place (n - (i + 1))) outside
+
+unfoldable pub indexBound : Limits → ℕ → ℤ → Slice.Bound
+indexBound L n z = pick (fits L z) (indexPlace n z) unfit
+
+-- the bound as the code answers it
+unfoldable pub bound : Slice.Bound → Bound
+bound unfit = B.Unfit
+bound outside = B.Outside
+bound (place p) = B.At (pos p)
+
+-- the element that a bound takes of a row
+unfoldable pub taken : Slice.Bound → List Elem → Elem
+taken unfit es = nul
+taken outside es = nul
+taken (place p) es = getD es p nul

@@ -1,0 +1,56 @@
+// Where a 64-bit index points in a row, by signed 32-bit arithmetic. An inner crate, for the operations above it; it asks nothing of them.
+ghost use Rattle.index.specs.Place.{bound, indexBound, indexPlace};
+ghost use Rattle.model.specs.Column.{count};
+ghost use Rattle.model.specs.Limits.{narrow};
+ghost use Rattle.model.specs.Slice.{fits};
+ghost use mathlib.Core.Path.{_≡_};
+
+// An index that does not fit 32 signed bits, one outside the row, or the place counted from 0.
+pub enum Bound {
+    Unfit,
+    Outside,
+    At(i32),
+}
+
+pub fn fits_i32(x: i64) -> bool
+    ensures { λ r. ⌜ r ≡ fits narrow x ⌝ }
+{
+    if x < -2147483648 {
+        return false;
+    }
+    x <= 2147483647
+}
+
+// The place of an index that fits.
+fn index_place(index: i32, len: i32) -> Bound
+    ensures { λ r. ⌜ r ≡ bound (indexPlace (count len) index) ⌝ }
+{
+    if len < 1 {
+        return Bound::Outside;
+    }
+    if index < 0 {
+        let at = index + len;
+        if at < 0 {
+            return Bound::Outside;
+        }
+        return Bound::At(at);
+    }
+    if index < 1 {
+        return Bound::Outside;
+    }
+    let at = index - 1;
+    if at < len {
+        return Bound::At(at);
+    }
+    Bound::Outside
+}
+
+// 1 is the first place and -1 the last; a negative length counts as 0.
+pub fn adjusted_array_index(index: i64, len: i32) -> Bound
+    ensures { λ r. ⌜ r ≡ bound (indexBound narrow (count len) index) ⌝ }
+{
+    if !fits_i32(index) {
+        return Bound::Unfit;
+    }
+    index_place(index as i32, len)
+}

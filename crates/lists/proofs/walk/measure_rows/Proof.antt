@@ -1,0 +1,111 @@
+use borrow.Author.Needs.{needs}
+use Rattle.lists.proofs.UnaryLaws.{made-le}
+use Rattle.model.specs.Rows.{onRow}
+use Rattle.model.specs.Form.{elemsOf}
+use Rattle.model.specs.Elements.{unaryElems}
+use Rattle.column.proofs.WalkLaws.{Summing, between, row-from, sum-begun, sum-more, sum-done}
+use Rattle.lists.specs.Made.{unaryAt, unaryRows}
+use Rattle.model.specs.Column.{Row, Column, column, elemAt, offsetAt}
+use Rattle.model.specs.Limits.{narrow}
+use Rattle.model.specs.Bitmap.{from}
+use Rattle.model.specs.Basics.{tab}
+use lib.ListN.{length}
+use native.Mathlib.Omega.{arith}
+use Prim.Native.Nat.{ℕ, _+_, _-_, _<_, _≤_}
+use mathlib.Core.Path.{_≡_, refl, sym, ap, _∙_}
+use Rattle.lists.proofs.walk.measure_rows.Statement.{statement}
+use Rattle.lists.proofs.walk.measure_rows.Tie as tie
+use Rattle.lists.proofs.walk.measure_rows.Reads as reads
+use Rattle.lists.proofs.walk.measure_rows.Lts as lts
+use Rattle.column.proofs.offsets.offset_at.Reads as offset-at-reads
+use Rattle.column.proofs.offsets.row_count.Reads as row-count-reads
+use Rattle.lists.proofs.walk.measure_row.Reads as measure-row-reads
+
+abbrev Inv-loop : tie.InvT-loop
+Inv-loop op offsets rows rstart values elements estart n found₀ r₀ left₀ found r left =
+    Summing (unaryAt op (column offsets (from rstart rows) values (from estart elements))) n (offsetAt offsets r) (narrow .offset) found r left
+
+abbrev μ-loop : tie.MeasureT-loop
+μ-loop op offsets rows rstart values elements estart n found₀ r₀ left₀ found r left = left
+
+
+abbrev C : tie.Start Inv-loop μ-loop → Column
+C s = let a = s .args in column (a .offsets .now) (from (a .rstart) (a .rows .now)) (a .values .now) (from (a .estart) (a .elements .now))
+
+abbrev S : tie.At-loop Inv-loop μ-loop → tie.Start Inv-loop μ-loop
+S l = l .before .before .before .before
+
+row-count-requires : tie.Need-row-count-requires Inv-loop μ-loop
+row-count-requires c κs = search needs
+
+loop-holds : tie.Need-loop-holds Inv-loop μ-loop
+loop-holds c = sum-begun _ _ _ _
+
+offset-at-requires : tie.Need-offset-at-requires Inv-loop μ-loop
+offset-at-requires c κs = omega arith
+
+add-offset-at : tie.Need-add-offset-at Inv-loop μ-loop
+add-offset-at c = omega arith
+
+offset-at-requires-2 : tie.Need-offset-at-requires-2 Inv-loop μ-loop
+offset-at-requires-2 c κs = omega (arith, c .before)
+
+measure-row-requires : tie.Need-measure-row-requires Inv-loop μ-loop
+measure-row-requires c κs =
+    let l = c .before .before .before in
+    between (C (S l)) _ (l .loop .r) _ _ (S l .pre) (l .before .row-count .ensures) (omega (arith, c .before .before)) (c .before .offset-at .ensures .0) (c .offset-at2 .ensures .0)
+
+-- the walk after one more row
+more : (m : tie.After-measure-row Inv-loop μ-loop) → let l = m .before .before .before .before in let o = m .before .offset-at2 .result in
+    Summing (unaryAt (S l .args .op) (C (S l))) (l .before .row-count .result) o (narrow .offset) (l .loop .found + m .measure-row .result) (l .loop .r + 1) (l .loop .left - 1)
+more m =
+    let l = m .before .before .before .before in
+    let i = m .before .before .before in
+    let p = m .before .before .offset-at in
+    let q = m .before .offset-at2 in
+    let w = between (C (S l)) _ (l .loop .r) _ _ (S l .pre) (l .before .row-count .ensures) (omega (arith, i)) (p .ensures .0) (q .ensures .0) in
+    let e = m .measure-row .ensures in
+    sum-more (unaryAt (S l .args .op) (C (S l))) (l .before .row-count .result) (narrow .offset) (m .measure-row .result) (p .result) (q .result) (l .loop .inv) (i .loop-test .taken)
+    (e ∙ ap (λ (x : Row). length (elemsOf (onRow (unaryElems (S l .args .op)) x))) (row-from (C (S l)) (l .loop .r) (p .result) (q .result) (p .ensures .0) (q .ensures .0)))
+    (rw e (made-le (C (S l) .rows) (l .loop .r) (p .result) (q .result) (S l .args .op) (elemAt (C (S l) .values) (C (S l) .elements)) (w .rises)))
+    (w .rises) (sym (p .ensures .0)) (q .ensures .1)
+
+add-found : tie.Need-add-found Inv-loop μ-loop
+add-found c = omega (arith, more c .small)
+
+add-r : tie.Need-add-r Inv-loop μ-loop
+add-r c = omega (arith, c .before .before .before)
+
+sub-left : tie.Need-sub-left Inv-loop μ-loop
+sub-left c = omega (arith, c .before .before .before)
+
+loop-less : tie.Need-loop-less Inv-loop μ-loop
+loop-less c = omega (arith, c .before .before .before)
+
+loop-again : tie.Need-loop-again Inv-loop μ-loop
+loop-again c = rw (← c .before .offset-at2 .ensures .0) (more c)
+
+returns : tie.Need-returns Inv-loop μ-loop
+unfolding unaryRows
+returns c =
+    let l = c .before in
+    (sum-done _ _ _ (l .loop .inv) (c .loop-test .left) ∙ rw (l .before .row-count .ensures), l .loop .inv .small)
+
+pub measure-rows-spec : {M : Type 1} → statement M
+measure-rows-spec =
+    tie.close
+    (tie.spec
+    Inv-loop
+    μ-loop
+    row-count-requires
+    loop-holds
+    offset-at-requires
+    add-offset-at
+    offset-at-requires-2
+    measure-row-requires
+    add-found
+    add-r
+    sub-left
+    loop-less
+    loop-again
+    returns)

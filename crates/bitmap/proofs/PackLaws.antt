@@ -10,9 +10,10 @@ use lib.Pow.{shr-shr}
 use lib.ListN.{length, getD, take, drop, length-drop, length-take, List·getD-append}
 use lib.Seq.{getD-take, getD-drop}
 use Rattle.model.specs.Basics.{tab}
-use Rattle.model.specs.Bitmap.{bit, byteOf, pack, packN, bytesFor, bitAt, from, validAt, nulls}
+use Rattle.model.specs.Bitmap.{bit, byteOf, pack, bytesFor, bitAt, from, validAt, nulls}
 use Rattle.model.specs.Form.{over}
 use Rattle.model.proofs.TabLaws.{tab-getD}
+use Rattle.model.proofs.FormLaws.{length-pack}
 use Rattle.bitmap.specs.Push.{trues}
 use Rattle.bitmap.proofs.BitLaws.{pack-cons}
 
@@ -62,15 +63,6 @@ packs (suc n) fs i h k = bit-long n (packs n) fs i h k (ltb i 8) refl
 -- bit i of what is packed is the i-th of the bits
 pub bit-pack : (fs : List Bool) (i : ℕ) → i < length fs → bitAt (pack fs) i ≡ getD fs i false
 bit-pack fs i h = packs i fs i h (omega arith)
-
-length-packN : (n : ℕ) (fs : List Bool) → length (packN n fs) ≡ n
-unfolding packN
-length-packN zero fs = refl
-length-packN (suc n) fs = ap suc (length-packN n (drop 8 fs))
-
-pub length-pack : (fs : List Bool) → length (pack fs) ≡ bytesFor (length fs)
-unfolding pack
-length-pack fs = length-packN (bytesFor (length fs)) fs
 
 pub valid-pack : (fs : List Bool) (i : ℕ) → i < length fs → validAt (from 0 (pack fs)) i ≡ getD fs i false
 unfolding validAt

@@ -15,6 +15,7 @@ use Rattle.model.specs.Basics.{tab}
 use Rattle.model.specs.Form.{isVal, valueOf, isRow, elemsOf, flat, lengthOf, offsetsFrom, over, formOffsets, formRows, formValues, formElements}
 use Rattle.column.specs.Put.{Outs, outs, putRow, putRows, putValues, putElements, HasRoom}
 use Rattle.model.proofs.TabLaws.{tab-last, tab-none, length-map}
+use Rattle.model.proofs.FormLaws.{length-offsets}
 use Rattle.bitmap.proofs.BitLaws.{push-pack, pushes-pack}
 use Rattle.column.proofs.RowLaws.{flat-append}
 
@@ -65,11 +66,6 @@ offsets-snoc a [] w = let e : a + 0 ≡ a = omega arith in rw e
 offsets-snoc a (p ∷ ps) w =
     let e : a + length (elemsOf p) + length (flat ps) ≡ a + length (elemsOf p ++ flat ps) = omega (arith, length-append (elemsOf p) (flat ps)) in
     rw (offsets-snoc (a + length (elemsOf p)) ps w, e)
-
-pub length-offsets : (a : ℕ) (ns : List ℕ) → length (offsetsFrom a ns) ≡ suc (length ns)
-unfolding offsetsFrom
-length-offsets a [] = refl
-length-offsets a (n ∷ ns) = ap suc (length-offsets (a + n) ns)
 
 pub flat-snoc : (ps : List Row) (w : Row) → flat (ps ++ (w ∷ [])) ≡ flat ps ++ elemsOf w
 unfolding flat

@@ -6,12 +6,13 @@ use native.Mathlib.Omega.{arith}
 use lib.IntN.{ℤ}
 use lib.ListN.{length, set, length-set}
 use Rattle.bitmap.specs.Push.{pushBit, pushBits}
-use Rattle.model.specs.Bitmap.{bytesFor}
+use Rattle.model.specs.Bitmap.{bytesFor, pack, packN}
 use Rattle.model.specs.Column.{Elem}
 use Rattle.model.specs.Form.{isVal, valueOf}
-use Rattle.column.specs.Put.{putValues, putElements, Place, Written}
-use Rattle.bitmap.proofs.BitLaws.{length-pushBit}
-use Rattle.column.proofs.PutLaws.{values-more, elements-more}
+use Rattle.model.proofs.TabLaws.{length-map}
+use Rattle.column.specs.Put.{putValues, putElements, Place, Written, ValuesHold}
+use Rattle.bitmap.proofs.BitLaws.{length-pushBit, pushes-pack}
+use Rattle.column.proofs.PutLaws.{values-more, elements-more, sets-over}
 
 pub record Writing (es : List Elem) (at : ℕ) (vo₀ : List ℤ) (eo₀ : List ℕ) (rest : List Elem) (k : ℕ) (vo : List ℤ) (eo : List ℕ) : Type 0 where
   pub values : putValues vo k rest ≡ putValues vo₀ at es
@@ -45,3 +46,14 @@ module _ {es : List Elem} {at : ℕ} {vo₀ : List ℤ} {eo₀ : List ℕ} where
     pub done : rest ≡ [] → Written es at vo₀ vo eo₀ eo k
     unfolding pushBits
     done n = record { values = rw n at (w .values); elements = rw n at (w .elements); next = omega (arith, w .place, ap length n) }
+
+-- values written from the first place on are in result form
+pub held : {es : List Elem} {vo vo′ : List ℤ} {ro ro′ : List ℕ} {k : ℕ} → Written es 0 vo vo′ ro ro′ k → length es ≤ length vo → bytesFor (length es) ≤ length ro → ValuesHold es vo vo′ ro ro′
+unfolding pack packN
+held {es} {vo} {vo′} {ro} w v r =
+    let n = length-map valueOf es in
+    let m = length-map isVal es in
+    record {
+      values = w .values ∙ sets-over [] (map valueOf es) vo (omega arith);
+      rows = w .elements ∙ pushes-pack [] (map isVal es) ro (omega arith);
+    }

@@ -79,3 +79,8 @@ pub record Written (es : List Elem) (k : ℕ) (vo vo′ : List ℤ) (eo eo′ : 
   pub values : vo′ ≡ putValues vo k es
   pub elements : eo′ ≡ putElements eo k es
   pub next : r ≡ k + length es
+
+-- the outputs of a value answer hold the result form of the values es, over what they held before
+pub record ValuesHold (es : List Elem) (vo vo′ : List ℤ) (ro ro′ : List ℕ) : Type 0 where
+  pub values : vo′ ≡ over (formValues es) vo
+  pub rows : ro′ ≡ over (formElements es) ro

@@ -1,10 +1,295 @@
-// Taking out of rows: all but the first or the last element.
+// Taking out of rows: one element, the first valid one, or all but the first or the last.
 use crate::walk;
-use model::{ListAnswer, Unary};
-ghost use Rattle.model.specs.Contract.{ListAnswers, lent};
+use column::{answers, checks, elements, offsets};
+use index::Bound;
+use model::{ListAnswer, Unary, ValueAnswer};
+ghost use Prim.Native.Nat.{_+_, _/_, _<_, _≤_};
+ghost use Rattle.bitmap.specs.Push.{Covers, pushBit};
+ghost use Rattle.column.specs.Put.{Readable, Source, ValuesHold};
+ghost use Rattle.column.specs.Rows.{Between, rowFrom};
+ghost use Rattle.lists.specs.Made.{FirstAt, anyValues, elementPlace, elementsOf, foundAt, fourAt, unfitAt};
+ghost use Rattle.model.specs.Basics.{pick, tab};
+ghost use Rattle.model.specs.Bitmap.{bytesFor, from};
+ghost use Rattle.model.specs.Column.{arguments, column, elemAt, rowCount};
+ghost use Rattle.model.specs.Contract.{ListAnswers, ValueAnswers, lent, lentArguments};
+ghost use Rattle.model.specs.Form.{isVal, valueOf};
 ghost use Rattle.model.specs.Limits.{narrow};
-ghost use Rattle.model.specs.Outcome.{listOutcome};
-ghost use Rattle.model.specs.Rows.{unary};
+ghost use Rattle.model.specs.Outcome.{anyValueOutcome, elementOutcome, listOutcome};
+ghost use Rattle.model.specs.Refusals.{firstOf};
+ghost use Rattle.model.specs.Rows.{anyValueOf, elementOf, unary};
+ghost use lib.ListN.{length, set};
+ghost use mathlib.Core.Path.{_≡_};
+
+// Writes element i as value k, or a null where i is the end.
+fn write_found(
+    values: &[i64],
+    elements: &[u8],
+    estart: usize,
+    i: usize,
+    end: usize,
+    out_values: &mut [i64],
+    out_rows: &mut [u8],
+    k: usize,
+)
+    requires { ⌜ end ≤ length (now values) ⌝ }
+    requires { ⌜ Covers (from estart (now elements)) (length (now values)) ⌝ }
+    requires { ⌜ k < length (now «out_values») ⌝ }
+    requires { ⌜ k / 8 < length (now «out_rows») ⌝ }
+    ensures { λ _. ⌜ now («out_values» .exit) ≡ set (now («out_values» .entry)) k (valueOf (foundAt (elemAt (now (values .entry)) (from estart (now (elements .entry)))) i end)) ⌝ }
+    ensures { λ _. ⌜ now («out_rows» .exit) ≡ pushBit (now («out_rows» .entry)) k (isVal (foundAt (elemAt (now (values .entry)) (from estart (now (elements .entry)))) i end)) ⌝ }
+{
+    if i < end {
+        elements::write_elem(values, elements, estart, i, out_values, out_rows, k);
+        return;
+    }
+    elements::write_null(out_values, out_rows, k);
+}
+
+// Where the first valid one of the n elements from element a on stands, or the end.
+fn first_valid(values: &[i64], elements: &[u8], estart: usize, a: usize, n: usize) -> usize
+    requires column { ⌜ Source (now values) (from estart (now elements)) a n ⌝ }
+    ensures { λ i. ⌜ FirstAt (elemAt (now (values .entry)) (from estart (now (elements .entry)))) a n i ⌝ }
+{
+    let mut p = a;
+    let mut left = n;
+    while 0 < left {
+        if bitmap::is_valid(elements, estart, p, values.len()) {
+            return p;
+        }
+        p += 1;
+        left -= 1;
+    }
+    p
+}
+
+// Writes what any-value makes of row r.
+fn put_any_value(
+    rows: &[u8],
+    rstart: usize,
+    n: usize,
+    values: &[i64],
+    elements: &[u8],
+    estart: usize,
+    r: usize,
+    a: usize,
+    b: usize,
+    out_values: &mut [i64],
+    out_rows: &mut [u8],
+)
+    requires column { ⌜ Between (from rstart (now rows)) n (now values) (from estart (now elements)) r a b ⌝ }
+    requires { ⌜ r < length (now «out_values») ⌝ }
+    requires { ⌜ r / 8 < length (now «out_rows») ⌝ }
+    ensures { λ _. ⌜ now («out_values» .exit) ≡ set (now («out_values» .entry)) r (valueOf (anyValueOf (rowFrom (from rstart (now (rows .entry))) (elemAt (now (values .entry)) (from estart (now (elements .entry)))) r a b))) ⌝ }
+    ensures { λ _. ⌜ now («out_rows» .exit) ≡ pushBit (now («out_rows» .entry)) r (isVal (anyValueOf (rowFrom (from rstart (now (rows .entry))) (elemAt (now (values .entry)) (from estart (now (elements .entry)))) r a b))) ⌝ }
+{
+    let k = walk::row_len(rows, rstart, n, r, a, b);
+    let i = first_valid(values, elements, estart, a, k);
+    write_found(values, elements, estart, i, a + k, out_values, out_rows, r);
+}
+
+// Writes what any-value makes, in result form.
+fn write_any_values(
+    offsets: &[i32],
+    rows: &[u8],
+    rstart: usize,
+    values: &[i64],
+    elements: &[u8],
+    estart: usize,
+    out_values: &mut [i64],
+    out_rows: &mut [u8],
+)
+    requires column { ⌜ Readable (column (now offsets) (from rstart (now rows)) (now values) (from estart (now elements))) ⌝ }
+    requires { ⌜ rowCount (now offsets) ≤ length (now «out_values») ⌝ }
+    requires { ⌜ bytesFor (rowCount (now offsets)) ≤ length (now «out_rows») ⌝ }
+    ensures { λ _. ⌜ ValuesHold (anyValues (column (now (offsets .entry)) (from rstart (now (rows .entry))) (now (values .entry)) (from estart (now (elements .entry))))) (now («out_values» .entry)) (now («out_values» .exit)) (now («out_rows» .entry)) (now («out_rows» .exit)) ⌝ }
+{
+    let n = offsets::row_count(offsets);
+    let mut r: usize = 0;
+    let mut left = n;
+    while 0 < left {
+        let a = offsets::offset_at(offsets, r);
+        let b = offsets::offset_at(offsets, r + 1);
+        put_any_value(rows, rstart, n, values, elements, estart, r, a, b, out_values, out_rows);
+        r += 1;
+        left -= 1;
+    }
+}
+
+pub fn general_array_any_value(
+    offsets: &[i32],
+    rows: &[u8],
+    values: &[i64],
+    elements: &[u8],
+    out_values: &mut [i64],
+    out_rows: &mut [u8],
+) -> ValueAnswer
+    ensures { λ a. ⌜ ValueAnswers (anyValueOutcome (lent offsets rows values elements)) a «out_values» «out_rows» ⌝ }
+{
+    let k = checks::list_refusal(offsets, rows, 0, values, elements, 0);
+    if k != 0 {
+        return ValueAnswer::Refused(k);
+    }
+    let n = offsets::row_count(offsets);
+    if !checks::has_value_room(n, out_values.len(), out_rows.len()) {
+        return ValueAnswer::Refused(9);
+    }
+    write_any_values(offsets, rows, 0, values, elements, 0, out_values, out_rows);
+    answers::value_answer(out_rows, n)
+}
+
+// Whether list and index of row r are valid and the index does not fit 32 signed bits.
+fn is_unfit(rows: &[u8], rstart: usize, n: usize, indexes: &[i64], index_bits: &[u8], istart: usize, r: usize) -> bool
+    requires { ⌜ Covers (from rstart (now rows)) n ⌝ }
+    requires { ⌜ Covers (from istart (now «index_bits»)) n ⌝ }
+    requires { ⌜ length (now indexes) ≡ n ⌝ }
+    requires { ⌜ r < n ⌝ }
+    ensures { λ u. ⌜ u ≡ unfitAt (from rstart (now (rows .entry))) (now (indexes .entry)) (from istart (now («index_bits» .entry))) r ⌝ }
+{
+    if !bitmap::is_valid(rows, rstart, r, n) {
+        return false;
+    }
+    if !bitmap::is_valid(index_bits, istart, r, n) {
+        return false;
+    }
+    !index::fits_i32(indexes[r])
+}
+
+// Refusal 4, by the first row that gives it; 0 where none does.
+fn index_refusal(rows: &[u8], rstart: usize, n: usize, indexes: &[i64], index_bits: &[u8], istart: usize) -> u8
+    requires { ⌜ Covers (from rstart (now rows)) n ⌝ }
+    requires { ⌜ Covers (from istart (now «index_bits»)) n ⌝ }
+    requires { ⌜ length (now indexes) ≡ n ⌝ }
+    ensures { λ k. ⌜ k ≡ firstOf (tab (fourAt (from rstart (now (rows .entry))) (now (indexes .entry)) (from istart (now («index_bits» .entry)))) 0 n) ⌝ }
+{
+    let mut r: usize = 0;
+    let mut left = n;
+    while 0 < left {
+        if is_unfit(rows, rstart, n, indexes, index_bits, istart, r) {
+            return 4;
+        }
+        r += 1;
+        left -= 1;
+    }
+    0
+}
+
+// Where the index of row r points among the k elements from element a on, or the end.
+fn element_place(n: usize, indexes: &[i64], index_bits: &[u8], istart: usize, r: usize, a: usize, k: usize) -> usize
+    requires { ⌜ Covers (from istart (now «index_bits»)) n ⌝ }
+    requires { ⌜ length (now indexes) ≡ n ⌝ }
+    requires { ⌜ r < n ⌝ }
+    requires { ⌜ a ≤ narrow .offset ⌝ }
+    requires { ⌜ k ≤ narrow .offset ⌝ }
+    ensures { λ i. ⌜ i ≡ elementPlace (elemAt (now (indexes .entry)) (from istart (now («index_bits» .entry))) r) a k ⌝ }
+{
+    if !bitmap::is_valid(index_bits, istart, r, n) {
+        return a + k;
+    }
+    let found = index::adjusted_array_index(indexes[r], k as i32);
+    match found {
+        Bound::Unfit => a + k,
+        Bound::Outside => a + k,
+        Bound::At(p) => a + (p as usize),
+    }
+}
+
+// Writes what element makes of row r.
+fn put_element(
+    rows: &[u8],
+    rstart: usize,
+    n: usize,
+    values: &[i64],
+    elements: &[u8],
+    estart: usize,
+    indexes: &[i64],
+    index_bits: &[u8],
+    istart: usize,
+    r: usize,
+    a: usize,
+    b: usize,
+    out_values: &mut [i64],
+    out_rows: &mut [u8],
+)
+    requires column { ⌜ Between (from rstart (now rows)) n (now values) (from estart (now elements)) r a b ⌝ }
+    requires { ⌜ Covers (from istart (now «index_bits»)) n ⌝ }
+    requires { ⌜ length (now indexes) ≡ n ⌝ }
+    requires { ⌜ b ≤ narrow .offset ⌝ }
+    requires { ⌜ r < length (now «out_values») ⌝ }
+    requires { ⌜ r / 8 < length (now «out_rows») ⌝ }
+    ensures { λ _. ⌜ now («out_values» .exit) ≡ set (now («out_values» .entry)) r (valueOf (elementOf (rowFrom (from rstart (now (rows .entry))) (elemAt (now (values .entry)) (from estart (now (elements .entry)))) r a b) (elemAt (now (indexes .entry)) (from istart (now («index_bits» .entry))) r))) ⌝ }
+    ensures { λ _. ⌜ now («out_rows» .exit) ≡ pushBit (now («out_rows» .entry)) r (isVal (elementOf (rowFrom (from rstart (now (rows .entry))) (elemAt (now (values .entry)) (from estart (now (elements .entry)))) r a b) (elemAt (now (indexes .entry)) (from istart (now («index_bits» .entry))) r))) ⌝ }
+{
+    let k = walk::row_len(rows, rstart, n, r, a, b);
+    let i = element_place(n, indexes, index_bits, istart, r, a, k);
+    write_found(values, elements, estart, i, a + k, out_values, out_rows, r);
+}
+
+// Writes what element makes, in result form.
+fn write_elements(
+    offsets: &[i32],
+    rows: &[u8],
+    rstart: usize,
+    values: &[i64],
+    elements: &[u8],
+    estart: usize,
+    indexes: &[i64],
+    index_bits: &[u8],
+    istart: usize,
+    out_values: &mut [i64],
+    out_rows: &mut [u8],
+)
+    requires column { ⌜ Readable (column (now offsets) (from rstart (now rows)) (now values) (from estart (now elements))) ⌝ }
+    requires { ⌜ Covers (from istart (now «index_bits»)) (length (now indexes)) ⌝ }
+    requires { ⌜ length (now indexes) ≡ rowCount (now offsets) ⌝ }
+    requires { ⌜ rowCount (now offsets) ≤ length (now «out_values») ⌝ }
+    requires { ⌜ bytesFor (rowCount (now offsets)) ≤ length (now «out_rows») ⌝ }
+    ensures { λ _. ⌜ ValuesHold (elementsOf (column (now (offsets .entry)) (from rstart (now (rows .entry))) (now (values .entry)) (from estart (now (elements .entry)))) (arguments (now (indexes .entry)) (from istart (now («index_bits» .entry))))) (now («out_values» .entry)) (now («out_values» .exit)) (now («out_rows» .entry)) (now («out_rows» .exit)) ⌝ }
+{
+    let n = offsets::row_count(offsets);
+    let mut r: usize = 0;
+    let mut left = n;
+    while 0 < left {
+        let a = offsets::offset_at(offsets, r);
+        let b = offsets::offset_at(offsets, r + 1);
+        put_element(rows, rstart, n, values, elements, estart, indexes, index_bits, istart, r, a, b, out_values, out_rows);
+        r += 1;
+        left -= 1;
+    }
+}
+
+pub fn general_array_element(
+    offsets: &[i32],
+    rows: &[u8],
+    values: &[i64],
+    elements: &[u8],
+    indexes: &[i64],
+    index_bits: &[u8],
+    out_values: &mut [i64],
+    out_rows: &mut [u8],
+) -> ValueAnswer
+    ensures { λ a. ⌜ ValueAnswers (elementOutcome narrow (lent offsets rows values elements) (lentArguments indexes «index_bits»)) a «out_values» «out_rows» ⌝ }
+{
+    let k = checks::list_refusal(offsets, rows, 0, values, elements, 0);
+    if k != 0 {
+        return ValueAnswer::Refused(k);
+    }
+    if bitmap::is_short(index_bits, 0, indexes.len()) {
+        return ValueAnswer::Refused(2);
+    }
+    let n = offsets::row_count(offsets);
+    if indexes.len() != n {
+        return ValueAnswer::Refused(3);
+    }
+    let f = index_refusal(rows, 0, n, indexes, index_bits, 0);
+    if f != 0 {
+        return ValueAnswer::Refused(f);
+    }
+    if !checks::has_value_room(n, out_values.len(), out_rows.len()) {
+        return ValueAnswer::Refused(9);
+    }
+    write_elements(offsets, rows, 0, values, elements, 0, indexes, index_bits, 0, out_values, out_rows);
+    answers::value_answer(out_rows, n)
+}
 
 pub fn general_pop_front_list(
     offsets: &[i32],

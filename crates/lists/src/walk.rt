@@ -22,7 +22,7 @@ ghost use lib.ListN.{length};
 ghost use mathlib.Core.Path.{_≡_};
 
 // The number of elements that row r of n shows: none where it is null.
-fn row_len(rows: &[u8], rstart: usize, n: usize, r: usize, a: usize, b: usize) -> usize
+pub(crate) fn row_len(rows: &[u8], rstart: usize, n: usize, r: usize, a: usize, b: usize) -> usize
     requires { ⌜ Covers (from rstart (now rows)) n ⌝ }
     requires { ⌜ r < n ⌝ }
     requires { ⌜ a ≤ b ⌝ }

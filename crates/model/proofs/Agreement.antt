@@ -8,9 +8,11 @@ use Rattle.model.specs.Column.{Column, Arguments, rowsOf, shownBy}
 use Rattle.model.specs.Rows.{ListCall, onLent, onCall}
 use Rattle.model.specs.Outcome.{listOutcome, anyValueOutcome, elementOutcome, repeatOutcome}
 use Rattle.model.specs.Recipe.{recipeShown, recipeOutcome}
-use Rattle.model.specs.Call.{Call, list, anyValue, element, listRepeat, recipe, shown, listsOf, argumentsOf, end, endShown, Formed, SameLent, sameAbsent, sameGiven, SameCall, sameUnary, sameSetOp, sameSlice, sameResize, sameReplace, sameRemove, Alike, alikeList, alikeAnyValue, alikeElement, alikeListRepeat, alikeRecipe}
+use Rattle.model.specs.Call.{Call, list, anyValue, element, listRepeat, recipe, End, shown, listsOf, argumentsOf, end, endShown, Formed, SameLent, sameAbsent, sameGiven, SameCall, sameUnary, sameSetOp, sameSlice, sameResize, sameReplace, sameRemove, Alike, alikeList, alikeAnyValue, alikeElement, alikeListRepeat, alikeRecipe}
+use Rattle.model.specs.Run.{Run}
 use Rattle.model.proofs.ColumnLaws.{same-rows, same-arguments}
 use Rattle.model.proofs.OutcomeLaws.{formed-columns, gate-open}
+use Rattle.model.proofs.RunLaws.{run-ends}
 
 -- two alike calls show one thing
 same-lent : {s s′ : Lent Arguments} → SameLent s s′ → onLent shownBy s ≡ onLent shownBy s′
@@ -44,14 +46,19 @@ from-shown L (element c a l) f = rw (gate-open _ _ (formed-columns (f .lists) (f
 from-shown L (listRepeat c a l) f = rw (gate-open _ _ (formed-columns (f .lists) (f .arguments)))
 from-shown L (recipe p c d e a b o t) f = rw (gate-open _ _ (formed-columns (f .lists) (f .arguments)))
 
--- what demand 3 says of two runs
-pub record Agree (L : Limits) (q q′ : Call Column Arguments) : Type 0 where
+-- what demand 3 says of two calls that are alike, the first of which ends in e and the second in e′
+pub record Agree (L : Limits) (q q′ : Call Column Arguments) (e e′ : End) : Type 0 where
   -- "The refusal number or all counts are the same, the written results are equal, and so is the tally after"
-  pub shares : end L q ≡ end L q′
+  pub shares : e ≡ e′
   -- "each is exactly what demand 2's definitions give from those equal things alone"
-  pub exact : end L q ≡ endShown L (shown q)
+  pub exact : e ≡ endShown L (shown q)
   -- and those things, what is shown of the two calls, are equal
   pub shows : shown q ≡ shown q′
 
-pub agreement : (L : Limits) (q q′ : Call Column Arguments) → Formed q → Formed q′ → Alike q q′ → Agree L q q′
+-- the claim over the definitions, for every call
+pub agreement : (L : Limits) (q q′ : Call Column Arguments) → Formed q → Formed q′ → Alike q q′ → Agree L q q′ (end L q) (end L q′)
 agreement L q q′ f f′ a = record { shares = cc (from-shown L q f, from-shown L q′ f′, same-shown a); exact = from-shown L q f; shows = same-shown a }
+
+-- the claim over runs of the code: a run is what the contract of a public function says of its answer and slices
+pub runs-agree : (L : Limits) {q q′ : Call Column Arguments} {e e′ : End} → Run L q e → Run L q′ e′ → Formed q → Formed q′ → Alike q q′ → Agree L q q′ e e′
+runs-agree L {q} {q′} r r′ f f′ a = rw (run-ends L r, run-ends L r′) (agreement L q q′ f f′ a)

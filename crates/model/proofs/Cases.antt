@@ -74,64 +74,66 @@ refusedList k = operationEnd (refusal k) ([] ∷ [] ∷ []) ([] ∷ [] ∷ [])
 abbrev refusedValue : ℕ → End
 refusedValue k = operationEnd (refusal k) ([] ∷ []) ([] ∷ [])
 
+-- a part of a case, with the code of its letter
 pub record Case : Type 0 where
+  pub letter : ℕ
   pub call : Call Column Arguments
   pub ends : End
 
-abbrev case : Call Column Arguments → End → Case
-case q e = record { call = q; ends = e }
+abbrev case : ℕ → Call Column Arguments → End → Case
+case x q e = record { letter = x; call = q; ends = e }
 
 pub table : List Case
 table =
     -- A: reverse [1,2,-], null, []: [-,2,1], null, []. First offset 1, numbers under the null row and element and behind the last
     -- offset, spare bits set.
-    case (list (unary Reverse (lists (1 ∷ 4 ∷ 6 ∷ 6 ∷ []) (253 ∷ []) (77 ∷ 1 ∷ 2 ∷ 99 ∷ 8 ∷ 8 ∷ 55 ∷ []) (246 ∷ []))) room)
+    case 65 (list (unary Reverse (lists (1 ∷ 4 ∷ 6 ∷ 6 ∷ []) (253 ∷ []) (77 ∷ 1 ∷ 2 ∷ 99 ∷ 8 ∷ 8 ∷ 55 ∷ []) (246 ∷ []))) room)
     (rows (3 ∷ 3 ∷ 1 ∷ 1 ∷ []) (0 ∷ 3 ∷ 3 ∷ 3 ∷ []) (5 ∷ []) (0 ∷ 2 ∷ 1 ∷ []) (6 ∷ []))
     -- B: distinct [3,-,3,-,1]: [3,-,1]. The nulls lie over 1 and 2, and a 9 behind the last offset.
-    ∷ case (list (unary Distinct (row 5 (3 ∷ 1 ∷ 3 ∷ 2 ∷ 1 ∷ 9 ∷ []) (53 ∷ []))) room)
+    ∷ case 66 (list (unary Distinct (row 5 (3 ∷ 1 ∷ 3 ∷ 2 ∷ 1 ∷ 9 ∷ []) (53 ∷ []))) room)
     (rows (1 ∷ 3 ∷ 0 ∷ 1 ∷ []) (0 ∷ 3 ∷ []) (1 ∷ []) (3 ∷ 0 ∷ 1 ∷ []) (5 ∷ []))
     -- C: union [2,1,2], [1,5,-]: [2,1,5,-]. The null lies over 6.
-    ∷ case (list (setOp Union (row 3 (2 ∷ 1 ∷ 2 ∷ []) []) (row 3 (1 ∷ 5 ∷ 6 ∷ []) (3 ∷ []))) room)
+    ∷ case 67 (list (setOp Union (row 3 (2 ∷ 1 ∷ 2 ∷ []) []) (row 3 (1 ∷ 5 ∷ 6 ∷ []) (3 ∷ []))) room)
     (rows (1 ∷ 4 ∷ 0 ∷ 1 ∷ []) (0 ∷ 4 ∷ []) (1 ∷ []) (2 ∷ 1 ∷ 5 ∷ 0 ∷ []) (7 ∷ []))
     -- D: intersect [1,2], [2,1]: [1,2]
-    ∷ case (list (setOp Intersect (row 2 (1 ∷ 2 ∷ []) []) (row 2 (2 ∷ 1 ∷ []) [])) room) (oneRow 2 (1 ∷ 2 ∷ []) (3 ∷ []))
+    ∷ case 68 (list (setOp Intersect (row 2 (1 ∷ 2 ∷ []) []) (row 2 (2 ∷ 1 ∷ []) [])) room) (oneRow 2 (1 ∷ 2 ∷ []) (3 ∷ []))
     -- E: intersect [1,2], [2,9,1]: [2,1]
-    ∷ case (list (setOp Intersect (row 2 (1 ∷ 2 ∷ []) []) (row 3 (2 ∷ 9 ∷ 1 ∷ []) [])) room) (oneRow 2 (2 ∷ 1 ∷ []) (3 ∷ []))
+    ∷ case 69 (list (setOp Intersect (row 2 (1 ∷ 2 ∷ []) []) (row 3 (2 ∷ 9 ∷ 1 ∷ []) [])) room) (oneRow 2 (2 ∷ 1 ∷ []) (3 ∷ []))
     -- F: slice S 0 to 5: S
-    ∷ case (list (slice S (one (pos 0)) (one (pos 5)) absent) room) (oneRow 4 (10 ∷ 20 ∷ 30 ∷ 40 ∷ []) (15 ∷ []))
+    ∷ case 70 (list (slice S (one (pos 0)) (one (pos 5)) absent) room) (oneRow 4 (10 ∷ 20 ∷ 30 ∷ 40 ∷ []) (15 ∷ []))
     -- G: slice S −9 to −1: S
-    ∷ case (list (slice S (one (minus 9)) (one (minus 1)) absent) room) (oneRow 4 (10 ∷ 20 ∷ 30 ∷ 40 ∷ []) (15 ∷ []))
+    ∷ case 71 (list (slice S (one (minus 9)) (one (minus 1)) absent) room) (oneRow 4 (10 ∷ 20 ∷ 30 ∷ 40 ∷ []) (15 ∷ []))
     -- H: slice S 4 to 1 stride −2: [40,20]
-    ∷ case (list (slice S (one (pos 4)) (one (pos 1)) (given (one (minus 2)))) room) (oneRow 2 (40 ∷ 20 ∷ []) (3 ∷ []))
+    ∷ case 72 (list (slice S (one (pos 4)) (one (pos 1)) (given (one (minus 2)))) room) (oneRow 2 (40 ∷ 20 ∷ []) (3 ∷ []))
     -- I: slice S 1 to 0 stride 0: []
-    ∷ case (list (slice S (one (pos 1)) (one (pos 0)) (given (one (pos 0)))) room) (oneRow 0 [] [])
+    ∷ case 73 (list (slice S (one (pos 1)) (one (pos 0)) (given (one (pos 0)))) room) (oneRow 0 [] [])
     -- J: slice S 1 to 2 stride 0: refusal 5
-    ∷ case (list (slice S (one (pos 1)) (one (pos 2)) (given (one (pos 0)))) room) (refusedList 5)
+    ∷ case 74 (list (slice S (one (pos 1)) (one (pos 2)) (given (one (pos 0)))) room) (refusedList 5)
     -- K: element −4 of S: 10
-    ∷ case (element S (one (minus 4)) valueRoom) (values (1 ∷ 0 ∷ []) (10 ∷ []) (1 ∷ []))
+    ∷ case 75 (element S (one (minus 4)) valueRoom) (values (1 ∷ 0 ∷ []) (10 ∷ []) (1 ∷ []))
     -- K: 0: null
-    ∷ case (element S (one (pos 0)) valueRoom) (values (1 ∷ 1 ∷ []) (0 ∷ []) (0 ∷ []))
+    ∷ case 75 (element S (one (pos 0)) valueRoom) (values (1 ∷ 1 ∷ []) (0 ∷ []) (0 ∷ []))
     -- K: 2147483647 of []: null
-    ∷ case (element (row 0 (11 ∷ []) []) (one (pos 2147483647)) valueRoom) (values (1 ∷ 1 ∷ []) (0 ∷ []) (0 ∷ []))
+    ∷ case 75 (element (row 0 (11 ∷ []) []) (one (pos 2147483647)) valueRoom) (values (1 ∷ 1 ∷ []) (0 ∷ []) (0 ∷ []))
     -- K: 2147483648 of []: refusal 4
-    ∷ case (element (row 0 (11 ∷ []) []) (one (pos 2147483648)) valueRoom) (refusedValue 4)
+    ∷ case 75 (element (row 0 (11 ∷ []) []) (one (pos 2147483648)) valueRoom) (refusedValue 4)
     -- L: resize [1,2] to 4, null fill: [1,2,-,-]. The fill lies over 6.
-    ∷ case (list (resize (row 2 (1 ∷ 2 ∷ []) []) (one (pos 4)) (given (nullOver (pos 6)))) room)
+    ∷ case 76 (list (resize (row 2 (1 ∷ 2 ∷ []) []) (one (pos 4)) (given (nullOver (pos 6)))) room)
     (rows (1 ∷ 4 ∷ 0 ∷ 2 ∷ []) (0 ∷ 4 ∷ []) (1 ∷ []) (1 ∷ 2 ∷ 0 ∷ 0 ∷ []) (3 ∷ []))
     -- M: replace [-,7,-], null by 5, n 1: [5,7,-]. The nulls of the row lie over 3 and 4, the one to replace over 7.
-    ∷ case (list (replace (row 3 (3 ∷ 7 ∷ 4 ∷ []) (2 ∷ [])) (nullOver (pos 7)) (one (pos 5)) (one (pos 1))) room)
+    ∷ case 77 (list (replace (row 3 (3 ∷ 7 ∷ 4 ∷ []) (2 ∷ [])) (nullOver (pos 7)) (one (pos 5)) (one (pos 1))) room)
     (rows (1 ∷ 3 ∷ 0 ∷ 1 ∷ []) (0 ∷ 3 ∷ []) (1 ∷ []) (5 ∷ 7 ∷ 0 ∷ []) (3 ∷ []))
     -- N: remove 7 from [7,-,7,7], n 2: [-,7]. The null lies over 7.
-    ∷ case (list (remove (row 4 (7 ∷ 7 ∷ 7 ∷ 7 ∷ []) (13 ∷ [])) (one (pos 7)) (one (pos 2))) room)
+    ∷ case 78 (list (remove (row 4 (7 ∷ 7 ∷ 7 ∷ 7 ∷ []) (13 ∷ [])) (one (pos 7)) (one (pos 2))) room)
     (rows (1 ∷ 2 ∷ 0 ∷ 1 ∷ []) (0 ∷ 2 ∷ []) (1 ∷ []) (0 ∷ 7 ∷ []) (2 ∷ []))
     -- N: n −1: unchanged
-    ∷ case (list (remove (row 4 (7 ∷ 7 ∷ 7 ∷ 7 ∷ []) (13 ∷ [])) (one (pos 7)) (one (minus 1))) room)
+    ∷ case 78 (list (remove (row 4 (7 ∷ 7 ∷ 7 ∷ 7 ∷ []) (13 ∷ [])) (one (pos 7)) (one (minus 1))) room)
     (rows (1 ∷ 4 ∷ 0 ∷ 1 ∷ []) (0 ∷ 4 ∷ []) (1 ∷ []) (7 ∷ 0 ∷ 7 ∷ 7 ∷ []) (13 ∷ []))
     -- O: list-repeat of null over 8,8 and [4], counts 1, 2: [null], [[4],[4]]; outer offsets 0,1,3, inner 0,0,1,2
-    ∷ case (listRepeat (lists (0 ∷ 2 ∷ 3 ∷ []) (2 ∷ []) (8 ∷ 8 ∷ 4 ∷ []) []) (arguments (pos 1 ∷ pos 2 ∷ []) (from 0 [])) repeatRoom)
+    ∷ case 79 (listRepeat (lists (0 ∷ 2 ∷ 3 ∷ []) (2 ∷ []) (8 ∷ 8 ∷ 4 ∷ []) []) (arguments (pos 1 ∷ pos 2 ∷ []) (from 0 [])) repeatRoom)
     (repeats (2 ∷ 2 ∷ 0 ∷ 0 ∷ 3 ∷ 1 ∷ []) (0 ∷ 1 ∷ 3 ∷ []) (0 ∷ 0 ∷ 1 ∷ 2 ∷ []) (4 ∷ 4 ∷ []) (3 ∷ []) (6 ∷ []) (3 ∷ []))
     -- P: slice [10,20,30] 2 to 3 stride 2147483647: [20]
-    ∷ case (list (slice (row 3 (10 ∷ 20 ∷ 30 ∷ []) []) (one (pos 2)) (one (pos 3)) (given (one (pos 2147483647)))) room) (oneRow 1 (20 ∷ []) (1 ∷ []))
+    ∷ case 80 (list (slice (row 3 (10 ∷ 20 ∷ 30 ∷ []) []) (one (pos 2)) (one (pos 3)) (given (one (pos 2147483647)))) room) (oneRow 1 (20 ∷ []) (1 ∷ []))
     ∷ []
 
 pub cases : map (λ (c : Case). end narrow (c .call)) table ≡ map (λ (c : Case). c .ends) table

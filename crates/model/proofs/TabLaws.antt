@@ -1,5 +1,5 @@
 -- Laws of lists given by a function of the index.
-use mathlib.Core.Path.{_≡_, refl, ap}
+use mathlib.Core.Path.{_≡_, refl, ap, _∙_}
 use mathlib.Core.List.{List, [], _∷_, _++_, map}
 use Prim.Native.Nat.{ℕ, zero, suc, _+_, _-_, _≤_, _<_}
 use native.Mathlib.Omega.{arith}
@@ -45,6 +45,12 @@ module _ {A : Type 0} (f : ℕ → A) where
       let e : suc m + n ≡ suc (m + n) = omega arith in
       let s : suc a + m ≡ a + suc m = omega arith in
       rw (e, tab-split (suc a) m n, s)
+
+pub getD-tab : {A : Type 0} (f : ℕ → A) (a n i : ℕ) (d : A) → i < n → getD (tab f a n) i d ≡ f (a + i)
+unfolding tab
+getD-tab f a zero i d h = let z : ⊥ = omega arith in absurd z
+getD-tab f a (suc n) zero d h = let e : a + 0 ≡ a = omega arith in rw e
+getD-tab f a (suc n) (suc i) d h = let e : suc a + i ≡ a + suc i = omega arith in getD-tab f (suc a) n i d (omega arith) ∙ rw e
 
 pub map-tab : {A B : Type 0} (f : A → B) (g : ℕ → A) (a n : ℕ) → map f (tab g a n) ≡ tab (λ i. f (g i)) a n
 unfolding tab

@@ -20,6 +20,7 @@ pub data Row : Type 0 where
   listRow : List Elem → Row
 
 -- "A list column is four slices: signed 32-bit offsets, one more than its rows; a row bitmap; 64-bit signed values; an element bitmap."
+-- `rows` is the row bitmap, `elements` the element bitmap.
 pub record Column : Type 0 where
   pub offsets : List ℤ
   pub rows : Bits
@@ -72,7 +73,8 @@ rowsOf c = tab (rowAt c) 0 (rowCount (c .offsets))
 unfoldable pub shownBy : Arguments → List Elem
 shownBy a = tab (elemAt (a .values) (a .bits)) 0 (length (a .values))
 
--- "1 (offsets empty, first negative, any falling, or last beyond the values)"
+-- "1 (offsets empty, first negative, any falling, or last beyond the values)": o is the offset just read and n how many values are
+-- lent; some later offset is below the one before it, or the last is above n
 unfoldable pub falls : ℤ → List ℤ → ℕ → Bool
 falls o [] n = ltZ (pos n) o
 falls o (p ∷ ps) n = ltZ p o || falls p ps n

@@ -45,10 +45,10 @@ unaryElems Distinct es = distinct es
 unaryElems PopFront es = drop 1 es
 unaryElems PopBack es = take (length es - 1) es
 
--- those of the elements that are among others
+-- those elements of the row walked that are among the others, in the order of the row walked
 unfoldable pub common : List Elem → List Elem → List Elem
 common others [] = []
-common others (e ∷ es) = pick (isIn e others) (e ∷ common others es) (common others es)
+common others (e ∷ walked) = pick (isIn e others) (e ∷ common others walked) (common others walked)
 
 -- "Union: distinct of left then right. Intersect: the longer row is walked, the left one on equal lengths; each common value once."
 unfoldable pub setElems : SetOp → List Elem → List Elem → List Elem

@@ -87,7 +87,8 @@ outerLength o = length (innerOf o)
 abbrev pub over : {A : Type 0} → List A → List A → List A
 over w d = w ++ drop (length w) d
 
--- the lengths of the four slices lent for a list answer, of the two for a value answer, and of list-repeat's six
+-- the lengths of the four slices lent for a list answer, of the two for a value answer, and of list-repeat's six; `rows` is how
+-- many bytes are lent for the row bitmap, and not how many rows
 pub record Room : Type 0 where
   pub offsets : ℕ
   pub rows : ℕ

@@ -11,3 +11,4 @@ pub mod Outcome
 pub mod Recipe
 pub mod Call
 pub mod Contract
+pub mod Run

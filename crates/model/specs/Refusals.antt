@@ -1,6 +1,6 @@
 -- The refusals after 2, and their order. Document 01, "Refused calls". 0 stands for none.
 use Prim.Native.Nat.{ℕ, _+_, _*_}
-use mathlib.Core.Bool.{Bool, true, false, not, _&&_, _||_}
+use mathlib.Core.Bool.{Bool, false, not, _&&_, _||_}
 use mathlib.Core.List.{List, [], _∷_, map}
 use lib.ListN.{length}
 use lib.IntN.{ℤ, pos, negsuc}
@@ -8,9 +8,9 @@ use lib.Dec.{ltb, eqb}
 use Rattle.model.specs.Basics.{pick, tab, Lent, absent, given}
 use Rattle.model.specs.Limits.{Limits, largest}
 use Rattle.model.specs.Column.{Elem, nul, val, Row, nullRow, listRow, count}
-use Rattle.model.specs.Form.{flat, lengthOf, inner, Outer}
+use Rattle.model.specs.Form.{flat, lengthOf}
 use Rattle.model.specs.Slice.{fits}
-use Rattle.model.specs.Rows.{ListCall, unary, setOp, slice, resize, replace, remove, Made, refuses, makes, rowByRow, rowsMade, atRow, rowsIn, rowOf, argumentOf, repeatOf}
+use Rattle.model.specs.Rows.{ListCall, unary, setOp, slice, resize, replace, remove, Made, refuses, makes, rowByRow, rowsMade, rowOf, argumentOf}
 use Rattle.model.specs.declared.SetOp.{SetOp}
 use Rattle.model.specs.declared.SetOp.the-variants.{Union, Intersect}
 

@@ -2,17 +2,16 @@
 -- over lists of rows and elements what that shows, over one row and its arguments what a row becomes. The last two have nothing
 -- of the bytes lent.
 use Prim.Native.Nat.{ℕ}
-use mathlib.Core.Bool.{Bool, true, false}
 use mathlib.Core.List.{List, [], _∷_, map}
 use lib.ListN.{length, getD, replicate}
-use lib.IntN.{ℤ, pos}
+use lib.IntN.{pos}
 use lib.Dec.{eqb}
 use Rattle.model.specs.Basics.{pick, tab, Lent, absent, given}
 use Rattle.model.specs.Limits.{Limits}
 use Rattle.model.specs.Column.{Elem, nul, val, Row, nullRow, listRow, count}
 use Rattle.model.specs.Form.{Outer, nullOuter, listOuter}
 use Rattle.model.specs.Elements.{unaryElems, setElems, resized, replaced, removed, elementAt, firstValid}
-use Rattle.model.specs.Slice.{Plan, refuse, empty, places, slicePlan, sliced, fits}
+use Rattle.model.specs.Slice.{Plan, refuse, empty, places, slicePlan, sliced}
 use Rattle.model.specs.declared.Unary.{Unary}
 use Rattle.model.specs.declared.SetOp.{SetOp}
 
@@ -162,6 +161,7 @@ rowsIn (remove ws f n) = length ws
 unfoldable pub rowByRow : Limits → ListCall (List Row) (List Elem) → List Made
 rowByRow L q = tab (λ r. madeOf L (atRow q r)) 0 (rowsIn q)
 
+-- (A call with a row that refuses ends in that refusal, before the rows made are looked at.)
 unfoldable pub rowMade : Made → Row
 rowMade (refuses k) = nullRow
 rowMade (makes w) = w

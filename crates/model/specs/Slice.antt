@@ -1,16 +1,16 @@
 -- Slice: the places that it takes of a row. Document 01, "Slice:" under refused calls and under what each row becomes.
 use Prim.Native.Nat.{ℕ, zero, suc, _+_, _-_, _*_, _/_}
-use mathlib.Core.Bool.{Bool, true, false}
-use mathlib.Core.List.{List, []}
+use mathlib.Core.Bool.{Bool, false}
+use mathlib.Core.List.{List}
 use lib.Dec.{leb, ltb, eqb}
-use lib.ListN.{length, getD}
+use lib.ListN.{getD}
 use lib.IntN.{ℤ, pos, negsuc}
 use lib.Signed.{mag}
 use Rattle.model.specs.Basics.{pick, tab}
 use Rattle.model.specs.Limits.{Limits}
 use Rattle.model.specs.Column.{Elem, nul}
 
--- "fit 32 signed bits": from minus the largest offset less one up to the largest offset
+-- "fit 32 signed bits", −2147483648 to 2147483647: `mag` of −(n+1) is n, so −2147483648 gives 2147483647 and fits
 unfoldable pub fits : Limits → ℤ → Bool
 fits L z = leb (mag z) (L .offset)
 

@@ -1,0 +1,68 @@
+-- A run that meets its contract ends in what the definitions say of its call.
+use mathlib.Core.Path.{_≡_, refl, sym, ap, _∙_}
+use mathlib.Core.List.{List, [], _∷_, _++_, map}
+use Prim.Native.Nat.{ℕ, _+_}
+use native.Mathlib.Omega.{arith}
+use lib.ListN.{length, take, drop}
+use lib.Seq.{take-at}
+use lib.IntN.{ℤ}
+use Rattle.model.specs.Bitmap.{bytesFor}
+use Rattle.model.specs.Limits.{Limits}
+use Rattle.model.specs.Column.{Elem, Row, Column, Arguments}
+use Rattle.model.specs.Form.{isVal, isRow, valueOf, flat, lengthOf, over, formOffsets, formRows, formValues, formElements}
+use Rattle.model.specs.Outcome.{Outcome, refused, made}
+use Rattle.model.specs.Call.{Call, list, anyValue, element, Answer, refusal, counts, answerOf, written, listCounts, valueCounts, End, listNumbers, listBitmaps, listEnd, valueEnd, end}
+use Rattle.model.specs.Contract.{told, toldValue, ListMeets, ValueMeets}
+use Rattle.model.specs.Run.{listRunEnd, valueRunEnd, Run, listRun, anyValueRun, elementRun}
+use Rattle.model.specs.declared.ListAnswer.{ListAnswer}
+use Rattle.model.specs.declared.ListAnswer.the-variants as L
+use Rattle.model.specs.declared.ValueAnswer.{ValueAnswer}
+use Rattle.model.specs.declared.ValueAnswer.the-variants as V′
+use Rattle.model.proofs.TabLaws.{length-map}
+use Rattle.model.proofs.FormLaws.{length-pack, length-offsets}
+
+-- the slots that were written, taken from the slice
+taken : {A : Type 0} (w d d′ : List A) (n : ℕ) → d′ ≡ over w d → n ≡ length w → take n d′ ≡ w
+taken w d d′ n e k = rw e (take-at w (drop (length w) d) n (sym k))
+
+never : {A : Type 0} → _≡_ {A = ℕ} 0 1 → A
+never e = let z : ⊥ = omega arith in absurd z
+
+-- ---- a list answer
+
+module _ {o o′ : List ℤ} {r r′ : List ℕ} {v v′ : List ℤ} {e e′ : List ℕ} where
+  list-run : (x : Outcome (List Row)) (a : ListAnswer) → ListMeets x a o o′ r r′ v v′ e e′ → listRunEnd a o′ r′ v′ e′ ≡ listEnd x
+  unfolding listRunEnd listEnd listNumbers listBitmaps told answerOf written
+  list-run (refused k) (L.Refused j) h = let q = h .answer in cc
+  list-run (refused k) (L.Counts n m p q) h = let z = h .answer in never cc
+  list-run (made ws) (L.Refused j) h = let z = h .answer in never cc
+  list-run (made ws) (L.Counts n m p q) h =
+      let z = h .answer in
+      let en : n ≡ length ws = cc in
+      let em : m ≡ length (flat ws) = cc in
+      let offsets = taken (formOffsets ws) o o′ (n + 1) (h .offsets) (omega (arith, length-offsets 0 (map lengthOf ws), length-map lengthOf ws)) in
+      let rows = taken (formRows ws) r r′ (bytesFor n) (h .rows) (omega (arith, length-pack (map isRow ws), length-map isRow ws)) in
+      let values = taken (formValues (flat ws)) v v′ m (h .values) (omega (arith, length-map valueOf (flat ws))) in
+      let elements = taken (formElements (flat ws)) e e′ (bytesFor m) (h .elements) (omega (arith, length-pack (map isVal (flat ws)), length-map isVal (flat ws))) in
+      cc
+
+-- ---- a value answer
+
+module _ {v v′ : List ℤ} {r r′ : List ℕ} where
+  value-run : (x : Outcome (List Elem)) (a : ValueAnswer) → ValueMeets x a v v′ r r′ → valueRunEnd a v′ r′ ≡ valueEnd x
+  unfolding valueRunEnd valueEnd toldValue answerOf written
+  value-run (refused k) (V′.Refused j) h = let q = h .answer in cc
+  value-run (refused k) (V′.Counts n p) h = let z = h .answer in never cc
+  value-run (made es) (V′.Refused j) h = let z = h .answer in never cc
+  value-run (made es) (V′.Counts n p) h =
+      let z = h .answer in
+      let en : n ≡ length es = cc in
+      let values = taken (formValues es) v v′ n (h .values) (omega (arith, length-map valueOf es)) in
+      let rows = taken (formElements es) r r′ (bytesFor n) (h .rows) (omega (arith, length-pack (map isVal es), length-map isVal es)) in
+      cc
+
+pub run-ends : (L : Limits) {q : Call Column Arguments} {e : End} → Run L q e → e ≡ end L q
+unfolding end
+run-ends L (listRun h) = list-run _ _ h
+run-ends L (anyValueRun h) = value-run _ _ h
+run-ends L (elementRun h) = value-run _ _ h

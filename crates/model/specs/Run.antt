@@ -1,0 +1,38 @@
+-- A run of a call: what a public function's contract says of its answer and its slices, and what the run ends in, read off that
+-- answer and the slices as the function returns.
+use Prim.Native.Nat.{ℕ, _+_}
+use mathlib.Core.List.{List, [], _∷_}
+use lib.ListN.{take}
+use lib.IntN.{ℤ}
+use Rattle.model.specs.Bitmap.{bytesFor}
+use Rattle.model.specs.Limits.{Limits}
+use Rattle.model.specs.Column.{Column, Arguments}
+use Rattle.model.specs.Form.{Room, ValueRoom}
+use Rattle.model.specs.Rows.{ListCall}
+use Rattle.model.specs.Outcome.{listOutcome, anyValueOutcome, elementOutcome}
+use Rattle.model.specs.Call.{Call, list, anyValue, element, End, refusal, counts, operationEnd}
+use Rattle.model.specs.Contract.{ListMeets, ValueMeets}
+use Rattle.model.specs.declared.ListAnswer.{ListAnswer}
+use Rattle.model.specs.declared.ListAnswer.the-variants as L
+use Rattle.model.specs.declared.ValueAnswer.{ValueAnswer}
+use Rattle.model.specs.declared.ValueAnswer.the-variants as V′
+
+-- "The written results are the slots of each output slice before those; a refused call has none.": as many slots of the offsets,
+-- row bitmap, values and element bitmap as the answer counts
+unfoldable pub listRunEnd : ListAnswer → List ℤ → List ℕ → List ℤ → List ℕ → End
+listRunEnd (L.Refused k) o r v e = operationEnd (refusal k) ([] ∷ [] ∷ []) ([] ∷ [] ∷ [])
+listRunEnd (L.Counts n m p q) o r v e =
+    operationEnd (counts (n ∷ m ∷ p ∷ q ∷ [])) (take (n + 1) o ∷ take m v ∷ []) (take (bytesFor n) r ∷ take (bytesFor m) e ∷ [])
+
+unfoldable pub valueRunEnd : ValueAnswer → List ℤ → List ℕ → End
+valueRunEnd (V′.Refused k) v r = operationEnd (refusal k) ([] ∷ []) ([] ∷ [])
+valueRunEnd (V′.Counts n p) v r = operationEnd (counts (n ∷ p ∷ [])) (take n v ∷ []) (take (bytesFor n) r ∷ [])
+
+-- a run of a call that ended so: the contract of its function holds of it (list-repeat and recipes add their own with their contracts)
+pub data Run (L : Limits) : Call Column Arguments → End → Type 0 where
+  listRun : {q : ListCall Column Arguments} {l : Room} {a : ListAnswer} {o o′ : List ℤ} {r r′ : List ℕ} {v v′ : List ℤ} {e e′ : List ℕ}
+    → ListMeets (listOutcome L q l) a o o′ r r′ v v′ e e′ → Run L (list q l) (listRunEnd a o′ r′ v′ e′)
+  anyValueRun : {c : Column} {l : ValueRoom} {a : ValueAnswer} {v v′ : List ℤ} {r r′ : List ℕ}
+    → ValueMeets (anyValueOutcome c l) a v v′ r r′ → Run L (anyValue c l) (valueRunEnd a v′ r′)
+  elementRun : {c : Column} {x : Arguments} {l : ValueRoom} {a : ValueAnswer} {v v′ : List ℤ} {r r′ : List ℕ}
+    → ValueMeets (elementOutcome L c x l) a v v′ r r′ → Run L (element c x l) (valueRunEnd a v′ r′)

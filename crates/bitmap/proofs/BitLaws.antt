@@ -1,20 +1,20 @@
 -- Laws of bitmaps.
-use mathlib.Core.Path.{_≡_, refl, sym, ap, _∙_, subst}
-use mathlib.Core.Bool.{Bool, true, false, not, _&&_, _||_}
+use mathlib.Core.Path.{_≡_, refl, ap, _∙_}
+use mathlib.Core.Bool.{Bool, true, false, not}
 use mathlib.Core.List.{List, [], _∷_, _++_, append-nil, append-assoc}
 use Prim.Native.Nat.{ℕ, zero, suc, _+_, _-_, _*_, _/_, _%_, _^_, _≤_, _<_}
 use native.Mathlib.Omega.{arith}
 use native.Mathlib.Nat.{pow-suc, mul-assoc}
-use borrow.Author.Tests.{eq-eqb, ne-eqb, ltb-true, ltb-false}
-use lib.Bits.{bitOr, or-shifted-r}
+use borrow.Author.Tests.{ne-eqb, ltb-true, ltb-false}
+use lib.Bits.{or-shifted-r}
 use lib.Dec.{ltb, eqb}
 use lib.Pow.{shl-exact}
 use mir.Val.{boolByte}
-use lib.ListN.{length, getD, set, take, drop, length-drop, length-append, length-set}
+use lib.ListN.{length, getD, take, drop, length-drop, length-append, length-set}
 use lib.Seq.{take-all, take-append-le, drop-append-le}
-use Rattle.model.specs.Bitmap.{Bits, bitAt, bit, byteOf, pack, packN, bytesFor, validAt, shortBits, nulls}
+use Rattle.model.specs.Bitmap.{Bits, bitAt, bit, byteOf, pack, packN, bytesFor, shortBits, nulls}
 use Rattle.bitmap.specs.Push.{Covers, pushBit, pushBits}
-use Rattle.model.specs.Basics.{pick, tab}
+use Rattle.model.specs.Basics.{tab}
 use Rattle.model.proofs.TabLaws.{tab-step, tab-none}
 use Rattle.model.specs.Form.{over}
 

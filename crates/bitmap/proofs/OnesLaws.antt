@@ -1,5 +1,5 @@
 -- Laws of bits counted byte by byte.
-use mathlib.Core.Path.{_≡_, refl, sym, ap, _∙_, subst}
+use mathlib.Core.Path.{_≡_, refl, sym, ap, _∙_}
 use mathlib.Core.Bool.{Bool, true, false}
 use mathlib.Core.List.{List, [], _∷_, _++_}
 use Prim.Native.Nat.{ℕ, zero, suc, _+_, _-_, _*_, _/_, _%_, _^_, _≤_, _<_}
@@ -9,7 +9,7 @@ use lib.Pow.{pow-pos, mod-pow-add}
 use lib.Count.{ones, ones-step, ones-cat, ones-le}
 use lib.Dec.{eqb}
 use lib.ListN.{length, getD}
-use Rattle.model.specs.Bitmap.{bit, bitAt, nulls}
+use Rattle.model.specs.Bitmap.{bit, bitAt}
 use Rattle.bitmap.specs.Push.{trues}
 use Rattle.model.specs.Basics.{tab}
 use Rattle.model.proofs.TabLaws.{length-tab, tab-last, tab-split}

@@ -1,6 +1,6 @@
 -- What is read back from bits that were packed, and the nulls counted in them.
-use mathlib.Core.Path.{_≡_, refl, sym, ap, _∙_}
-use mathlib.Core.Bool.{Bool, true, false, not}
+use mathlib.Core.Path.{_≡_, refl, sym, _∙_}
+use mathlib.Core.Bool.{Bool, true, false}
 use mathlib.Core.List.{List, [], _∷_}
 use Prim.Native.Nat.{ℕ, zero, suc, _+_, _-_, _*_, _/_, _%_, _^_, _≤_, _<_}
 use native.Mathlib.Omega.{arith}
@@ -10,7 +10,7 @@ use lib.Pow.{shr-shr}
 use lib.ListN.{length, getD, take, drop, length-drop, length-take, List·getD-append}
 use lib.Seq.{getD-take, getD-drop}
 use Rattle.model.specs.Basics.{tab}
-use Rattle.model.specs.Bitmap.{bit, byteOf, pack, bytesFor, bitAt, from, validAt, nulls}
+use Rattle.model.specs.Bitmap.{bit, byteOf, pack, bitAt, from, validAt, nulls}
 use Rattle.model.specs.Form.{over}
 use Rattle.model.proofs.TabLaws.{tab-getD}
 use Rattle.model.proofs.FormLaws.{length-pack}

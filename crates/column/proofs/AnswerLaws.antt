@@ -1,26 +1,24 @@
 -- From outputs written in result form, and nulls counted in them, to what a contract says of a call.
-use mathlib.Core.Path.{_≡_, refl, sym, ap, _∙_, subst}
+use mathlib.Core.Path.{_≡_, refl, sym, _∙_, subst}
 use mathlib.Core.Bool.{Bool, true, false, _&&_}
-use mathlib.Core.List.{List, [], _∷_, map}
-use Prim.Native.Nat.{ℕ, _+_, _-_, _≤_}
+use mathlib.Core.List.{List, map}
+use Prim.Native.Nat.{ℕ, _+_, _≤_}
 use native.Mathlib.Omega.{arith}
 use borrow.Author.Tests.{leb-true}
 use lib.Dec.{T, leb}
 use lib.IntN.{ℤ}
 use lib.ListN.{length}
-use Rattle.model.specs.Basics.{pick, tab}
-use Rattle.model.specs.Bitmap.{bytesFor, bitAt}
+use Rattle.model.specs.Bitmap.{bytesFor}
 use Rattle.model.specs.Column.{Elem, Row}
-use Rattle.model.specs.Form.{isVal, isRow, flat, over, fitsIn, fitsValues, formOffsets, formRows, formValues, formElements, nullRows, nullElems, Room, ValueRoom}
+use Rattle.model.specs.Form.{isVal, isRow, flat, over, fitsIn, fitsValues, formRows, formValues, formElements, nullRows, nullElems, Room, ValueRoom}
 use Rattle.model.specs.Outcome.{Outcome, refused, made, fitted, fittedValues}
-use Rattle.model.specs.Call.{answerOf, written, listCounts, valueCounts}
+use Rattle.model.specs.Call.{answerOf, written}
 use Rattle.model.specs.Contract.{told, toldValue, ListMeets, ValueMeets, room, valueRoom}
 use Rattle.model.specs.declared.ListAnswer.{ListAnswer}
 use Rattle.model.specs.declared.ListAnswer.the-variants as L
 use Rattle.model.specs.declared.ValueAnswer.{ValueAnswer}
 use Rattle.model.specs.declared.ValueAnswer.the-variants as V′
 use Rattle.model.proofs.TabLaws.{length-map}
-use Rattle.bitmap.specs.Push.{trues}
 use Rattle.bitmap.proofs.PackLaws.{counted-nulls}
 use Rattle.column.specs.Put.{HasRoom, Holds}
 use Rattle.column.specs.Answers.{unset, listAnswerFrom, valueAnswerFrom}

@@ -1,20 +1,20 @@
 -- Laws of offsets: the check of refusal 1, and a signed number as a count.
-use mathlib.Core.Path.{_≡_, refl, sym, ap, _∙_, subst}
-use mathlib.Core.Bool.{Bool, true, false, not, _&&_, _||_}
-use mathlib.Core.List.{List, [], _∷_, _++_, map}
-use Prim.Native.Nat.{ℕ, zero, suc, _+_, _-_, _*_, _/_, _%_, _^_, _≤_, _<_}
+use mathlib.Core.Path.{_≡_, refl, _∙_, subst}
+use mathlib.Core.Bool.{Bool, true, false, _||_}
+use mathlib.Core.List.{List, [], _∷_}
+use Prim.Native.Nat.{ℕ, zero, suc, _+_, _^_, _≤_, _<_}
 use native.Mathlib.Omega.{arith}
 use native.Mathlib.Numerals.{add-one}
-use borrow.Author.Tests.{eq-eqb, ne-eqb, ltb-true, ltb-false, le-ltb}
-use lib.Dec.{ltb, eqb, T}
+use borrow.Author.Tests.{ltb-true, ltb-false, le-ltb}
+use lib.Dec.{ltb, T}
 use lib.IntN.{ℤ, pos, negsuc, natAbs}
 use lib.Signed.{mag, ltZ, nonNeg}
 use mir.Syntax.{Width, w64}
 use mir.Val.{bits, hbits, Fits, toZ, ofZ}
 use mir.Facts.{toZ-ofZ, fits-natAbs}
-use lib.ListN.{length, getD, set, take, drop, drop-of-length-le}
+use lib.ListN.{length, getD, drop, drop-of-length-le}
 use lib.Seq.{drop-cons}
-use Rattle.model.specs.Column.{Column, count, falls, badOffsets, offsetAt}
+use Rattle.model.specs.Column.{count, falls, badOffsets, offsetAt}
 
 pub or-false : (a b : Bool) → a || b ≡ false → (a ≡ false) × (b ≡ false)
 or-false true b h = absurd (subst T h tt)

@@ -1,14 +1,13 @@
 -- Laws of the writing walk.
-use mathlib.Core.Path.{_≡_, refl, sym, ap, _∙_, subst}
-use mathlib.Core.Bool.{Bool, true, false, not}
+use mathlib.Core.Path.{_≡_, refl, _∙_}
 use mathlib.Core.List.{List, [], _∷_, _++_, map, map-append, append-assoc, append-nil, reverse, reverse-append}
 use Prim.Native.Nat.{ℕ, zero, suc, _+_, _-_, _≤_, _<_}
 use native.Mathlib.Omega.{arith}
 use native.Mathlib.Numerals.{add-one}
 use lib.IntN.{ℤ, pos}
-use lib.ListN.{length, getD, set, drop, length-append, length-set}
+use lib.ListN.{length, getD, set, drop, length-append}
 use lib.Seq.{sets, set-at, drop-cons}
-use Rattle.model.specs.Bitmap.{pack, packN, bytesFor}
+use Rattle.model.specs.Bitmap.{pack, packN}
 use Rattle.bitmap.specs.Push.{pushBit, pushBits}
 use Rattle.model.specs.Column.{Elem, Row}
 use Rattle.model.specs.Basics.{tab}

@@ -1,5 +1,5 @@
 -- Laws of the two walks over rows, for every operation and every width of offsets: W r is the row that is made for row r, of n.
-use mathlib.Core.Path.{_≡_, refl, sym, ap, _∙_}
+use mathlib.Core.Path.{_≡_, refl, ap, _∙_}
 use mathlib.Core.Bool.{Bool, true, false, _||_}
 use mathlib.Core.List.{List, [], _∷_, map}
 use Prim.Native.Nat.{ℕ, _+_, _-_, _≤_, _<_}
@@ -9,7 +9,7 @@ use lib.ListN.{length, set, length-set}
 use lib.Seq.{length-sets}
 use Rattle.model.specs.Basics.{tab, pick, any}
 use Rattle.model.specs.Bitmap.{shortBits}
-use Rattle.model.specs.Column.{Elem, Row, Column, elemAt, rowAt, rowCount, offsetAt, refusal1, refusal2, WellFormed}
+use Rattle.model.specs.Column.{Row, Column, elemAt, rowAt, rowCount, offsetAt, refusal1, refusal2}
 use Rattle.model.specs.Form.{valueOf, elemsOf, flat}
 use Rattle.model.specs.Outcome.{columnsRefusal}
 use Rattle.model.proofs.TabLaws.{tab-step, tab-none, length-tab}

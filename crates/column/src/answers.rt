@@ -1,5 +1,6 @@
 // The answers, their nulls counted in the bitmaps written.
-use model::{ListAnswer, ValueAnswer};
+use model::ListAnswer;
+use model::ValueAnswer;
 ghost use Prim.Native.Nat.{_≤_};
 ghost use Rattle.column.specs.Answers.{listAnswerFrom, valueAnswerFrom};
 ghost use Rattle.model.specs.Bitmap.{bytesFor};

@@ -10,7 +10,14 @@ ghost use mathlib.Core.List.{[], _∷_};
 ghost use mathlib.Core.Path.{_≡_};
 
 // Refusals 1 and 2 of a list column; 0 where neither applies.
-pub fn list_refusal(offsets: &[i32], rows: &[u8], rstart: usize, values: &[i64], elements: &[u8], estart: usize) -> u8
+pub fn list_refusal(
+    offsets: &[i32],
+    rows: &[u8],
+    rstart: usize,
+    values: &[i64],
+    elements: &[u8],
+    estart: usize,
+) -> u8
     requires { ⌜ rstart < 8 ⌝ }
     requires { ⌜ estart < 8 ⌝ }
     ensures { λ k. ⌜ k ≡ columnsRefusal (column (now (offsets .entry)) (from rstart (now (rows .entry))) (now (values .entry)) (from estart (now (elements .entry))) ∷ []) [] ⌝ }

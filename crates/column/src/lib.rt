@@ -3,3 +3,4 @@ pub mod answers;
 pub mod checks;
 pub mod elements;
 pub mod offsets;
+pub mod rows;

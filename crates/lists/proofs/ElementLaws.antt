@@ -1,14 +1,14 @@
 -- Laws of what the elements of a row become.
 use mathlib.Core.Path.{_≡_, refl, sym, ap, _∙_}
 use mathlib.Core.Bool.{Bool, true, false, not, _||_}
-use mathlib.Core.List.{List, [], _∷_, _++_, reverse}
+use mathlib.Core.List.{List, [], _∷_, _++_}
 use Prim.Native.Nat.{ℕ, zero, suc, _+_, _-_, _≤_, _<_, _^_}
 use native.Mathlib.Omega.{arith}
 use native.Mathlib.Numerals.{add-one}
 use borrow.Author.Tests.{eq-eqb, ne-eqb, eqb-true, eqb-false}
 use lib.Dec.{eqb}
 use lib.IntN.{ℤ, pos, negsuc}
-use lib.ListN.{length, take, drop, length-reverse, length-drop, length-take}
+use lib.ListN.{length, take, length-reverse, length-drop, length-take}
 use mir.Syntax.{w64}
 use mir.Val.{SFits, ofZ}
 use Rattle.model.specs.Basics.{pick, tab}

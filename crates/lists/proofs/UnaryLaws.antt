@@ -1,18 +1,17 @@
 -- Laws of the operations on one list without arguments: one row, and the whole call.
 use mathlib.Core.Path.{_≡_, refl, sym, ap, _∙_}
-use mathlib.Core.Bool.{Bool, true, false}
 use mathlib.Core.List.{List, [], _∷_, map}
-use Prim.Native.Nat.{ℕ, zero, suc, _+_, _-_, _≤_, _<_}
+use Prim.Native.Nat.{ℕ, zero, suc, _-_, _≤_}
 use native.Mathlib.Omega.{arith}
 use borrow.Author.Tests.{ne-eqb}
 use lib.ListN.{length, getD}
-use Rattle.model.specs.Basics.{pick, tab}
+use Rattle.model.specs.Basics.{tab}
 use Rattle.model.specs.Bitmap.{Bits, validAt}
-use Rattle.model.specs.Column.{Elem, Row, nullRow, listRow, Column, elemAt, rowAt, rowsOf, rowCount, offsetAt}
+use Rattle.model.specs.Column.{Elem, Row, nullRow, listRow, Column, rowAt, rowsOf, rowCount}
 use Rattle.model.specs.Elements.{unaryElems}
 use Rattle.model.specs.Form.{Room, isRow, elemsOf, flat}
 use Rattle.model.specs.Limits.{Limits}
-use Rattle.model.specs.Rows.{unary, onRow, onCall, listsIn, argumentsIn, Made, makes, madeOf, atRow, rowsIn, rowByRow, rowMade, rowsMade}
+use Rattle.model.specs.Rows.{unary, onRow, onCall, listsIn, argumentsIn, makes, madeOf, atRow, rowsIn, rowByRow, rowMade, rowsMade}
 use Rattle.model.specs.Refusals.{unequal, firstOf, refusalOf, sumsRefusal, rowsRefusal}
 use Rattle.model.specs.Outcome.{Outcome, refused, gate, columnsRefusal, fitted, afterThree, listShown, listOutcome}
 use Rattle.model.specs.declared.Unary.{Unary}

@@ -1,12 +1,12 @@
 -- Laws of the operations that give one value a row: one row, and the whole call.
 use mathlib.Core.Path.{_≡_, refl, sym, ap, _∙_, subst}
 use mathlib.Core.Bool.{Bool, true, false, not, _&&_, _||_}
-use mathlib.Core.List.{List, [], _∷_, map}
+use mathlib.Core.List.{List, [], _∷_}
 use Prim.Native.Nat.{ℕ, zero, suc, _+_, _-_, _≤_, _<_}
 use native.Mathlib.Omega.{arith}
 use native.Mathlib.Nat.{zero-add}
 use borrow.Author.Tests.{lt-ltb, le-ltb, eq-eqb, ne-eqb}
-use lib.Dec.{T, ltb, eqb}
+use lib.Dec.{T}
 use lib.IntN.{ℤ, pos, negsuc}
 use lib.ListN.{length, getD}
 use Rattle.model.specs.Basics.{pick, tab, any}
@@ -15,18 +15,16 @@ use Rattle.model.specs.Column.{Elem, nul, val, Row, nullRow, listRow, Column, A
 use Rattle.model.specs.Elements.{firstValid, elementAt}
 use Rattle.model.specs.Form.{ValueRoom, isVal}
 use Rattle.model.specs.Limits.{Limits, narrow}
-use Rattle.model.specs.Refusals.{differs, firstOf, elementRefusal}
+use Rattle.model.specs.Refusals.{firstOf, elementRefusal}
 use Rattle.model.specs.Rows.{anyValueOf, elementOf, rowOf, argumentOf}
 use Rattle.model.specs.Slice.{Bound, unfit, outside, place, fits}
 use Rattle.model.specs.Outcome.{Outcome, refused, gate, columnsRefusal, fittedValues, anyValueShown, anyValueOutcome, elementsMade, elementsRefusal, elementShown, elementOutcome}
 use Rattle.model.proofs.TabLaws.{length-tab, tab-step, tab-none, tab-ext, map-tab, getD-tab}
 use Rattle.model.proofs.OutcomeLaws.{gate-open}
-use Rattle.bitmap.specs.Push.{Covers}
 use Rattle.column.specs.Rows.{rowFrom, lenFrom}
 use Rattle.index.specs.Place.{indexBound, taken}
 use Rattle.index.proofs.PlaceLaws.{element-taken, place-inside}
 use Rattle.lists.specs.Made.{anyValueAt, anyValues, elementAtRow, elementsOf, foundAt, boundPlace, elementPlace, unfitAt, fourAt}
-use Rattle.lists.proofs.UnaryLaws.{gate-shut}
 
 -- ---- the first valid element
 

@@ -1,14 +1,19 @@
 // Taking out of rows: one element, the first valid one, or all but the first or the last.
 use crate::walk;
-use column::{answers, checks, elements, offsets};
+use column::answers;
+use column::checks;
+use column::elements;
+use column::offsets;
 use index::Bound;
-use model::{ListAnswer, Unary, ValueAnswer};
+use model::ListAnswer;
+use model::Unary;
+use model::ValueAnswer;
 ghost use Prim.Native.Nat.{_+_, _/_, _<_, _≤_};
 ghost use Rattle.bitmap.specs.Push.{Covers, pushBit};
 ghost use Rattle.column.specs.Put.{Readable, Source, ValuesHold};
 ghost use Rattle.column.specs.Rows.{Between, rowFrom};
 ghost use Rattle.lists.specs.Made.{FirstAt, anyValues, elementPlace, elementsOf, foundAt, fourAt, unfitAt};
-ghost use Rattle.model.specs.Basics.{pick, tab};
+ghost use Rattle.model.specs.Basics.{tab};
 ghost use Rattle.model.specs.Bitmap.{bytesFor, from};
 ghost use Rattle.model.specs.Column.{arguments, column, elemAt, rowCount};
 ghost use Rattle.model.specs.Contract.{ListAnswers, ValueAnswers, lent, lentArguments};
@@ -82,7 +87,7 @@ fn put_any_value(
     ensures { λ _. ⌜ now («out_values» .exit) ≡ set (now («out_values» .entry)) r (valueOf (anyValueOf (rowFrom (from rstart (now (rows .entry))) (elemAt (now (values .entry)) (from estart (now (elements .entry)))) r a b))) ⌝ }
     ensures { λ _. ⌜ now («out_rows» .exit) ≡ pushBit (now («out_rows» .entry)) r (isVal (anyValueOf (rowFrom (from rstart (now (rows .entry))) (elemAt (now (values .entry)) (from estart (now (elements .entry)))) r a b))) ⌝ }
 {
-    let k = walk::row_len(rows, rstart, n, r, a, b);
+    let k = column::rows::row_len(rows, rstart, n, r, a, b);
     let i = first_valid(values, elements, estart, a, k);
     write_found(values, elements, estart, i, a + k, out_values, out_rows, r);
 }
@@ -109,7 +114,19 @@ fn write_any_values(
     while 0 < left {
         let a = offsets::offset_at(offsets, r);
         let b = offsets::offset_at(offsets, r + 1);
-        put_any_value(rows, rstart, n, values, elements, estart, r, a, b, out_values, out_rows);
+        put_any_value(
+            rows,
+            rstart,
+            n,
+            values,
+            elements,
+            estart,
+            r,
+            a,
+            b,
+            out_values,
+            out_rows,
+        );
         r += 1;
         left -= 1;
     }
@@ -138,7 +155,15 @@ pub fn general_array_any_value(
 }
 
 // Whether list and index of row r are valid and the index does not fit 32 signed bits.
-fn is_unfit(rows: &[u8], rstart: usize, n: usize, indexes: &[i64], index_bits: &[u8], istart: usize, r: usize) -> bool
+fn is_unfit(
+    rows: &[u8],
+    rstart: usize,
+    n: usize,
+    indexes: &[i64],
+    index_bits: &[u8],
+    istart: usize,
+    r: usize,
+) -> bool
     requires { ⌜ Covers (from rstart (now rows)) n ⌝ }
     requires { ⌜ Covers (from istart (now «index_bits»)) n ⌝ }
     requires { ⌜ length (now indexes) ≡ n ⌝ }
@@ -155,7 +180,14 @@ fn is_unfit(rows: &[u8], rstart: usize, n: usize, indexes: &[i64], index_bits: &
 }
 
 // Refusal 4, by the first row that gives it; 0 where none does.
-fn index_refusal(rows: &[u8], rstart: usize, n: usize, indexes: &[i64], index_bits: &[u8], istart: usize) -> u8
+fn index_refusal(
+    rows: &[u8],
+    rstart: usize,
+    n: usize,
+    indexes: &[i64],
+    index_bits: &[u8],
+    istart: usize,
+) -> u8
     requires { ⌜ Covers (from rstart (now rows)) n ⌝ }
     requires { ⌜ Covers (from istart (now «index_bits»)) n ⌝ }
     requires { ⌜ length (now indexes) ≡ n ⌝ }
@@ -174,7 +206,15 @@ fn index_refusal(rows: &[u8], rstart: usize, n: usize, indexes: &[i64], index_bi
 }
 
 // Where the index of row r points among the k elements from element a on, or the end.
-fn element_place(n: usize, indexes: &[i64], index_bits: &[u8], istart: usize, r: usize, a: usize, k: usize) -> usize
+fn element_place(
+    n: usize,
+    indexes: &[i64],
+    index_bits: &[u8],
+    istart: usize,
+    r: usize,
+    a: usize,
+    k: usize,
+) -> usize
     requires { ⌜ Covers (from istart (now «index_bits»)) n ⌝ }
     requires { ⌜ length (now indexes) ≡ n ⌝ }
     requires { ⌜ r < n ⌝ }
@@ -219,7 +259,7 @@ fn put_element(
     ensures { λ _. ⌜ now («out_values» .exit) ≡ set (now («out_values» .entry)) r (valueOf (elementOf (rowFrom (from rstart (now (rows .entry))) (elemAt (now (values .entry)) (from estart (now (elements .entry)))) r a b) (elemAt (now (indexes .entry)) (from istart (now («index_bits» .entry))) r))) ⌝ }
     ensures { λ _. ⌜ now («out_rows» .exit) ≡ pushBit (now («out_rows» .entry)) r (isVal (elementOf (rowFrom (from rstart (now (rows .entry))) (elemAt (now (values .entry)) (from estart (now (elements .entry)))) r a b) (elemAt (now (indexes .entry)) (from istart (now («index_bits» .entry))) r))) ⌝ }
 {
-    let k = walk::row_len(rows, rstart, n, r, a, b);
+    let k = column::rows::row_len(rows, rstart, n, r, a, b);
     let i = element_place(n, indexes, index_bits, istart, r, a, k);
     write_found(values, elements, estart, i, a + k, out_values, out_rows, r);
 }
@@ -251,7 +291,22 @@ fn write_elements(
     while 0 < left {
         let a = offsets::offset_at(offsets, r);
         let b = offsets::offset_at(offsets, r + 1);
-        put_element(rows, rstart, n, values, elements, estart, indexes, index_bits, istart, r, a, b, out_values, out_rows);
+        put_element(
+            rows,
+            rstart,
+            n,
+            values,
+            elements,
+            estart,
+            indexes,
+            index_bits,
+            istart,
+            r,
+            a,
+            b,
+            out_values,
+            out_rows,
+        );
         r += 1;
         left -= 1;
     }
@@ -287,7 +342,19 @@ pub fn general_array_element(
     if !checks::has_value_room(n, out_values.len(), out_rows.len()) {
         return ValueAnswer::Refused(9);
     }
-    write_elements(offsets, rows, 0, values, elements, 0, indexes, index_bits, 0, out_values, out_rows);
+    write_elements(
+        offsets,
+        rows,
+        0,
+        values,
+        elements,
+        0,
+        indexes,
+        index_bits,
+        0,
+        out_values,
+        out_rows,
+    );
     answers::value_answer(out_rows, n)
 }
 
@@ -303,7 +370,19 @@ pub fn general_pop_front_list(
 ) -> ListAnswer
     ensures { λ a. ⌜ ListAnswers (listOutcome narrow (unary Unary.PopFront (lent offsets rows values elements))) a «out_offsets» «out_rows» «out_values» «out_elements» ⌝ }
 {
-    walk::run(Unary::PopFront, offsets, rows, 0, values, elements, 0, out_offsets, out_rows, out_values, out_elements)
+    walk::run(
+        Unary::PopFront,
+        offsets,
+        rows,
+        0,
+        values,
+        elements,
+        0,
+        out_offsets,
+        out_rows,
+        out_values,
+        out_elements,
+    )
 }
 
 pub fn general_pop_back_list(
@@ -318,5 +397,17 @@ pub fn general_pop_back_list(
 ) -> ListAnswer
     ensures { λ a. ⌜ ListAnswers (listOutcome narrow (unary Unary.PopBack (lent offsets rows values elements))) a «out_offsets» «out_rows» «out_values» «out_elements» ⌝ }
 {
-    walk::run(Unary::PopBack, offsets, rows, 0, values, elements, 0, out_offsets, out_rows, out_values, out_elements)
+    walk::run(
+        Unary::PopBack,
+        offsets,
+        rows,
+        0,
+        values,
+        elements,
+        0,
+        out_offsets,
+        out_rows,
+        out_values,
+        out_elements,
+    )
 }

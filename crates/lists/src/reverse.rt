@@ -1,7 +1,8 @@
 // Reverse: each row's elements, last first.
 use crate::walk;
 use column::elements;
-use model::{ListAnswer, Unary};
+use model::ListAnswer;
+use model::Unary;
 ghost use Rattle.column.specs.Put.{Place, Source, Written};
 ghost use Rattle.model.specs.Basics.{tab};
 ghost use Rattle.model.specs.Bitmap.{from};
@@ -32,7 +33,15 @@ pub(crate) fn write_backward(
     let mut k = at;
     while 0 < left {
         left -= 1;
-        elements::write_elem(values, elements, estart, a + left, out_values, out_elements, k);
+        elements::write_elem(
+            values,
+            elements,
+            estart,
+            a + left,
+            out_values,
+            out_elements,
+            k,
+        );
         k += 1;
     }
     k
@@ -50,5 +59,17 @@ pub fn general_array_reverse(
 ) -> ListAnswer
     ensures { λ a. ⌜ ListAnswers (listOutcome narrow (unary Unary.Reverse (lent offsets rows values elements))) a «out_offsets» «out_rows» «out_values» «out_elements» ⌝ }
 {
-    walk::run(Unary::Reverse, offsets, rows, 0, values, elements, 0, out_offsets, out_rows, out_values, out_elements)
+    walk::run(
+        Unary::Reverse,
+        offsets,
+        rows,
+        0,
+        values,
+        elements,
+        0,
+        out_offsets,
+        out_rows,
+        out_values,
+        out_elements,
+    )
 }

@@ -2,9 +2,9 @@
 use crate::utils;
 use crate::walk;
 use column::elements;
-use model::{ListAnswer, Unary};
-ghost use Prim.Native.Nat.{_+_, _≤_};
-ghost use Rattle.bitmap.specs.Push.{Covers};
+use model::ListAnswer;
+use model::Unary;
+ghost use Prim.Native.Nat.{_+_};
 ghost use Rattle.column.specs.Put.{Place, Source, Written};
 ghost use Rattle.model.specs.Basics.{tab};
 ghost use Rattle.model.specs.Bitmap.{from};
@@ -18,7 +18,13 @@ ghost use lib.ListN.{length};
 ghost use mathlib.Core.Path.{_≡_};
 
 // How many of the n elements from element a on are first occurrences.
-pub(crate) fn measure_distinct(values: &[i64], elements: &[u8], estart: usize, a: usize, n: usize) -> usize
+pub(crate) fn measure_distinct(
+    values: &[i64],
+    elements: &[u8],
+    estart: usize,
+    a: usize,
+    n: usize,
+) -> usize
     requires column { ⌜ Source (now values) (from estart (now elements)) a n ⌝ }
     ensures { λ r. ⌜ r ≡ length (distinct (tab (elemAt (now (values .entry)) (from estart (now (elements .entry)))) a n)) ⌝ }
 {
@@ -76,5 +82,17 @@ pub fn general_array_distinct(
 ) -> ListAnswer
     ensures { λ a. ⌜ ListAnswers (listOutcome narrow (unary Unary.Distinct (lent offsets rows values elements))) a «out_offsets» «out_rows» «out_values» «out_elements» ⌝ }
 {
-    walk::run(Unary::Distinct, offsets, rows, 0, values, elements, 0, out_offsets, out_rows, out_values, out_elements)
+    walk::run(
+        Unary::Distinct,
+        offsets,
+        rows,
+        0,
+        values,
+        elements,
+        0,
+        out_offsets,
+        out_rows,
+        out_values,
+        out_elements,
+    )
 }

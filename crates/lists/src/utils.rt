@@ -37,7 +37,14 @@ fn same_elem(values: &[i64], elements: &[u8], estart: usize, i: usize, j: usize)
 }
 
 // Whether element i is among the k elements from element a on.
-pub(crate) fn is_among(values: &[i64], elements: &[u8], estart: usize, i: usize, a: usize, k: usize) -> bool
+pub(crate) fn is_among(
+    values: &[i64],
+    elements: &[u8],
+    estart: usize,
+    i: usize,
+    a: usize,
+    k: usize,
+) -> bool
     requires { ⌜ i < length (now values) ⌝ }
     requires { ⌜ a + k ≤ length (now values) ⌝ }
     requires { ⌜ Covers (from estart (now elements)) (length (now values)) ⌝ }

@@ -2,8 +2,11 @@
 use crate::reverse;
 use crate::set_ops;
 use crate::utils;
-use column::{answers, checks, offsets};
-use model::{ListAnswer, Unary};
+use column::answers;
+use column::checks;
+use column::offsets;
+use model::ListAnswer;
+use model::Unary;
 ghost use Prim.Native.Nat.{_<_, _≤_};
 ghost use Rattle.bitmap.specs.Push.{Covers};
 ghost use Rattle.column.specs.Put.{HasRoom, Holds, Place, Readable, Source, Written};
@@ -20,19 +23,6 @@ ghost use Rattle.model.specs.Outcome.{listOutcome};
 ghost use Rattle.model.specs.Rows.{onRow, unary};
 ghost use lib.ListN.{length};
 ghost use mathlib.Core.Path.{_≡_};
-
-// The number of elements that row r of n shows: none where it is null.
-pub(crate) fn row_len(rows: &[u8], rstart: usize, n: usize, r: usize, a: usize, b: usize) -> usize
-    requires { ⌜ Covers (from rstart (now rows)) n ⌝ }
-    requires { ⌜ r < n ⌝ }
-    requires { ⌜ a ≤ b ⌝ }
-    ensures { λ k. ⌜ k ≡ lenFrom (from rstart (now (rows .entry))) r a b ⌝ }
-{
-    if bitmap::is_valid(rows, rstart, r, n) {
-        return b - a;
-    }
-    0
-}
 
 // The number of elements that the operation makes of the n elements from element a on.
 fn measure(op: Unary, values: &[i64], elements: &[u8], estart: usize, a: usize, n: usize) -> usize
@@ -65,19 +55,66 @@ fn write_made(
 {
     let k = utils::one_less(n);
     match op {
-        Unary::Reverse => reverse::write_backward(values, elements, estart, a, n, out_values, out_elements, at),
-        Unary::Distinct => set_ops::write_distinct(values, elements, estart, a, n, out_values, out_elements, at),
-        Unary::PopFront => utils::write_forward(values, elements, estart, a + (n - k), k, out_values, out_elements, at),
-        Unary::PopBack => utils::write_forward(values, elements, estart, a, k, out_values, out_elements, at),
+        Unary::Reverse => reverse::write_backward(
+            values,
+            elements,
+            estart,
+            a,
+            n,
+            out_values,
+            out_elements,
+            at,
+        ),
+        Unary::Distinct => set_ops::write_distinct(
+            values,
+            elements,
+            estart,
+            a,
+            n,
+            out_values,
+            out_elements,
+            at,
+        ),
+        Unary::PopFront => utils::write_forward(
+            values,
+            elements,
+            estart,
+            a + (n - k),
+            k,
+            out_values,
+            out_elements,
+            at,
+        ),
+        Unary::PopBack => utils::write_forward(
+            values,
+            elements,
+            estart,
+            a,
+            k,
+            out_values,
+            out_elements,
+            at,
+        ),
     }
 }
 
 // The number of elements that the operation makes of row r.
-fn measure_row(op: Unary, rows: &[u8], rstart: usize, n: usize, values: &[i64], elements: &[u8], estart: usize, r: usize, a: usize, b: usize) -> usize
+fn measure_row(
+    op: Unary,
+    rows: &[u8],
+    rstart: usize,
+    n: usize,
+    values: &[i64],
+    elements: &[u8],
+    estart: usize,
+    r: usize,
+    a: usize,
+    b: usize,
+) -> usize
     requires column { ⌜ Between (from rstart (now rows)) n (now values) (from estart (now elements)) r a b ⌝ }
     ensures { λ k. ⌜ k ≡ length (elemsOf (onRow (unaryElems op) (rowFrom (from rstart (now (rows .entry))) (elemAt (now (values .entry)) (from estart (now (elements .entry)))) r a b))) ⌝ }
 {
-    let k = row_len(rows, rstart, n, r, a, b);
+    let k = column::rows::row_len(rows, rstart, n, r, a, b);
     measure(op, values, elements, estart, a, k)
 }
 
@@ -103,14 +140,32 @@ fn put_row(
     ensures { λ k. ⌜ PutsRow (onRow (unaryElems op) (rowFrom (from rstart (now (rows .entry))) (elemAt (now (values .entry)) (from estart (now (elements .entry)))) r a b)) r at (now («out_rows» .entry)) (now («out_rows» .exit)) (now («out_values» .entry)) (now («out_values» .exit)) (now («out_elements» .entry)) (now («out_elements» .exit)) k ⌝ }
 {
     let valid = bitmap::is_valid(rows, rstart, r, n);
-    let k = row_len(rows, rstart, n, r, a, b);
-    let next = write_made(op, values, elements, estart, a, k, out_values, out_elements, at);
+    let k = column::rows::row_len(rows, rstart, n, r, a, b);
+    let next = write_made(
+        op,
+        values,
+        elements,
+        estart,
+        a,
+        k,
+        out_values,
+        out_elements,
+        at,
+    );
     bitmap::push_bit(out_rows, r, valid);
     next
 }
 
 // The number of elements that the operation makes.
-fn measure_rows(op: Unary, offsets: &[i32], rows: &[u8], rstart: usize, values: &[i64], elements: &[u8], estart: usize) -> usize
+fn measure_rows(
+    op: Unary,
+    offsets: &[i32],
+    rows: &[u8],
+    rstart: usize,
+    values: &[i64],
+    elements: &[u8],
+    estart: usize,
+) -> usize
     requires column { ⌜ Readable (column (now offsets) (from rstart (now rows)) (now values) (from estart (now elements))) ⌝ }
     ensures { λ m. ⌜ m ≡ length (flat (unaryRows op (column (now (offsets .entry)) (from rstart (now (rows .entry))) (now (values .entry)) (from estart (now (elements .entry)))))) ⌝ }
     ensures { λ m. ⌜ m ≤ narrow .offset ⌝ }
@@ -157,7 +212,22 @@ fn write_rows(
     while 0 < left {
         let a = offsets::offset_at(offsets, r);
         let b = offsets::offset_at(offsets, r + 1);
-        at = put_row(op, rows, rstart, n, values, elements, estart, r, a, b, out_rows, out_values, out_elements, at);
+        at = put_row(
+            op,
+            rows,
+            rstart,
+            n,
+            values,
+            elements,
+            estart,
+            r,
+            a,
+            b,
+            out_rows,
+            out_values,
+            out_elements,
+            at,
+        );
         offsets::put_offset(out_offsets, r + 1, at);
         r += 1;
         left -= 1;
@@ -188,9 +258,28 @@ pub(crate) fn run(
     }
     let n = offsets::row_count(offsets);
     let m = measure_rows(op, offsets, rows, rstart, values, elements, estart);
-    if !checks::has_room(n, m, out_offsets.len(), out_rows.len(), out_values.len(), out_elements.len()) {
+    if !checks::has_room(
+        n,
+        m,
+        out_offsets.len(),
+        out_rows.len(),
+        out_values.len(),
+        out_elements.len(),
+    ) {
         return ListAnswer::Refused(9);
     }
-    write_rows(op, offsets, rows, rstart, values, elements, estart, out_offsets, out_rows, out_values, out_elements);
+    write_rows(
+        op,
+        offsets,
+        rows,
+        rstart,
+        values,
+        elements,
+        estart,
+        out_offsets,
+        out_rows,
+        out_values,
+        out_elements,
+    );
     answers::list_answer(out_rows, n, out_elements, m)
 }

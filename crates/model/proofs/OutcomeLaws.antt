@@ -2,12 +2,11 @@
 -- refusals.
 use Prim.Native.Nat.{ℕ}
 use mathlib.Core.Path.{_≡_, refl}
-use mathlib.Core.Bool.{Bool, true, false}
+use mathlib.Core.Bool.{Bool, false}
 use mathlib.Core.List.{List}
-use lib.Dec.{eqb}
-use Rattle.model.specs.Basics.{pick, any, All, none, more}
+use Rattle.model.specs.Basics.{any, All, none, more}
 use Rattle.model.specs.Column.{Column, Arguments, refusal1, refusal2, refusal2ᵃ, WellFormed, WellFormedᵃ}
-use Rattle.model.specs.Outcome.{Outcome, refused, gate, columnsRefusal}
+use Rattle.model.specs.Outcome.{Outcome, gate, columnsRefusal}
 
 -- a test that fails at each element holds of none
 any-none : {A : Type 0} {P : A → Type 0} {xs : List A} (p : A → Bool) → ((x : A) → P x → p x ≡ false) → All P xs → any p xs ≡ false

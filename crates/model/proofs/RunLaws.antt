@@ -1,6 +1,6 @@
 -- A run that meets its contract ends in what the definitions say of its call.
-use mathlib.Core.Path.{_≡_, refl, sym, ap, _∙_}
-use mathlib.Core.List.{List, [], _∷_, _++_, map}
+use mathlib.Core.Path.{_≡_, sym}
+use mathlib.Core.List.{List, map}
 use Prim.Native.Nat.{ℕ, _+_}
 use native.Mathlib.Omega.{arith}
 use lib.ListN.{length, take, drop}
@@ -11,7 +11,7 @@ use Rattle.model.specs.Limits.{Limits}
 use Rattle.model.specs.Column.{Elem, Row, Column, Arguments}
 use Rattle.model.specs.Form.{isVal, isRow, valueOf, flat, lengthOf, over, formOffsets, formRows, formValues, formElements}
 use Rattle.model.specs.Outcome.{Outcome, refused, made}
-use Rattle.model.specs.Call.{Call, list, anyValue, element, Answer, refusal, counts, answerOf, written, listCounts, valueCounts, End, listNumbers, listBitmaps, listEnd, valueEnd, end}
+use Rattle.model.specs.Call.{Call, answerOf, written, End, listNumbers, listBitmaps, listEnd, valueEnd, end}
 use Rattle.model.specs.Contract.{told, toldValue, ListMeets, ValueMeets}
 use Rattle.model.specs.Run.{listRunEnd, valueRunEnd, Run, listRun, anyValueRun, elementRun}
 use Rattle.model.specs.declared.ListAnswer.{ListAnswer}

@@ -108,13 +108,14 @@ repeatEnd x =
 -- "Trays are all zero after any call."
 unfoldable pub recipeEnd : Outcome (List Row) → Room → Room → Tally → End
 recipeEnd x a b t =
-    record
-    { answer = answerOf listCounts x;
+    record {
+      answer = answerOf listCounts x;
       numbers = listNumbers x;
       bitmaps = listBitmaps x;
       tray-numbers = replicate (a .offsets) (pos 0) ∷ replicate (a .values) (pos 0) ∷ replicate (b .offsets) (pos 0) ∷ replicate (b .values) (pos 0) ∷ [];
       tray-bitmaps = replicate (a .rows) 0 ∷ replicate (a .elements) 0 ∷ replicate (b .rows) 0 ∷ replicate (b .elements) 0 ∷ [];
-      tally = given (tallied x t) }
+      tally = given (tallied x t);
+    }
 
 -- what a call ends in, from the columns lent: contracts name the same outcomes
 unfoldable pub end : Limits → Call Column Arguments → End

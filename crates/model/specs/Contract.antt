@@ -9,7 +9,7 @@ use denote.Triple.Both.{Both}
 use Rattle.model.specs.Bitmap.{from}
 use Rattle.model.specs.Column.{Elem, Row, Column, column, Arguments, arguments}
 use Rattle.model.specs.Form.{Room, ValueRoom, flat, over, formOffsets, formRows, formValues, formElements}
-use Rattle.model.specs.Outcome.{Outcome, refused, made}
+use Rattle.model.specs.Outcome.{Outcome}
 use Rattle.model.specs.Call.{Answer, refusal, counts, answerOf, written, listCounts, valueCounts}
 use Rattle.model.specs.declared.ListAnswer.{ListAnswer}
 use Rattle.model.specs.declared.ListAnswer.the-variants as L

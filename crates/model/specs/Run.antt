@@ -31,8 +31,8 @@ valueRunEnd (V′.Counts n p) v r = operationEnd (counts (n ∷ p ∷ [])) (take
 -- a run of a call that ended so: the contract of its function holds of it (list-repeat and recipes add their own with their contracts)
 pub data Run (L : Limits) : Call Column Arguments → End → Type 0 where
   listRun : {q : ListCall Column Arguments} {l : Room} {a : ListAnswer} {o o′ : List ℤ} {r r′ : List ℕ} {v v′ : List ℤ} {e e′ : List ℕ}
-    → ListMeets (listOutcome L q l) a o o′ r r′ v v′ e e′ → Run L (list q l) (listRunEnd a o′ r′ v′ e′)
+      → ListMeets (listOutcome L q l) a o o′ r r′ v v′ e e′ → Run L (list q l) (listRunEnd a o′ r′ v′ e′)
   anyValueRun : {c : Column} {l : ValueRoom} {a : ValueAnswer} {v v′ : List ℤ} {r r′ : List ℕ}
-    → ValueMeets (anyValueOutcome c l) a v v′ r r′ → Run L (anyValue c l) (valueRunEnd a v′ r′)
+      → ValueMeets (anyValueOutcome c l) a v v′ r r′ → Run L (anyValue c l) (valueRunEnd a v′ r′)
   elementRun : {c : Column} {x : Arguments} {l : ValueRoom} {a : ValueAnswer} {v v′ : List ℤ} {r r′ : List ℕ}
-    → ValueMeets (elementOutcome L c x l) a v v′ r r′ → Run L (element c x l) (valueRunEnd a v′ r′)
+      → ValueMeets (elementOutcome L c x l) a v v′ r r′ → Run L (element c x l) (valueRunEnd a v′ r′)

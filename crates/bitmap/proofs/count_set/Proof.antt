@@ -1,8 +1,7 @@
-use mathlib.Core.Path.{_≡_, refl, sym, ap, _∙_}
-use Prim.Native.Nat.{ℕ, suc, _+_, _-_, _*_, _%_, _^_, _≤_, _<_}
+use mathlib.Core.Path.{_≡_}
+use Prim.Native.Nat.{_+_, _*_, _≤_}
 use native.Mathlib.Omega.{arith}
-use lib.ListN.{length, getD}
-use lib.Count.{ones}
+use lib.ListN.{getD}
 use Rattle.bitmap.specs.Push.{trues}
 use Rattle.model.specs.Bitmap.{bitAt}
 use Rattle.model.specs.Basics.{tab}

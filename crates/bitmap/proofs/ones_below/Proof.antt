@@ -1,10 +1,10 @@
-use mathlib.Core.Path.{_≡_, refl, sym, ap, _∙_}
-use Prim.Native.Nat.{ℕ, suc, _+_, _-_, _*_, _%_, _^_, _≤_, _<_}
+use mathlib.Core.Path.{_≡_, _∙_}
+use Prim.Native.Nat.{_*_, _%_, _^_}
 use native.Mathlib.Omega.{arith}
 use native.Mathlib.Nat.{mod-eq-of-lt}
 use lib.Bits.{and-mask}
 use lib.Pow.{pow-pos, shl-exact}
-use lib.Count.{ones, ones-le}
+use lib.Count.{ones-le}
 use Rattle.bitmap.proofs.OnesLaws.{ones-mod-le}
 use borrow.Author.Needs.{needs}
 use Rattle.bitmap.proofs.ones_below.Statement.{statement}

@@ -1,36 +1,27 @@
 use Rattle.column.specs.Answers.{listAnswerFrom}
-use mathlib.Core.Path.{_≡_}
 use native.Mathlib.Omega.{arith}
 use Rattle.model.specs.Bitmap.{bitAt}
 use Rattle.bitmap.proofs.OnesLaws.{trues-tab}
 use borrow.Author.Needs.{needs}
 use Rattle.column.proofs.answers.list_answer.Statement.{statement}
 use Rattle.column.proofs.answers.list_answer.Tie as tie
-use Rattle.column.proofs.answers.list_answer.Reads as reads
-use Rattle.column.proofs.answers.list_answer.Lts as lts
-use Rattle.bitmap.proofs.count_set.Reads as count-set-reads
 
--- src/answers.rt:15:9
 count-set-requires : tie.Need-count-set-requires
 count-set-requires c κs = search needs
 
--- src/answers.rt:16:9
 count-set-requires-2 : tie.Need-count-set-requires-2
 count-set-requires-2 c κs = search needs
 
--- src/answers.rt:17:21
 sub-null-rows : tie.Need-sub-null-rows
 sub-null-rows c =
     let a = c .before .before .before .before .args in
     omega (arith, trues-tab (bitAt (a .out-rows .now)) 0 (a .n), c .before .count-set .ensures)
 
--- src/answers.rt:18:25
 sub-null-elements : tie.Need-sub-null-elements
 sub-null-elements c =
     let a = c .before .before .before .before .args in
     omega (arith, trues-tab (bitAt (a .out-elements .now)) 0 (a .m), c .count-set2 .ensures)
 
--- src/answers.rt:10:1
 returns : tie.Need-returns
 unfolding listAnswerFrom
 returns c = rw (c .before .count-set .ensures, c .count-set2 .ensures)

@@ -1,26 +1,19 @@
 use Rattle.column.specs.Answers.{valueAnswerFrom}
-use mathlib.Core.Path.{_≡_}
 use native.Mathlib.Omega.{arith}
 use Rattle.model.specs.Bitmap.{bitAt}
 use Rattle.bitmap.proofs.OnesLaws.{trues-tab}
 use borrow.Author.Needs.{needs}
 use Rattle.column.proofs.answers.value_answer.Statement.{statement}
 use Rattle.column.proofs.answers.value_answer.Tie as tie
-use Rattle.column.proofs.answers.value_answer.Reads as reads
-use Rattle.column.proofs.answers.value_answer.Lts as lts
-use Rattle.bitmap.proofs.count_set.Reads as count-set-reads
 
--- src/answers.rt:32:9
 count-set-requires : tie.Need-count-set-requires
 count-set-requires c κs = search needs
 
--- src/answers.rt:33:21
 sub-null-rows : tie.Need-sub-null-rows
 sub-null-rows c =
     let a = c .before .before .args in
     omega (arith, trues-tab (bitAt (a .out-rows .now)) 0 (a .n), c .count-set .ensures)
 
--- src/answers.rt:28:1
 returns : tie.Need-returns
 unfolding valueAnswerFrom
 returns c = rw (c .count-set .ensures)

@@ -1,52 +1,38 @@
 use Rattle.model.specs.Outcome.{columnsRefusal}
 use Rattle.model.specs.Column.{refusal2}
 use Rattle.model.specs.Basics.{any}
-use mathlib.Core.Path.{_≡_, refl, sym, ap, _∙_}
 use borrow.Author.Needs.{needs}
 use Rattle.column.proofs.checks.list_refusal.Statement.{statement}
 use Rattle.column.proofs.checks.list_refusal.Tie as tie
-use Rattle.column.proofs.checks.list_refusal.Reads as reads
-use Rattle.column.proofs.checks.list_refusal.Lts as lts
-use Rattle.bitmap.proofs.is_short.Reads as is-short-reads
-use Rattle.column.proofs.offsets.are_bad.Reads as are-bad-reads
-use Rattle.column.proofs.offsets.row_count.Reads as row-count-reads
 
--- src/checks.rt:18:8
 are-bad-requires : tie.Need-are-bad-requires
 are-bad-requires c κs = search needs
 
--- src/checks.rt:19:9
 returns : tie.Need-returns
 unfolding columnsRefusal any
 returns c = rw (← c .before .are-bad .ensures, c .if1 .taken)
 
--- src/checks.rt:21:39
 row-count-requires : tie.Need-row-count-requires
 row-count-requires c κs = search needs
 
--- src/checks.rt:21:8
 is-short-requires : tie.Need-is-short-requires
 is-short-requires c κs = search needs
 
--- src/checks.rt:22:9
 returns-2 : tie.Need-returns-2
 unfolding columnsRefusal any refusal2
 returns-2 c =
     let s = rw (c .before .before .row-count .ensures) at (c .before .is-short .ensures) in
     rw (← c .before .before .before .before .are-bad .ensures, c .before .before .before .if1 .left, ← s, c .if2 .taken)
 
--- src/checks.rt:24:8
 is-short-requires-2 : tie.Need-is-short-requires-2
 is-short-requires-2 c κs = search needs
 
--- src/checks.rt:25:9
 returns-3 : tie.Need-returns-3
 unfolding columnsRefusal any refusal2
 returns-3 c =
     let s = rw (c .before .before .before .before .row-count .ensures) at (c .before .before .before .is-short .ensures) in
     rw (← c .before .before .before .before .before .before .are-bad .ensures, c .before .before .before .before .before .if1 .left, ← s, c .before .before .if2 .left, ← c .before .is-short2 .ensures, c .if3 .taken)
 
--- src/checks.rt:13:1
 returns-4 : tie.Need-returns-4
 unfolding columnsRefusal any refusal2
 returns-4 c =

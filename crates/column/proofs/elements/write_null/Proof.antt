@@ -2,28 +2,19 @@ use Rattle.model.specs.Form.{isVal, valueOf}
 use borrow.Author.Needs.{needs}
 use Rattle.column.proofs.elements.write_null.Statement.{statement}
 use Rattle.column.proofs.elements.write_null.Tie as tie
-use Rattle.column.proofs.elements.write_null.Reads as reads
-use Rattle.column.proofs.elements.write_null.Lts as lts
-use Rattle.bitmap.proofs.push_bit.Reads as push-bit-reads
-use Rattle.column.proofs.elements.put_value.Reads as put-value-reads
 
--- src/elements.rt:64:5
 put-value-requires : tie.Need-put-value-requires
 put-value-requires c κs = search needs
 
--- src/elements.rt:65:5
 push-bit-requires : tie.Need-push-bit-requires
 push-bit-requires c κs = search needs
 
--- src/elements.rt:58:1
 same-length : tie.Need-same-length
 same-length c = search needs
 
--- src/elements.rt:58:1
 same-length-2 : tie.Need-same-length-2
 same-length-2 c = search needs
 
--- src/elements.rt:58:1
 returns : tie.Need-returns
 unfolding isVal valueOf
 returns c = (c .before .before .before .before .before .put-value .ensures, c .before .before .push-bit .ensures)

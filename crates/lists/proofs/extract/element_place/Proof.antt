@@ -1,6 +1,6 @@
 use Rattle.index.specs.Place.{bound, indexBound}
 use Rattle.model.specs.Limits.{narrow}
-use lib.ListN.{length, getD}
+use lib.ListN.{getD}
 use lib.IntN.{pos}
 use mir.Facts.{toZ-pos}
 use Rattle.model.specs.Column.{count, elemAt}
@@ -11,17 +11,11 @@ use Rattle.index.proofs.SignedLaws.{read-back}
 use mir.Syntax.{w32, w64}
 use borrow.Author.Tests.{not-true, not-false}
 use Rattle.model.specs.Bitmap.{from}
-use Rattle.model.specs.Basics.{tab}
 use native.Mathlib.Omega.{arith}
-use Prim.Native.Nat.{ℕ, _+_, _-_, _<_, _≤_}
-use mathlib.Core.Path.{_≡_, refl, sym, ap, _∙_}
+use mathlib.Core.Path.{_≡_, sym, _∙_}
 use borrow.Author.Needs.{needs}
 use Rattle.lists.proofs.extract.element_place.Statement.{statement}
 use Rattle.lists.proofs.extract.element_place.Tie as tie
-use Rattle.lists.proofs.extract.element_place.Reads as reads
-use Rattle.lists.proofs.extract.element_place.Lts as lts
-use Rattle.bitmap.proofs.is_valid.Reads as is-valid-reads
-use Rattle.index.proofs.adjusted_array_index.Reads as adjusted-array-index-reads
 
 -- what the index crate promises, of the number read and of the length
 ens : (c : tie.After-adjusted-array-index) → let a = c .before .before .before .before .before .args in c .adjusted-array-index .result ≡ bound (indexBound narrow (a .k) (getD (a .indexes .now) (a .r) (pos 0)))
@@ -37,75 +31,58 @@ points c = let s = c .before .before .before .before .before .before .before .be
 valid : (c : tie.Else1) → let a = c .before .before .before .args in elementPlace (elemAt (a .indexes .now) (from (a .istart) (a .index-bits .now)) (a .r)) (a .a) (a .k) ≡ boundPlace (indexBound narrow (a .k) (getD (a .indexes .now) (a .r) (pos 0))) (a .a) (a .k)
 valid c = let a = c .before .before .before .args in place-valid (a .indexes .now) (from (a .istart) (a .index-bits .now)) (a .r) (a .a) (a .k) (sym (c .before .is-valid .ensures) ∙ not-false _ (c .if1 .left))
 
--- src/extract.rt:185:9
 is-valid-requires : tie.Need-is-valid-requires
 is-valid-requires c κs = search needs
 
--- src/extract.rt:186:16
 add-result : tie.Need-add-result
 add-result c = search needs
 
--- src/extract.rt:186:9
 returns : tie.Need-returns
 returns c =
     let a = c .before .before .before .args in
     sym (place-null (a .indexes .now) (from (a .istart) (a .index-bits .now)) (a .r) (a .a) (a .k) (sym (c .before .is-valid .ensures) ∙ not-true _ (c .if1 .taken)))
 
--- src/extract.rt:188:45
 mul-adjusted-array-index : tie.Need-mul-adjusted-array-index
 mul-adjusted-array-index c = search needs
 
--- src/extract.rt:188:45
 shared-slice-copy-out-adjusted-array-index : tie.Need-shared-slice-copy-out-adjusted-array-index
 shared-slice-copy-out-adjusted-array-index c = search needs
 
--- src/extract.rt:188:57
 cast-adjusted-array-index : tie.Need-cast-adjusted-array-index
 cast-adjusted-array-index c = search needs
 
--- src/extract.rt:188:9
 adjusted-array-index-requires : tie.Need-adjusted-array-index-requires
 adjusted-array-index-requires c κs = search needs
 
--- src/extract.rt:190:25
 enum-told : tie.Need-enum-told
 enum-told c = search needs
 
--- src/extract.rt:190:25
 add-result-2 : tie.Need-add-result-2
 add-result-2 c = search needs
 
--- src/extract.rt:191:27
 enum-told-2 : tie.Need-enum-told-2
 enum-told-2 c = search needs
 
--- src/extract.rt:191:27
 add-result-3 : tie.Need-add-result-3
 add-result-3 c = search needs
 
--- src/extract.rt:192:19
 enum-known-found : tie.Need-enum-known-found
 enum-known-found c = search needs
 
--- src/extract.rt:192:30
 cast-result : tie.Need-cast-result
 cast-result c = let p = points c in rw (read-back w32 _ (p .fits-signed)) (p .natural, p .fits-usize)
 
--- src/extract.rt:192:25
 add-result-4 : tie.Need-add-result-4
 add-result-4 c = let p = points c in let s = c .before .before .before .before .before .before .before .before in rw (read-back w32 _ (p .fits-signed)) (record { fits = omega (arith, p .inside, s .pre .1 .1 .1 .0, s .pre .1 .1 .1 .1) })
 
--- src/extract.rt:177:1
 returns-2 : tie.Need-returns-2
 unfolding boundPlace
 returns-2 c = sym (valid (c .before .before .before .before) ∙ rw (bound-unfit _ (sym (c .enum-told .given .1) ∙ ens (c .before .before))))
 
--- src/extract.rt:177:1
 returns-3 : tie.Need-returns-3
 unfolding boundPlace
 returns-3 c = sym (valid (c .before .before .before .before) ∙ rw (bound-outside _ (sym (c .enum-told2 .given .1) ∙ ens (c .before .before))))
 
--- src/extract.rt:177:1
 returns-4 : tie.Need-returns-4
 unfolding boundPlace
 returns-4 c = let p = points c in sym (valid (c .before .before .before .before .before) ∙ rw (p .is-place, read-back w32 _ (p .fits-signed)))

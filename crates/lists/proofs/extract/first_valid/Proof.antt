@@ -4,15 +4,11 @@ use Rattle.model.specs.Elements.{firstValid}
 use Rattle.model.specs.Column.{elemAt}
 use Rattle.model.specs.Bitmap.{from}
 use Rattle.model.specs.Basics.{tab}
-use lib.ListN.{length}
 use native.Mathlib.Omega.{arith}
-use Prim.Native.Nat.{ℕ, _+_, _-_, _<_, _≤_}
-use mathlib.Core.Path.{_≡_, refl, sym, ap, _∙_}
+use Prim.Native.Nat.{_+_}
+use mathlib.Core.Path.{_≡_, refl, sym, _∙_}
 use Rattle.lists.proofs.extract.first_valid.Statement.{statement}
 use Rattle.lists.proofs.extract.first_valid.Tie as tie
-use Rattle.lists.proofs.extract.first_valid.Reads as reads
-use Rattle.lists.proofs.extract.first_valid.Lts as lts
-use Rattle.bitmap.proofs.is_valid.Reads as is-valid-reads
 
 abbrev Inv-loop : tie.InvT-loop
 Inv-loop values elements estart a n p₀ left₀ p left = (firstValid (tab (elemAt values (from estart elements)) p left) ≡ firstValid (tab (elemAt values (from estart elements)) a n)) × (p + left ≡ a + n)
@@ -20,15 +16,12 @@ Inv-loop values elements estart a n p₀ left₀ p left = (firstValid (tab (elem
 abbrev μ-loop : tie.MeasureT-loop
 μ-loop values elements estart a n p₀ left₀ p left = left
 
--- src/extract.rt:55:5
 loop-holds : tie.Need-loop-holds Inv-loop μ-loop
 loop-holds c = (refl, refl)
 
--- src/extract.rt:56:12
 is-valid-requires : tie.Need-is-valid-requires Inv-loop μ-loop
 is-valid-requires c κs = let s = c .before .before .before in (s .pre .bits, omega (arith, c, s .pre .inside))
 
--- src/extract.rt:57:13
 returns : tie.Need-returns Inv-loop μ-loop
 returns c =
     let i = c .before .before in
@@ -38,19 +31,15 @@ returns c =
     let v = isVal-elem (a .values .now) (from (a .estart) (a .elements .now)) (l .p) ∙ sym (c .before .is-valid .ensures) ∙ c .if1 .taken in
     record { inside = omega (arith, i); found = found-here E (l .p) _ (omega (arith, i)) ∙ sym (first-now E (l .p) (l .left) (i .loop-test .taken) v) ∙ l .inv .0 }
 
--- src/extract.rt:59:9
 add-p : tie.Need-add-p Inv-loop μ-loop
 add-p c = omega (arith, c .before .before, c .before .before .before .before .before .pre .inside)
 
--- src/extract.rt:60:9
 sub-left : tie.Need-sub-left Inv-loop μ-loop
 sub-left c = omega (arith, c .before .before)
 
--- src/extract.rt:55:5
 loop-less : tie.Need-loop-less Inv-loop μ-loop
 loop-less c = omega (arith, c .before .before)
 
--- src/extract.rt:55:5
 loop-again : tie.Need-loop-again Inv-loop μ-loop
 loop-again c =
     let i = c .before .before in
@@ -60,7 +49,6 @@ loop-again c =
     let v = isVal-elem (a .values .now) (from (a .estart) (a .elements .now)) (l .p) ∙ sym (c .before .is-valid .ensures) ∙ c .if1 .left in
     (sym (first-on E (l .p) (l .left) (i .loop-test .taken) v) ∙ l .inv .0, omega (arith, i))
 
--- src/extract.rt:49:1
 returns-2 : tie.Need-returns-2 Inv-loop μ-loop
 returns-2 c =
     let l = c .before .loop in

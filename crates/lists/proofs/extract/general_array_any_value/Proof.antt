@@ -1,12 +1,11 @@
 use borrow.Author.Needs.{needs}
 use borrow.Author.Tests.{not-true, not-false}
-use mathlib.Core.Path.{_≡_, refl, sym, ap, _∙_}
-use mathlib.Core.List.{List, [], _∷_}
-use Prim.Native.Nat.{ℕ, _<_, _≤_}
+use mathlib.Core.Path.{_≡_, sym, _∙_}
+use Prim.Native.Nat.{_≤_}
 use native.Mathlib.Omega.{arith}
 use lib.ListN.{length}
 use Rattle.model.specs.Bitmap.{from, bytesFor}
-use Rattle.model.specs.Column.{Elem, Column, column}
+use Rattle.model.specs.Column.{Column, column}
 use Rattle.model.specs.Contract.{valueRoom}
 use Rattle.model.specs.Form.{ValueRoom, fitsValues}
 use Rattle.model.specs.Outcome.{anyValueOutcome, fittedValues}

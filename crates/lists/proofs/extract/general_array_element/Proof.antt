@@ -1,13 +1,12 @@
 use borrow.Author.Needs.{needs}
 use borrow.Author.Tests.{not-true, not-false}
-use mathlib.Core.Path.{_≡_, refl, sym, ap, _∙_}
-use mathlib.Core.List.{List, [], _∷_}
-use Prim.Native.Nat.{ℕ, _<_, _≤_}
+use mathlib.Core.Path.{_≡_, sym, ap, _∙_}
+use Prim.Native.Nat.{ℕ, _≤_}
 use native.Mathlib.Omega.{arith}
 use lib.ListN.{length}
 use Rattle.model.specs.Basics.{tab}
 use Rattle.model.specs.Bitmap.{Bits, from, bytesFor}
-use Rattle.model.specs.Column.{Elem, Column, column, Arguments, arguments, rowsOf, shownBy, rowCount}
+use Rattle.model.specs.Column.{Column, column, Arguments, arguments, rowsOf, shownBy, rowCount}
 use Rattle.model.specs.Contract.{valueRoom}
 use Rattle.model.specs.Form.{ValueRoom, fitsValues}
 use Rattle.model.specs.Limits.{narrow}

@@ -2,18 +2,13 @@ use Rattle.lists.proofs.ValueLaws.{four-yes, four-no}
 use Rattle.lists.proofs.ValueLaws.{first-refusal, later-refusal, no-refusal}
 use Rattle.lists.specs.Made.{fourAt}
 use Rattle.model.specs.Refusals.{firstOf}
-use Rattle.model.specs.Column.{elemAt}
 use Rattle.model.specs.Bitmap.{from}
 use Rattle.model.specs.Basics.{tab}
-use lib.ListN.{length}
 use native.Mathlib.Omega.{arith}
-use Prim.Native.Nat.{ℕ, _+_, _-_, _<_, _≤_}
-use mathlib.Core.Path.{_≡_, refl, sym, ap, _∙_}
+use Prim.Native.Nat.{_+_}
+use mathlib.Core.Path.{_≡_, refl, sym, _∙_}
 use Rattle.lists.proofs.extract.index_refusal.Statement.{statement}
 use Rattle.lists.proofs.extract.index_refusal.Tie as tie
-use Rattle.lists.proofs.extract.index_refusal.Reads as reads
-use Rattle.lists.proofs.extract.index_refusal.Lts as lts
-use Rattle.lists.proofs.extract.is_unfit.Reads as is-unfit-reads
 
 abbrev Inv-loop : tie.InvT-loop
 Inv-loop rows rstart n indexes index-bits istart r₀ left₀ r left = (firstOf (tab (fourAt (from rstart rows) indexes (from istart index-bits)) r left) ≡ firstOf (tab (fourAt (from rstart rows) indexes (from istart index-bits)) 0 n)) × (r + left ≡ n)
@@ -21,15 +16,12 @@ Inv-loop rows rstart n indexes index-bits istart r₀ left₀ r left = (firstOf 
 abbrev μ-loop : tie.MeasureT-loop
 μ-loop rows rstart n indexes index-bits istart r₀ left₀ r left = left
 
--- src/extract.rt:166:5
 loop-holds : tie.Need-loop-holds Inv-loop μ-loop
 loop-holds c = (refl, omega arith)
 
--- src/extract.rt:167:12
 is-unfit-requires : tie.Need-is-unfit-requires Inv-loop μ-loop
 is-unfit-requires c κs = let s = c .before .before .before .before in (s .pre .0, (s .pre .1 .0, (s .pre .1 .1, omega arith)))
 
--- src/extract.rt:168:13
 returns : tie.Need-returns Inv-loop μ-loop
 returns c =
     let i = c .before .before in
@@ -39,19 +31,15 @@ returns c =
     let y = four-yes (from (a .rstart) (a .rows .now)) (a .indexes .now) (from (a .istart) (a .index-bits .now)) (l .r) (sym (c .before .is-unfit .ensures) ∙ c .if1 .taken) in
     sym y ∙ sym (first-refusal K (l .r) (l .left) (i .loop-test .taken) (λ z. omega arith)) ∙ l .inv .0
 
--- src/extract.rt:170:9
 add-r : tie.Need-add-r Inv-loop μ-loop
 add-r c = omega (arith, c .before .before)
 
--- src/extract.rt:171:9
 sub-left : tie.Need-sub-left Inv-loop μ-loop
 sub-left c = omega (arith, c .before .before)
 
--- src/extract.rt:166:5
 loop-less : tie.Need-loop-less Inv-loop μ-loop
 loop-less c = omega (arith, c .before .before)
 
--- src/extract.rt:166:5
 loop-again : tie.Need-loop-again Inv-loop μ-loop
 loop-again c =
     let i = c .before .before in
@@ -61,7 +49,6 @@ loop-again c =
     let y = four-no (from (a .rstart) (a .rows .now)) (a .indexes .now) (from (a .istart) (a .index-bits .now)) (l .r) (sym (c .before .is-unfit .ensures) ∙ c .if1 .left) in
     (sym (later-refusal K (l .r) (l .left) (i .loop-test .taken) y) ∙ l .inv .0, omega (arith, i))
 
--- src/extract.rt:158:1
 returns-2 : tie.Need-returns-2 Inv-loop μ-loop
 returns-2 c =
     let l = c .before .loop in

@@ -4,48 +4,36 @@ use Rattle.model.specs.Bitmap.{from}
 use mir.Syntax.{w64}
 use Rattle.index.proofs.SignedLaws.{read-back}
 use borrow.Author.Tests.{not-true, not-false}
-use mathlib.Core.Path.{_≡_, refl, sym, ap, _∙_}
+use mathlib.Core.Path.{sym, ap, _∙_}
 use borrow.Author.Needs.{needs}
 use Rattle.lists.proofs.extract.is_unfit.Statement.{statement}
 use Rattle.lists.proofs.extract.is_unfit.Tie as tie
-use Rattle.lists.proofs.extract.is_unfit.Reads as reads
-use Rattle.lists.proofs.extract.is_unfit.Lts as lts
-use Rattle.bitmap.proofs.is_valid.Reads as is-valid-reads
-use Rattle.index.proofs.fits_i32.Reads as fits-i32-reads
 
--- src/extract.rt:148:9
 is-valid-requires : tie.Need-is-valid-requires
 is-valid-requires c κs = search needs
 
--- src/extract.rt:149:9
 returns : tie.Need-returns
 returns c =
     let a = c .before .before .before .before .args in
     sym (unfit-null (from (a .rstart) (a .rows .now)) (a .indexes .now) (from (a .istart) (a .index-bits .now)) (a .r) (sym (c .before .is-valid .ensures) ∙ not-true _ (c .if1 .taken)))
 
--- src/extract.rt:151:9
 is-valid-requires-2 : tie.Need-is-valid-requires-2
 is-valid-requires-2 c κs = search needs
 
--- src/extract.rt:152:9
 returns-2 : tie.Need-returns-2
 returns-2 c =
     let a = c .before .before .before .before .before .before .args in
     sym (unfit-index-null (from (a .rstart) (a .rows .now)) (a .indexes .now) (from (a .istart) (a .index-bits .now)) (a .r) (sym (c .before .before .before .is-valid .ensures) ∙ not-false _ (c .before .before .if1 .left)) (sym (c .before .is-valid2 .ensures) ∙ not-true _ (c .if2 .taken)))
 
--- src/extract.rt:154:22
 mul-fits-i32 : tie.Need-mul-fits-i32
 mul-fits-i32 c = search needs
 
--- src/extract.rt:154:22
 shared-slice-copy-out-fits-i32 : tie.Need-shared-slice-copy-out-fits-i32
 shared-slice-copy-out-fits-i32 c = search needs
 
--- src/extract.rt:154:6
 fits-i32-requires : tie.Need-fits-i32-requires
 fits-i32-requires c κs = search needs
 
--- src/extract.rt:141:1
 returns-3 : tie.Need-returns-3
 returns-3 c =
     let a = c .before .before .before .before .before .before .before .before .args in

@@ -4,24 +4,16 @@ use Rattle.model.specs.Elements.{firstValid}
 use Rattle.model.specs.Column.{elemAt}
 use Rattle.model.specs.Bitmap.{from}
 use Rattle.model.specs.Basics.{tab}
-use lib.ListN.{length}
 use native.Mathlib.Omega.{arith}
-use Prim.Native.Nat.{ℕ, _+_, _-_, _<_, _≤_}
-use mathlib.Core.Path.{_≡_, refl, sym, ap, _∙_}
+use Prim.Native.Nat.{ℕ}
+use mathlib.Core.Path.{sym, ap, _∙_}
 use borrow.Author.Needs.{needs}
 use Rattle.lists.proofs.extract.put_any_value.Statement.{statement}
 use Rattle.lists.proofs.extract.put_any_value.Tie as tie
-use Rattle.lists.proofs.extract.put_any_value.Reads as reads
-use Rattle.lists.proofs.extract.put_any_value.Lts as lts
-use Rattle.lists.proofs.extract.first_valid.Reads as first-valid-reads
-use Rattle.lists.proofs.extract.write_found.Reads as write-found-reads
-use Rattle.lists.proofs.walk.row_len.Reads as row-len-reads
 
--- src/extract.rt:85:9
 row-len-requires : tie.Need-row-len-requires
 row-len-requires c κs = search needs
 
--- src/extract.rt:86:9
 first-valid-requires : tie.Need-first-valid-requires
 first-valid-requires c κs =
     let s = c .before .before .before .before in
@@ -29,11 +21,9 @@ first-valid-requires c κs =
     let l = len-from-le (from (a .rstart) (a .rows .now)) (a .r) (a .a) (a .b) (s .pre .0 .rises) in
     record { inside = omega (arith, s .pre .0 .inside, c .row-len .ensures); bits = s .pre .0 .elements }
 
--- src/extract.rt:87:46
 add-write-found : tie.Need-add-write-found
 add-write-found c = omega (arith, c .first-valid .ensures .inside, c .before .before .before .before .before .pre .0 .inside, len-from-le (from (c .before .before .before .before .before .args .rstart) (c .before .before .before .before .before .args .rows .now)) (c .before .before .before .before .before .args .r) (c .before .before .before .before .before .args .a) (c .before .before .before .before .before .args .b) (c .before .before .before .before .before .pre .0 .rises), c .before .row-len .ensures)
 
--- src/extract.rt:87:5
 write-found-requires : tie.Need-write-found-requires
 write-found-requires c κs =
     let s = c .before .before .before .before .before .before .before in
@@ -41,15 +31,12 @@ write-found-requires c κs =
     let l = len-from-le (from (a .rstart) (a .rows .now)) (a .r) (a .a) (a .b) (s .pre .0 .rises) in
     (omega (arith, s .pre .0 .inside, c .before .before .before .row-len .ensures), (s .pre .0 .elements, s .pre .1))
 
--- src/extract.rt:66:1
 same-length : tie.Need-same-length
 same-length c = search needs
 
--- src/extract.rt:66:1
 same-length-2 : tie.Need-same-length-2
 same-length-2 c = search needs
 
--- src/extract.rt:66:1
 returns : tie.Need-returns
 returns c =
     let a = c .before .before .before .before .before .before .before .before .before .before .before .args in

@@ -3,25 +3,16 @@ use Rattle.column.proofs.RowLaws.{len-from-le}
 use Rattle.lists.specs.Made.{foundAt, elementPlace}
 use Rattle.model.specs.Column.{elemAt}
 use Rattle.model.specs.Bitmap.{from}
-use Rattle.model.specs.Basics.{tab}
-use lib.ListN.{length}
 use native.Mathlib.Omega.{arith}
-use Prim.Native.Nat.{ℕ, _+_, _-_, _<_, _≤_}
-use mathlib.Core.Path.{_≡_, refl, sym, ap, _∙_}
+use Prim.Native.Nat.{ℕ, _+_}
+use mathlib.Core.Path.{ap, _∙_}
 use borrow.Author.Needs.{needs}
 use Rattle.lists.proofs.extract.put_element.Statement.{statement}
 use Rattle.lists.proofs.extract.put_element.Tie as tie
-use Rattle.lists.proofs.extract.put_element.Reads as reads
-use Rattle.lists.proofs.extract.put_element.Lts as lts
-use Rattle.lists.proofs.extract.element_place.Reads as element-place-reads
-use Rattle.lists.proofs.extract.write_found.Reads as write-found-reads
-use Rattle.lists.proofs.walk.row_len.Reads as row-len-reads
 
--- src/extract.rt:222:9
 row-len-requires : tie.Need-row-len-requires
 row-len-requires c κs = search needs
 
--- src/extract.rt:223:9
 element-place-requires : tie.Need-element-place-requires
 element-place-requires c κs =
     let s = c .before .before .before .before .before in
@@ -29,11 +20,9 @@ element-place-requires c κs =
     let l = len-from-le (from (a .rstart) (a .rows .now)) (a .r) (a .a) (a .b) (s .pre .0 .rises) in
     (s .pre .1 .0, (s .pre .1 .1 .0, (s .pre .0 .there, (omega (arith, s .pre .0 .rises, s .pre .1 .1 .1 .0), omega (arith, s .pre .1 .1 .1 .0, c .row-len .ensures)))))
 
--- src/extract.rt:224:46
 add-write-found : tie.Need-add-write-found
 add-write-found c = omega (arith, c .before .before .before .before .before .before .pre .0 .inside, len-from-le (from (c .before .before .before .before .before .before .args .rstart) (c .before .before .before .before .before .before .args .rows .now)) (c .before .before .before .before .before .before .args .r) (c .before .before .before .before .before .before .args .a) (c .before .before .before .before .before .before .args .b) (c .before .before .before .before .before .before .pre .0 .rises), c .before .row-len .ensures, c .before .before .before .before .before .before .pre .1 .1 .1 .0)
 
--- src/extract.rt:224:5
 write-found-requires : tie.Need-write-found-requires
 write-found-requires c κs =
     let s = c .before .before .before .before .before .before .before .before in
@@ -41,15 +30,12 @@ write-found-requires c κs =
     let l = len-from-le (from (a .rstart) (a .rows .now)) (a .r) (a .a) (a .b) (s .pre .0 .rises) in
     (omega (arith, s .pre .0 .inside, c .before .before .before .row-len .ensures), (s .pre .0 .elements, s .pre .1 .1 .1 .1))
 
--- src/extract.rt:197:1
 same-length : tie.Need-same-length
 same-length c = search needs
 
--- src/extract.rt:197:1
 same-length-2 : tie.Need-same-length-2
 same-length-2 c = search needs
 
--- src/extract.rt:197:1
 returns : tie.Need-returns
 returns c =
     let s = c .before .before .before .before .before .before .before .before .before .before .before .before in

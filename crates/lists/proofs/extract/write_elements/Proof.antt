@@ -1,14 +1,13 @@
 use borrow.Author.Needs.{needs}
 use mathlib.Core.Path.{_≡_, refl, sym, ap, _∙_}
-use Prim.Native.Nat.{ℕ, _+_, _-_, _/_, _<_, _≤_}
+use Prim.Native.Nat.{ℕ, _+_, _-_}
 use native.Mathlib.Omega.{arith}
 use lib.ListN.{length}
 use mathlib.Core.List.{_∷_}
 use Rattle.model.specs.Basics.{tab}
-use Rattle.model.specs.Bitmap.{from, bytesFor}
-use Rattle.model.specs.Column.{Elem, Row, Column, column, Arguments, arguments, elemAt, rowCount}
-use Rattle.model.specs.Limits.{narrow}
-use Rattle.model.specs.Rows.{anyValueOf, elementOf}
+use Rattle.model.specs.Bitmap.{from}
+use Rattle.model.specs.Column.{Elem, Row, Column, column, arguments, elemAt, rowCount}
+use Rattle.model.specs.Rows.{elementOf}
 use Rattle.model.proofs.TabLaws.{length-tab, tab-step, tab-none}
 use Rattle.column.specs.Rows.{rowFrom}
 use Rattle.column.specs.Put.{Place}

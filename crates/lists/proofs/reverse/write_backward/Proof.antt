@@ -1,7 +1,7 @@
 use native.Mathlib.Omega.{arith}
-use Prim.Native.Nat.{_+_, _-_, _<_, _≤_}
+use Prim.Native.Nat.{_≤_}
 use mathlib.Core.List.{reverse}
-use mathlib.Core.Path.{_≡_, refl}
+use mathlib.Core.Path.{refl}
 use Rattle.column.proofs.WriteLaws.{Writing, begun, written, room, done}
 use Rattle.column.proofs.PutLaws.{rev-step, rev-none}
 use Rattle.model.specs.Column.{elemAt}
@@ -9,9 +9,6 @@ use Rattle.model.specs.Basics.{tab}
 use Rattle.model.specs.Bitmap.{from}
 use Rattle.lists.proofs.reverse.write_backward.Statement.{statement}
 use Rattle.lists.proofs.reverse.write_backward.Tie as tie
-use Rattle.lists.proofs.reverse.write_backward.Reads as reads
-use Rattle.lists.proofs.reverse.write_backward.Lts as lts
-use Rattle.column.proofs.elements.write_elem.Reads as write-elem-reads
 
 abbrev Inv-loop : tie.InvT-loop
 Inv-loop values elements estart a n out-values₀ out-elements₀ at left₀ k₀ out-values out-elements left k =
@@ -21,19 +18,15 @@ Inv-loop values elements estart a n out-values₀ out-elements₀ at left₀ k�
 abbrev μ-loop : tie.MeasureT-loop
 μ-loop values elements estart a n out-values₀ out-elements₀ at left₀ k₀ out-values out-elements left k = left
 
--- src/reverse.rt:33:5
 loop-holds : tie.Need-loop-holds Inv-loop μ-loop
 loop-holds c = (begun _ refl, omega arith)
 
--- src/reverse.rt:34:9
 sub-left : tie.Need-sub-left Inv-loop μ-loop
 sub-left c = omega arith
 
--- src/reverse.rt:35:56
 add-write-elem : tie.Need-add-write-elem Inv-loop μ-loop
 add-write-elem c = omega (arith, c, c .before .before .before .before .pre .0 .inside)
 
--- src/reverse.rt:35:9
 write-elem-requires : tie.Need-write-elem-requires Inv-loop μ-loop
 write-elem-requires c κs =
     let i = c .before .before in
@@ -43,7 +36,6 @@ write-elem-requires c κs =
     let r = room (l .inv .0) _ _ (rev-step E (s .args .a) (l .left) (i .loop-test .taken)) (s .pre .1) in
     (omega (arith, i, s .pre .0 .inside), (s .pre .0 .bits, r))
 
--- src/reverse.rt:36:9
 add-k : tie.Need-add-k Inv-loop μ-loop
 add-k c =
     let i = c .before .before .before .before .before .before in
@@ -53,11 +45,9 @@ add-k c =
     let r = room (l .inv .0) _ _ (rev-step E (s .args .a) (l .left) (i .loop-test .taken)) (s .pre .1) in
     omega (arith, i, s)
 
--- src/reverse.rt:33:5
 loop-less : tie.Need-loop-less Inv-loop μ-loop
 loop-less c = omega (arith, c .before .before .before .before .before .before)
 
--- src/reverse.rt:33:5
 loop-again : tie.Need-loop-again Inv-loop μ-loop
 loop-again c =
     let w = c .before .before .before .write-elem in
@@ -67,15 +57,12 @@ loop-again c =
     let E = elemAt (s .args .values .now) (from (s .args .estart) (s .args .elements .now)) in
     (written (l .inv .0) _ _ (rev-step E (s .args .a) (l .left) (i .loop-test .taken)) (w .ensures .0) (w .ensures .1), omega (arith, i))
 
--- src/reverse.rt:17:1
 same-length : tie.Need-same-length Inv-loop μ-loop
 same-length c = c .before .loop .inv .0 .lv
 
--- src/reverse.rt:17:1
 same-length-2 : tie.Need-same-length-2 Inv-loop μ-loop
 same-length-2 c = c .before .loop .inv .0 .le
 
--- src/reverse.rt:17:1
 returns : tie.Need-returns Inv-loop μ-loop
 returns c =
     let l = c .before .loop in

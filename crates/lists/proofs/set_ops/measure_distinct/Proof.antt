@@ -1,8 +1,8 @@
 use native.Mathlib.Omega.{arith}
-use Prim.Native.Nat.{_+_, _-_, _<_, _≤_}
+use Prim.Native.Nat.{_+_, _≤_}
 use lib.ListN.{length}
 use mathlib.Core.Bool.{Bool, not}
-use mathlib.Core.Path.{_≡_, refl, sym, ap, _∙_}
+use mathlib.Core.Path.{_≡_, ap}
 use Rattle.lists.proofs.ElementLaws.{later, later-all, later-none, length-later}
 use Rattle.bitmap.proofs.BitLaws.{bit-le}
 use Rattle.model.specs.Elements.{distinct, isIn}
@@ -11,9 +11,6 @@ use Rattle.model.specs.Basics.{tab}
 use Rattle.model.specs.Bitmap.{from, bit}
 use Rattle.lists.proofs.set_ops.measure_distinct.Statement.{statement}
 use Rattle.lists.proofs.set_ops.measure_distinct.Tie as tie
-use Rattle.lists.proofs.set_ops.measure_distinct.Reads as reads
-use Rattle.lists.proofs.set_ops.measure_distinct.Lts as lts
-use Rattle.lists.proofs.utils.is_among.Reads as is-among-reads
 
 abbrev Inv-loop : tie.InvT-loop
 Inv-loop values elements estart a n len₀ k₀ left₀ len k left =
@@ -24,41 +21,32 @@ Inv-loop values elements estart a n len₀ k₀ left₀ len k left =
 abbrev μ-loop : tie.MeasureT-loop
 μ-loop values elements estart a n len₀ k₀ left₀ len k left = left
 
--- src/set_ops.rt:28:5
 loop-holds : tie.Need-loop-holds Inv-loop μ-loop
 loop-holds c =
     let s = c .before in
     (omega (arith, ap length (later-all (elemAt (s .args .values .now) (from (s .args .estart) (s .args .elements .now))) (s .args .a) (s .args .n))), omega arith, omega arith)
 
--- src/set_ops.rt:29:62
 add-is-among : tie.Need-add-is-among Inv-loop μ-loop
 add-is-among c = omega (arith, c .before .before .before .pre .inside)
 
--- src/set_ops.rt:29:20
 is-among-requires : tie.Need-is-among-requires Inv-loop μ-loop
 is-among-requires c κs = let s = c .before .before .before in (omega (arith, s .pre .inside), (omega (arith, s .pre .inside), s .pre .bits))
 
--- src/set_ops.rt:30:16
 cast-len : tie.Need-cast-len Inv-loop μ-loop
 cast-len c = tt
 
--- src/set_ops.rt:30:9
 add-len : tie.Need-add-len Inv-loop μ-loop
 add-len c = omega (arith, c .before, bit-le (not (c .is-among .result)))
 
--- src/set_ops.rt:31:9
 add-k : tie.Need-add-k Inv-loop μ-loop
 add-k c = omega (arith, c .before)
 
--- src/set_ops.rt:32:9
 sub-left : tie.Need-sub-left Inv-loop μ-loop
 sub-left c = omega (arith, c .before)
 
--- src/set_ops.rt:28:5
 loop-less : tie.Need-loop-less Inv-loop μ-loop
 loop-less c = omega (arith, c .before)
 
--- src/set_ops.rt:28:5
 loop-again : tie.Need-loop-again Inv-loop μ-loop
 loop-again c =
     let i = c .before in
@@ -69,7 +57,6 @@ loop-again c =
     let p = length-later E (a .a) (l .k) (l .left) (i .loop-test .taken) in
     (omega (arith, i), omega (arith, i), omega (arith, i, bit-le (not (c .is-among .result))))
 
--- src/set_ops.rt:21:1
 returns : tie.Need-returns Inv-loop μ-loop
 returns c =
     let l = c .before .loop in

@@ -1,16 +1,13 @@
 use Rattle.model.specs.Bitmap.{from}
 use Rattle.model.specs.Basics.{tab}
 use Rattle.model.specs.Column.{elemAt}
-use Rattle.model.specs.Elements.{distinct, isIn}
-use Rattle.model.proofs.TabLaws.{tab-step, tab-none, length-tab}
+use Rattle.model.specs.Elements.{distinct}
 use Rattle.lists.proofs.ElementLaws.{later, later-all, later-none, later-new, later-old}
 use Rattle.column.proofs.WriteLaws.{Writing, begun, skipped, written, room, done}
-use mathlib.Core.Path.{_≡_, refl, sym, ap, _∙_}
-use mathlib.Core.List.{List, [], _∷_, reverse}
+use mathlib.Core.Path.{_≡_, sym, _∙_}
 use mathlib.Core.Logic.{⊎-elim}
-use Prim.Native.Nat.{ℕ, _+_, _-_, _<_, _≤_}
+use Prim.Native.Nat.{_+_}
 use native.Mathlib.Omega.{arith}
-use lib.ListN.{length, length-reverse}
 use borrow.Author.Tests.{not-true, not-false}
 use Rattle.lists.proofs.set_ops.write_distinct.Statement.{statement}
 use Rattle.lists.proofs.set_ops.write_distinct.Tie as tie

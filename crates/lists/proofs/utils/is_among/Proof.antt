@@ -4,7 +4,7 @@ use Rattle.model.specs.Column.{elemAt}
 use Rattle.model.specs.Elements.{isIn}
 use Rattle.lists.proofs.ElementLaws.{isIn-step, isIn-none}
 use mathlib.Core.Path.{_≡_, refl, sym, _∙_}
-use Prim.Native.Nat.{ℕ, _+_, _-_, _<_, _≤_}
+use Prim.Native.Nat.{_+_}
 use native.Mathlib.Omega.{arith}
 use Rattle.lists.proofs.utils.is_among.Statement.{statement}
 use Rattle.lists.proofs.utils.is_among.Tie as tie

@@ -1,4 +1,4 @@
-use mathlib.Core.Path.{_≡_, sym, _∙_}
+use mathlib.Core.Path.{sym, _∙_}
 use Rattle.model.specs.Elements.{sameElem}
 use Rattle.column.proofs.OffsetLaws.{back64}
 use Rattle.column.proofs.RowLaws.{elem-valid, elem-null}

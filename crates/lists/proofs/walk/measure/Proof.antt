@@ -1,66 +1,47 @@
 use Rattle.lists.proofs.ElementLaws.{pop-front, pop-back}
-use lib.ListN.{length, length-reverse}
+use lib.ListN.{length-reverse}
 use Rattle.model.proofs.TabLaws.{length-tab}
 use Rattle.model.specs.Elements.{unaryElems}
 use Rattle.model.specs.Column.{elemAt}
 use Rattle.model.specs.Bitmap.{from}
-use Rattle.model.specs.Basics.{tab}
-use native.Mathlib.Omega.{arith}
-use Prim.Native.Nat.{ℕ, _+_, _-_, _<_, _≤_}
-use mathlib.Core.Path.{_≡_, refl, sym, ap, _∙_}
 use borrow.Author.Needs.{needs}
 use Rattle.lists.proofs.walk.measure.Statement.{statement}
 use Rattle.lists.proofs.walk.measure.Tie as tie
-use Rattle.lists.proofs.walk.measure.Reads as reads
-use Rattle.lists.proofs.walk.measure.Lts as lts
-use Rattle.lists.proofs.set_ops.measure_distinct.Reads as measure-distinct-reads
-use Rattle.lists.proofs.utils.one_less.Reads as one-less-reads
 
--- src/walk.rt:43:27
 enum-told : tie.Need-enum-told
 enum-told c = search needs
 
--- src/walk.rt:44:28
 enum-told-2 : tie.Need-enum-told-2
 enum-told-2 c = search needs
 
--- src/walk.rt:44:28
 measure-distinct-requires : tie.Need-measure-distinct-requires
 measure-distinct-requires c κs = search needs
 
--- src/walk.rt:45:28
 enum-told-3 : tie.Need-enum-told-3
 enum-told-3 c = search needs
 
--- src/walk.rt:45:28
 one-less-requires : tie.Need-one-less-requires
 one-less-requires c κs = search needs
 
--- src/walk.rt:46:27
 enum-told-4 : tie.Need-enum-told-4
 enum-told-4 c = search needs
 
--- src/walk.rt:46:27
 one-less-requires-2 : tie.Need-one-less-requires-2
 one-less-requires-2 c κs = search needs
 
--- src/walk.rt:38:1
 returns : tie.Need-returns
 unfolding unaryElems
 returns c = let a = c .before .before .before .args in rw (c .enum-told .given .1, length-reverse, length-tab)
 
--- src/walk.rt:38:1
 returns-2 : tie.Need-returns-2
 unfolding unaryElems
 returns-2 c = rw (c .before .enum-told2 .given .1) (c .measure-distinct .ensures)
 
--- src/walk.rt:38:1
 returns-3 : tie.Need-returns-3
 returns-3 c =
     let a = c .before .before .before .before .args in
     rw (c .before .enum-told3 .given .1, pop-front (elemAt (a .values .now) (from (a .estart) (a .elements .now))) (a .a) (a .n), length-tab) (c .one-less .ensures)
 
--- src/walk.rt:38:1
 returns-4 : tie.Need-returns-4
 returns-4 c =
     let a = c .before .before .before .before .args in

@@ -8,18 +8,12 @@ use Rattle.lists.specs.Made.{unaryAt, unaryRows}
 use Rattle.model.specs.Column.{Row, Column, column, elemAt, offsetAt}
 use Rattle.model.specs.Limits.{narrow}
 use Rattle.model.specs.Bitmap.{from}
-use Rattle.model.specs.Basics.{tab}
 use lib.ListN.{length}
 use native.Mathlib.Omega.{arith}
-use Prim.Native.Nat.{ℕ, _+_, _-_, _<_, _≤_}
-use mathlib.Core.Path.{_≡_, refl, sym, ap, _∙_}
+use Prim.Native.Nat.{_+_, _-_}
+use mathlib.Core.Path.{sym, ap, _∙_}
 use Rattle.lists.proofs.walk.measure_rows.Statement.{statement}
 use Rattle.lists.proofs.walk.measure_rows.Tie as tie
-use Rattle.lists.proofs.walk.measure_rows.Reads as reads
-use Rattle.lists.proofs.walk.measure_rows.Lts as lts
-use Rattle.column.proofs.offsets.offset_at.Reads as offset-at-reads
-use Rattle.column.proofs.offsets.row_count.Reads as row-count-reads
-use Rattle.lists.proofs.walk.measure_row.Reads as measure-row-reads
 
 abbrev Inv-loop : tie.InvT-loop
 Inv-loop op offsets rows rstart values elements estart n found₀ r₀ left₀ found r left =
@@ -27,7 +21,6 @@ Inv-loop op offsets rows rstart values elements estart n found₀ r₀ left₀ f
 
 abbrev μ-loop : tie.MeasureT-loop
 μ-loop op offsets rows rstart values elements estart n found₀ r₀ left₀ found r left = left
-
 
 abbrev C : tie.Start Inv-loop μ-loop → Column
 C s = let a = s .args in column (a .offsets .now) (from (a .rstart) (a .rows .now)) (a .values .now) (from (a .estart) (a .elements .now))

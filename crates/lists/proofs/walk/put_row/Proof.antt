@@ -2,30 +2,17 @@ use Rattle.lists.proofs.UnaryLaws.{elems-made, isRow-made}
 use Rattle.column.proofs.RowLaws.{len-from-le}
 use Rattle.model.specs.Column.{elemAt}
 use Rattle.model.specs.Bitmap.{from}
-use Rattle.model.specs.Basics.{tab}
-use lib.ListN.{length}
 use native.Mathlib.Omega.{arith}
-use Prim.Native.Nat.{ℕ, _+_, _-_, _<_, _≤_}
-use mathlib.Core.Path.{_≡_, refl, sym, ap, _∙_}
 use borrow.Author.Needs.{needs}
 use Rattle.lists.proofs.walk.put_row.Statement.{statement}
 use Rattle.lists.proofs.walk.put_row.Tie as tie
-use Rattle.lists.proofs.walk.put_row.Reads as reads
-use Rattle.lists.proofs.walk.put_row.Lts as lts
-use Rattle.bitmap.proofs.is_valid.Reads as is-valid-reads
-use Rattle.bitmap.proofs.push_bit.Reads as push-bit-reads
-use Rattle.lists.proofs.walk.row_len.Reads as row-len-reads
-use Rattle.lists.proofs.walk.write_made.Reads as write-made-reads
 
--- src/walk.rt:105:9
 is-valid-requires : tie.Need-is-valid-requires
 is-valid-requires c κs = search needs
 
--- src/walk.rt:106:9
 row-len-requires : tie.Need-row-len-requires
 row-len-requires c κs = search needs
 
--- src/walk.rt:107:9
 write-made-requires : tie.Need-write-made-requires
 write-made-requires c κs =
     let n = c .before .before in
@@ -37,23 +24,18 @@ write-made-requires c κs =
     let b = rw (e, ← n .row-len .ensures) at (s .pre .1 .elements) in
     (record { inside = omega (arith, s .pre .0 .inside, n .row-len .ensures); bits = s .pre .0 .elements }, record { values = v; elements = b })
 
--- src/walk.rt:108:5
 push-bit-requires : tie.Need-push-bit-requires
 push-bit-requires c κs = search needs
 
--- src/walk.rt:85:1
 same-length : tie.Need-same-length
 same-length c = search needs
 
--- src/walk.rt:85:1
 same-length-2 : tie.Need-same-length-2
 same-length-2 c = search needs
 
--- src/walk.rt:85:1
 same-length-3 : tie.Need-same-length-3
 same-length-3 c = search needs
 
--- src/walk.rt:85:1
 returns : tie.Need-returns
 returns c =
     let w = c .before .before .before .before .before .before .before in

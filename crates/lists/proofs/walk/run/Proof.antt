@@ -1,17 +1,15 @@
 use borrow.Author.Needs.{needs}
 use borrow.Author.Tests.{not-true, not-false}
-use mathlib.Core.Path.{_≡_, refl, sym, ap, _∙_}
-use mathlib.Core.Bool.{true, false}
-use mathlib.Core.List.{List, [], _∷_}
-use Prim.Native.Nat.{ℕ, _≤_}
+use mathlib.Core.Path.{_≡_, sym, _∙_}
+use mathlib.Core.List.{List}
 use native.Mathlib.Omega.{arith}
 use lib.ListN.{length}
 use Rattle.model.specs.Bitmap.{from}
-use Rattle.model.specs.Column.{Row, Column, column, rowCount}
+use Rattle.model.specs.Column.{Row, Column, column}
 use Rattle.model.specs.Contract.{room}
 use Rattle.model.specs.Form.{Room, fitsIn, flat}
 use Rattle.model.specs.Limits.{narrow}
-use Rattle.model.specs.Outcome.{Outcome, fitted, gate, columnsRefusal, listOutcome}
+use Rattle.model.specs.Outcome.{fitted, listOutcome}
 use Rattle.model.specs.Rows.{unary}
 use Rattle.model.proofs.OutcomeLaws.{gate-open}
 use Rattle.column.specs.Put.{HasRoom}

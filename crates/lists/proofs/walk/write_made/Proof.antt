@@ -2,56 +2,37 @@ use Rattle.lists.proofs.ElementLaws.{pop-front, pop-back}
 use Rattle.model.specs.Elements.{unaryElems}
 use Rattle.model.specs.Column.{elemAt}
 use Rattle.model.specs.Bitmap.{from}
-use Rattle.model.specs.Basics.{tab}
-use lib.ListN.{length}
 use native.Mathlib.Omega.{arith}
-use Prim.Native.Nat.{ℕ, _+_, _-_, _<_, _≤_}
-use mathlib.Core.Path.{_≡_, refl, sym, ap, _∙_}
 use borrow.Author.Needs.{needs}
 use Rattle.lists.proofs.walk.write_made.Statement.{statement}
 use Rattle.lists.proofs.walk.write_made.Tie as tie
-use Rattle.lists.proofs.walk.write_made.Reads as reads
-use Rattle.lists.proofs.walk.write_made.Lts as lts
-use Rattle.lists.proofs.reverse.write_backward.Reads as write-backward-reads
-use Rattle.lists.proofs.set_ops.write_distinct.Reads as write-distinct-reads
-use Rattle.lists.proofs.utils.one_less.Reads as one-less-reads
-use Rattle.lists.proofs.utils.write_forward.Reads as write-forward-reads
 
--- src/walk.rt:66:9
 one-less-requires : tie.Need-one-less-requires
 one-less-requires c κs = search needs
 
--- src/walk.rt:68:83
 enum-told : tie.Need-enum-told
 enum-told c = search needs
 
--- src/walk.rt:68:27
 write-backward-requires : tie.Need-write-backward-requires
 unfolding unaryElems
 write-backward-requires c κs = let s = c .before .before .before .before .before .before .before in (s .pre .0, rw (c .before .before .enum-told .given .1) at (s .pre .1))
 
--- src/walk.rt:69:84
 enum-told-2 : tie.Need-enum-told-2
 enum-told-2 c = search needs
 
--- src/walk.rt:69:28
 write-distinct-requires : tie.Need-write-distinct-requires
 unfolding unaryElems
 write-distinct-requires c κs = let s = c .before .before .before .before .before .before .before in (s .pre .0, rw (c .before .before .enum-told2 .given .1) at (s .pre .1))
 
--- src/walk.rt:70:80
 enum-told-3 : tie.Need-enum-told-3
 enum-told-3 c = search needs
 
--- src/walk.rt:70:80
 sub-write-forward : tie.Need-sub-write-forward
 sub-write-forward c = omega (arith, c .before .before .one-less .ensures)
 
--- src/walk.rt:70:75
 add-write-forward : tie.Need-add-write-forward
 add-write-forward c = omega (arith, c .before .before .before .before .before .pre .0 .inside, c .before .before .one-less .ensures)
 
--- src/walk.rt:70:28
 write-forward-requires : tie.Need-write-forward-requires
 write-forward-requires c κs =
     let s = c .before .before .before .before .before .before .before in
@@ -59,11 +40,9 @@ write-forward-requires c κs =
     let p = rw (c .before .before .enum-told3 .given .1, pop-front (elemAt (a .values .now) (from (a .estart) (a .elements .now))) (a .a) (a .n), ← c .before .before .before .before .one-less .ensures) at (s .pre .1) in
     (record { inside = omega (arith, s .pre .0 .inside, c .before .before .before .before .one-less .ensures); bits = s .pre .0 .bits }, p)
 
--- src/walk.rt:71:80
 enum-told-4 : tie.Need-enum-told-4
 enum-told-4 c = search needs
 
--- src/walk.rt:71:27
 write-forward-requires-2 : tie.Need-write-forward-requires-2
 write-forward-requires-2 c κs =
     let s = c .before .before .before .before .before .before .before in
@@ -71,55 +50,43 @@ write-forward-requires-2 c κs =
     let p = rw (c .before .before .enum-told4 .given .1, pop-back (elemAt (a .values .now) (from (a .estart) (a .elements .now))) (a .a) (a .n), ← c .before .before .before .before .one-less .ensures) at (s .pre .1) in
     (record { inside = omega (arith, s .pre .0 .inside, c .before .before .before .before .one-less .ensures); bits = s .pre .0 .bits }, p)
 
--- src/walk.rt:51:1
 same-length : tie.Need-same-length
 same-length c = search needs
 
--- src/walk.rt:51:1
 same-length-2 : tie.Need-same-length-2
 same-length-2 c = search needs
 
--- src/walk.rt:51:1
 returns : tie.Need-returns
 unfolding unaryElems
 returns c = rw (c .before .before .before .before .before .before .enum-told .given .1) (c .before .before .before .write-backward .ensures)
 
--- src/walk.rt:51:1
 same-length-3 : tie.Need-same-length-3
 same-length-3 c = search needs
 
--- src/walk.rt:51:1
 same-length-4 : tie.Need-same-length-4
 same-length-4 c = search needs
 
--- src/walk.rt:51:1
 returns-2 : tie.Need-returns-2
 unfolding unaryElems
 returns-2 c = rw (c .before .before .before .before .before .before .enum-told2 .given .1) (c .before .before .before .write-distinct .ensures)
 
--- src/walk.rt:51:1
 same-length-5 : tie.Need-same-length-5
 same-length-5 c = search needs
 
--- src/walk.rt:51:1
 same-length-6 : tie.Need-same-length-6
 same-length-6 c = search needs
 
--- src/walk.rt:51:1
 returns-3 : tie.Need-returns-3
 returns-3 c =
     let a = c .before .before .before .before .before .before .before .before .before .before .before .args in
     rw (c .before .before .before .before .before .before .enum-told3 .given .1, pop-front (elemAt (a .values .now) (from (a .estart) (a .elements .now))) (a .a) (a .n), ← c .before .before .before .before .before .before .before .before .one-less .ensures) (c .before .before .before .write-forward .ensures)
 
--- src/walk.rt:51:1
 same-length-7 : tie.Need-same-length-7
 same-length-7 c = search needs
 
--- src/walk.rt:51:1
 same-length-8 : tie.Need-same-length-8
 same-length-8 c = search needs
 
--- src/walk.rt:51:1
 returns-4 : tie.Need-returns-4
 returns-4 c =
     let a = c .before .before .before .before .before .before .before .before .before .before .before .args in

@@ -1,14 +1,10 @@
 use borrow.Author.Needs.{needs}
-use mathlib.Core.Path.{_≡_, refl, sym, ap, _∙_}
-use Prim.Native.Nat.{ℕ, _+_, _-_, _<_, _≤_}
+use mathlib.Core.Path.{_≡_, refl, ap, _∙_}
+use Prim.Native.Nat.{ℕ}
 use native.Mathlib.Omega.{arith}
-use lib.ListN.{length}
-use Rattle.model.specs.Basics.{tab}
 use Rattle.model.specs.Bitmap.{from}
-use Rattle.model.specs.Limits.{narrow}
 use Rattle.model.specs.Column.{Row, Column, column, elemAt, rowCount}
 use Rattle.model.specs.Elements.{unaryElems}
-use Rattle.model.specs.Form.{flat}
 use Rattle.model.specs.Rows.{onRow}
 use Rattle.column.specs.Rows.{rowFrom}
 use Rattle.lists.specs.Made.{unaryAt}

@@ -1,0 +1,281 @@
+//! One call against the model: the answer, every byte written, every byte kept, and the bytes
+//! around each lent slice. A case that differs is printed whole.
+
+use crate::coverage::{self, answer_name, Coverage};
+use crate::entry::{decode_i32, decode_i64, Case, Expected, Input, SliceKind};
+use crate::library::Library;
+use std::ops::Range;
+
+/// Bytes before, between and behind the slices; an odd number, so that slices start anywhere.
+const GUARD: [u8; 13] = [0xa5; 13];
+
+/// Slices of one side of a call in one buffer, with guard bytes around each.
+#[derive(Clone, PartialEq)]
+struct Arena {
+    bytes: Vec<u8>,
+    spans: Vec<Range<usize>>,
+}
+
+impl Arena {
+    fn new<'a>(slices: impl Iterator<Item = &'a Vec<u8>>) -> Arena {
+        let mut arena = Arena { bytes: GUARD.to_vec(), spans: Vec::new() };
+        for slice in slices {
+            let start = arena.bytes.len();
+            arena.bytes.extend_from_slice(slice);
+            arena.spans.push(start..arena.bytes.len());
+            arena.bytes.extend_from_slice(&GUARD);
+        }
+        arena
+    }
+
+    fn slices(&self) -> Vec<&[u8]> {
+        self.spans.iter().map(|span| &self.bytes[span.clone()]).collect()
+    }
+
+    fn slices_mut(&mut self) -> Vec<&mut [u8]> {
+        let mut slices = Vec::new();
+        let mut rest = &mut self.bytes[..];
+        let mut at = 0;
+        for span in &self.spans {
+            let (_, behind) = rest.split_at_mut(span.start - at);
+            let (slice, behind) = behind.split_at_mut(span.len());
+            slices.push(slice);
+            rest = behind;
+            at = span.end;
+        }
+        slices
+    }
+
+    /// Whether the guard bytes are the same.
+    fn equal_outside(&self, other: &Arena) -> bool {
+        let mut at = 0;
+        let starts = self.spans.iter().map(|span| span.start).chain([self.bytes.len()]);
+        let ends = self.spans.iter().map(|span| span.end).chain([0]);
+        starts.zip(ends).all(|(start, next)| {
+            let equal = self.bytes[at..start] == other.bytes[at..start];
+            at = next;
+            equal
+        })
+    }
+
+    /// Writes bytes at the front of one slice.
+    fn write(&mut self, slice: usize, bytes: &[u8]) {
+        let start = self.spans[slice].start;
+        self.bytes[start..start + bytes.len()].copy_from_slice(bytes);
+    }
+}
+
+/// What a library gave: the number, and if it accepted, its counts and the slots they speak of.
+#[derive(Clone, PartialEq, Debug)]
+pub struct Observed {
+    pub number: u32,
+    pub counts: Vec<u64>,
+    pub written: Vec<Vec<u8>>,
+}
+
+/// Makes calls, compares them and keeps the record of the group that is running.
+pub struct Checker<'a> {
+    library: &'a Library,
+    /// The words that run the same calls again.
+    replay: String,
+    trace: bool,
+    group: String,
+    pub calls: u64,
+    pub differences: u64,
+    pub coverage: Coverage,
+}
+
+impl<'a> Checker<'a> {
+    pub fn new(library: &'a Library, replay: String, trace: bool) -> Checker<'a> {
+        let (group, coverage) = (String::new(), Coverage::default());
+        Checker { library, replay, trace, group, calls: 0, differences: 0, coverage }
+    }
+
+    pub fn start_group(&mut self, name: &str) {
+        self.group = name.to_string();
+        self.calls = 0;
+        self.differences = 0;
+    }
+
+    pub fn covered(&mut self, case: &Case, kind: &'static str, subject: &'static str) {
+        self.coverage.count(case.entry.name(), kind, subject);
+    }
+
+    /// Makes the call and compares everything with the model.
+    pub fn check(&mut self, case: &Case) -> Observed {
+        self.calls += 1;
+        if self.trace {
+            eprintln!("{}: call {}", self.group, self.calls);
+        }
+        let expected = case.expected();
+        self.record_coverage(case, &expected);
+        let inputs = Arena::new(case.inputs.iter());
+        let lent = Arena::new(case.outputs.iter().chain([&case.counts]));
+        let mut inputs_after = inputs.clone();
+        let mut after = lent.clone();
+        let number = call(self.library, case, &mut inputs_after, &mut after);
+
+        let mut wanted = lent;
+        for (slice, bytes) in expected.written.iter().chain([&expected.counts]).enumerate() {
+            wanted.write(slice, bytes);
+        }
+        let mut faults = Vec::new();
+        if number != expected.number {
+            faults.push(format!("answered {number}, expected {}", expected.number));
+        }
+        if after != wanted {
+            faults.extend(output_faults(case, &expected, &wanted, &after));
+        }
+        if inputs_after != inputs {
+            faults.push("the inputs, or the bytes around them, were changed".to_string());
+        }
+        if !faults.is_empty() {
+            self.report(case, &faults);
+        }
+        observed(case, number, &after)
+    }
+
+    /// Two calls whose columns show equal rows must share one answer.
+    pub fn agree(&mut self, cases: [&Case; 2], answers: [&Observed; 2]) {
+        let [first, second] = answers;
+        if first != second {
+            let fault = format!("answers differ: {first:?} and {second:?}");
+            self.report(cases[0], &[fault]);
+            self.report(cases[1], &["the second of these".to_string()]);
+        }
+    }
+
+    /// A statement of the harness about its own case, or about an answer.
+    pub fn require(&mut self, holds: bool, case: &Case, what: &str) {
+        if !holds {
+            self.report(case, &[what.to_string()]);
+        }
+    }
+
+    /// Prints the first difference of a group whole, and counts the rest.
+    fn report(&mut self, case: &Case, faults: &[String]) {
+        self.differences += 1;
+        if self.differences > 1 {
+            return;
+        }
+        println!("DIFFERENCE in group '{}', call {}", self.group, self.calls);
+        println!("  replay: harness {} --group '{}'", self.replay, self.group);
+        for fault in faults {
+            println!("  {fault}");
+        }
+        print_case(case);
+    }
+
+    fn record_coverage(&mut self, case: &Case, expected: &Expected) {
+        self.covered(case, "calls", "");
+        self.covered(case, "answer", answer_name(expected.number));
+        if expected.number != 0 && expected.number != 4 {
+            return;
+        }
+        let input = case.decode();
+        for subject in coverage::arguments(&input, expected.number) {
+            self.covered(case, "argument", subject);
+        }
+        if expected.number == 0 {
+            self.record_accepted(case, &input, expected);
+        }
+    }
+
+    fn record_accepted(&mut self, case: &Case, input: &Input, expected: &Expected) {
+        if let Some(subject) = coverage::row_count(input) {
+            self.covered(case, "rows", subject);
+        }
+        for subject in coverage::layouts(input) {
+            self.covered(case, "layout", subject);
+        }
+        for subject in coverage::output_lengths(case, expected) {
+            self.covered(case, "outputs", subject);
+        }
+        for subject in coverage::slices_at_size(case) {
+            self.covered(case, "at size", subject);
+        }
+    }
+}
+
+/// Lends copies of the inputs too, so that a write to them is seen.
+fn call(library: &Library, case: &Case, inputs: &mut Arena, outputs: &mut Arena) -> u32 {
+    let mut slices = outputs.slices_mut();
+    let (counts, outputs) = slices.split_last_mut().expect("counts are always lent");
+    library.call(case.entry, &inputs.slices(), outputs, counts)
+}
+
+fn observed(case: &Case, number: u32, after: &Arena) -> Observed {
+    if number != 0 {
+        return Observed { number, counts: Vec::new(), written: Vec::new() };
+    }
+    let slices = after.slices();
+    let (counts, outputs) = slices.split_last().expect("counts are always lent");
+    let needed = case.entry.count_bytes().min(counts.len());
+    let mut counts: Vec<u64> =
+        decode_i64(&counts[..needed]).into_iter().map(|count| count as u64).collect();
+    counts.resize(case.entry.count_bytes() / 8, 0);
+    let slots = case.entry.written_slots(&counts);
+    let kinds = case.entry.outputs().iter();
+    let written = kinds.zip(outputs).zip(slots).map(|((kind, bytes), slots)| {
+        bytes[..bytes.len().min(slots.saturating_mul(kind.width))].to_vec()
+    });
+    Observed { number, written: written.collect(), counts }
+}
+
+// Printing.
+
+/// Where the outputs are not what they should be.
+fn output_faults(case: &Case, expected: &Expected, wanted: &Arena, after: &Arena) -> Vec<String> {
+    let mut faults = Vec::new();
+    let written = expected.written.iter().chain([&expected.counts]).map(Vec::len);
+    let mut written: Vec<usize> = written.collect();
+    written.resize(wanted.spans.len(), 0);
+    if expected.number != 0 {
+        written.fill(0);
+    }
+    let pairs = wanted.slices().into_iter().zip(after.slices());
+    for (slice, (wanted, after)) in pairs.enumerate() {
+        let Some(byte) = wanted.iter().zip(after).position(|(one, other)| one != other) else {
+            continue;
+        };
+        let name = case.entry.outputs().get(slice).map_or("counts", |kind| kind.name);
+        let part = if byte < written[slice] { "to be written" } else { "to be kept" };
+        let (is, should) = (after[byte], wanted[byte]);
+        faults.push(format!("{name}: byte {byte}, {part}, is {is:#04x}, should be {should:#04x}"));
+        let kind = case.entry.outputs().get(slice).copied().unwrap_or(COUNTS);
+        faults.push(format!("{name} should be {}", show(kind, wanted)));
+        faults.push(format!("{name} are now   {}", show(kind, after)));
+    }
+    if !wanted.equal_outside(after) {
+        faults.push("bytes outside the lent output slices were changed".to_string());
+    }
+    faults
+}
+
+const COUNTS: SliceKind = SliceKind { name: "counts", width: 8, most: None };
+
+/// The numbers of a slice, and the bytes of a ragged end.
+fn show(kind: SliceKind, bytes: &[u8]) -> String {
+    let ragged = &bytes[bytes.len() - bytes.len() % kind.width..];
+    let slots = match kind.width {
+        4 => format!("{:?}", decode_i32(bytes)),
+        8 => format!("{:?}", decode_i64(bytes)),
+        _ => format!("{bytes:02x?}"),
+    };
+    if ragged.is_empty() {
+        slots
+    } else {
+        format!("{slots} and bytes {ragged:02x?}")
+    }
+}
+
+fn print_case(case: &Case) {
+    println!("  operation {} ({:?})", case.entry.name(), case.entry);
+    for (kind, bytes) in case.entry.inputs().into_iter().zip(&case.inputs) {
+        println!("  {}: {}", kind.name, show(kind, bytes));
+    }
+    for (kind, bytes) in case.entry.outputs().iter().zip(&case.outputs) {
+        println!("  {} before: {}", kind.name, show(*kind, bytes));
+    }
+    println!("  counts before: {}", show(COUNTS, &case.counts));
+}

@@ -1,3 +1,2 @@
-pub mod ElementLaws
 pub mod UnaryLaws
 pub mod ValueLaws

@@ -21,7 +21,7 @@ use Rattle.column.specs.Put.{HasRoom}
 use Rattle.column.specs.Rows.{rowFrom, lenFrom}
 use Rattle.column.proofs.RowLaws.{elems-from, isRow-from, len-from-le}
 use Rattle.lists.specs.Made.{unaryAt, unaryRows}
-use Rattle.lists.proofs.ElementLaws.{unary-le, made-nil}
+use Rattle.rows.proofs.ElementLaws.{unary-le, made-nil}
 
 -- ---- one row
 

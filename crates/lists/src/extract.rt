@@ -4,15 +4,15 @@ use column::answers;
 use column::checks;
 use column::elements;
 use column::offsets;
-use index::Bound;
 use model::ListAnswer;
 use model::Unary;
 use model::ValueAnswer;
 ghost use Prim.Native.Nat.{_+_, _/_, _<_, _≤_};
 ghost use Rattle.bitmap.specs.Push.{Covers, pushBit};
-ghost use Rattle.column.specs.Put.{Readable, Source, ValuesHold};
+ghost use Rattle.column.specs.Put.{Readable, ValuesHold};
 ghost use Rattle.column.specs.Rows.{Between, rowFrom};
-ghost use Rattle.lists.specs.Made.{FirstAt, anyValues, elementPlace, elementsOf, foundAt, fourAt, unfitAt};
+ghost use Rattle.rows.specs.Found.{fourAt};
+ghost use Rattle.lists.specs.Made.{anyValues, elementsOf};
 ghost use Rattle.model.specs.Basics.{tab};
 ghost use Rattle.model.specs.Bitmap.{bytesFor, from};
 ghost use Rattle.model.specs.Column.{arguments, column, elemAt, rowCount};
@@ -24,48 +24,6 @@ ghost use Rattle.model.specs.Refusals.{firstOf};
 ghost use Rattle.model.specs.Rows.{anyValueOf, elementOf, unary};
 ghost use lib.ListN.{length, set};
 ghost use mathlib.Core.Path.{_≡_};
-
-// Writes element i as value k, or a null where i is the end.
-fn write_found(
-    values: &[i64],
-    elements: &[u8],
-    estart: usize,
-    i: usize,
-    end: usize,
-    out_values: &mut [i64],
-    out_rows: &mut [u8],
-    k: usize,
-)
-    requires { ⌜ end ≤ length (now values) ⌝ }
-    requires { ⌜ Covers (from estart (now elements)) (length (now values)) ⌝ }
-    requires { ⌜ k < length (now «out_values») ⌝ }
-    requires { ⌜ k / 8 < length (now «out_rows») ⌝ }
-    ensures { λ _. ⌜ now («out_values» .exit) ≡ set (now («out_values» .entry)) k (valueOf (foundAt (elemAt (now (values .entry)) (from estart (now (elements .entry)))) i end)) ⌝ }
-    ensures { λ _. ⌜ now («out_rows» .exit) ≡ pushBit (now («out_rows» .entry)) k (isVal (foundAt (elemAt (now (values .entry)) (from estart (now (elements .entry)))) i end)) ⌝ }
-{
-    if i < end {
-        elements::write_elem(values, elements, estart, i, out_values, out_rows, k);
-        return;
-    }
-    elements::write_null(out_values, out_rows, k);
-}
-
-// Where the first valid one of the n elements from element a on stands, or the end.
-fn first_valid(values: &[i64], elements: &[u8], estart: usize, a: usize, n: usize) -> usize
-    requires column { ⌜ Source (now values) (from estart (now elements)) a n ⌝ }
-    ensures { λ i. ⌜ FirstAt (elemAt (now (values .entry)) (from estart (now (elements .entry)))) a n i ⌝ }
-{
-    let mut p = a;
-    let mut left = n;
-    while 0 < left {
-        if bitmap::is_valid(elements, estart, p, values.len()) {
-            return p;
-        }
-        p += 1;
-        left -= 1;
-    }
-    p
-}
 
 // Writes what any-value makes of row r.
 fn put_any_value(
@@ -88,8 +46,8 @@ fn put_any_value(
     ensures { λ _. ⌜ now («out_rows» .exit) ≡ pushBit (now («out_rows» .entry)) r (isVal (anyValueOf (rowFrom (from rstart (now (rows .entry))) (elemAt (now (values .entry)) (from estart (now (elements .entry)))) r a b))) ⌝ }
 {
     let k = column::rows::row_len(rows, rstart, n, r, a, b);
-    let i = first_valid(values, elements, estart, a, k);
-    write_found(values, elements, estart, i, a + k, out_values, out_rows, r);
+    let i = rows::extract::first_valid(values, elements, estart, a, k);
+    rows::extract::write_found(values, elements, estart, i, a + k, out_values, out_rows, r);
 }
 
 // Writes what any-value makes, in result form.
@@ -154,31 +112,6 @@ pub fn general_array_any_value(
     answers::value_answer(out_rows, n)
 }
 
-// Whether list and index of row r are valid and the index does not fit 32 signed bits.
-fn is_unfit(
-    rows: &[u8],
-    rstart: usize,
-    n: usize,
-    indexes: &[i64],
-    index_bits: &[u8],
-    istart: usize,
-    r: usize,
-) -> bool
-    requires { ⌜ Covers (from rstart (now rows)) n ⌝ }
-    requires { ⌜ Covers (from istart (now «index_bits»)) n ⌝ }
-    requires { ⌜ length (now indexes) ≡ n ⌝ }
-    requires { ⌜ r < n ⌝ }
-    ensures { λ u. ⌜ u ≡ unfitAt (from rstart (now (rows .entry))) (now (indexes .entry)) (from istart (now («index_bits» .entry))) r ⌝ }
-{
-    if !bitmap::is_valid(rows, rstart, r, n) {
-        return false;
-    }
-    if !bitmap::is_valid(index_bits, istart, r, n) {
-        return false;
-    }
-    !index::fits_i32(indexes[r])
-}
-
 // Refusal 4, by the first row that gives it; 0 where none does.
 fn index_refusal(
     rows: &[u8],
@@ -196,41 +129,13 @@ fn index_refusal(
     let mut r: usize = 0;
     let mut left = n;
     while 0 < left {
-        if is_unfit(rows, rstart, n, indexes, index_bits, istart, r) {
+        if rows::extract::is_unfit(rows, rstart, n, indexes, index_bits, istart, r) {
             return 4;
         }
         r += 1;
         left -= 1;
     }
     0
-}
-
-// Where the index of row r points among the k elements from element a on, or the end.
-fn element_place(
-    n: usize,
-    indexes: &[i64],
-    index_bits: &[u8],
-    istart: usize,
-    r: usize,
-    a: usize,
-    k: usize,
-) -> usize
-    requires { ⌜ Covers (from istart (now «index_bits»)) n ⌝ }
-    requires { ⌜ length (now indexes) ≡ n ⌝ }
-    requires { ⌜ r < n ⌝ }
-    requires { ⌜ a ≤ narrow .offset ⌝ }
-    requires { ⌜ k ≤ narrow .offset ⌝ }
-    ensures { λ i. ⌜ i ≡ elementPlace (elemAt (now (indexes .entry)) (from istart (now («index_bits» .entry))) r) a k ⌝ }
-{
-    if !bitmap::is_valid(index_bits, istart, r, n) {
-        return a + k;
-    }
-    let found = index::adjusted_array_index(indexes[r], k as i32);
-    match found {
-        Bound::Unfit => a + k,
-        Bound::Outside => a + k,
-        Bound::At(p) => a + (p as usize),
-    }
 }
 
 // Writes what element makes of row r.
@@ -260,8 +165,8 @@ fn put_element(
     ensures { λ _. ⌜ now («out_rows» .exit) ≡ pushBit (now («out_rows» .entry)) r (isVal (elementOf (rowFrom (from rstart (now (rows .entry))) (elemAt (now (values .entry)) (from estart (now (elements .entry)))) r a b) (elemAt (now (indexes .entry)) (from istart (now («index_bits» .entry))) r))) ⌝ }
 {
     let k = column::rows::row_len(rows, rstart, n, r, a, b);
-    let i = element_place(n, indexes, index_bits, istart, r, a, k);
-    write_found(values, elements, estart, i, a + k, out_values, out_rows, r);
+    let i = rows::extract::element_place(n, indexes, index_bits, istart, r, a, k);
+    rows::extract::write_found(values, elements, estart, i, a + k, out_values, out_rows, r);
 }
 
 // Writes what element makes, in result form.

@@ -2,5 +2,4 @@
 pub mod extract;
 pub mod reverse;
 pub mod set_ops;
-mod utils;
 mod walk;

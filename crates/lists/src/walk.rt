@@ -1,16 +1,13 @@
 // The operations on one list without arguments: one walk measures, a second writes.
-use crate::reverse;
-use crate::set_ops;
-use crate::utils;
+use rows::{reverse, set_ops, utils};
 use column::answers;
 use column::checks;
 use column::offsets;
 use model::ListAnswer;
 use model::Unary;
 ghost use Prim.Native.Nat.{_<_, _≤_};
-ghost use Rattle.bitmap.specs.Push.{Covers};
 ghost use Rattle.column.specs.Put.{HasRoom, Holds, Place, Readable, Source, Written};
-ghost use Rattle.column.specs.Rows.{Between, PutsRow, RoomFor, lenFrom, rowFrom};
+ghost use Rattle.column.specs.Rows.{Between, PutsRow, RoomFor, rowFrom};
 ghost use Rattle.lists.specs.Made.{unaryRows};
 ghost use Rattle.model.specs.Basics.{tab};
 ghost use Rattle.model.specs.Bitmap.{from};

@@ -17,7 +17,8 @@ use Rattle.bitmap.specs.Push.{Covers}
 use Rattle.column.specs.Put.{Readable}
 use Rattle.column.proofs.AnswerLaws.{value-refused, value-made, has-value-room, same-value-fit, values-made, values-short}
 use Rattle.column.proofs.WalkLaws.{readable}
-use Rattle.lists.specs.Made.{elementsOf, fourAt}
+use Rattle.lists.specs.Made.{elementsOf}
+use Rattle.rows.specs.Found.{fourAt}
 use Rattle.lists.proofs.UnaryLaws.{gate-shut}
 use Rattle.lists.proofs.ValueLaws.{element-early, element-two, element-shown, element-three, element-goes, length-elements}
 use Rattle.lists.proofs.extract.general_array_element.Statement.{statement}

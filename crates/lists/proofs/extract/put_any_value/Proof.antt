@@ -1,4 +1,4 @@
-use Rattle.lists.proofs.ValueLaws.{any-from}
+use Rattle.rows.proofs.FoundLaws.{any-from}
 use Rattle.column.proofs.RowLaws.{len-from-le}
 use Rattle.model.specs.Elements.{firstValid}
 use Rattle.model.specs.Column.{elemAt}

@@ -1,6 +1,6 @@
-use Rattle.lists.proofs.ValueLaws.{element-from}
+use Rattle.rows.proofs.FoundLaws.{element-from}
 use Rattle.column.proofs.RowLaws.{len-from-le}
-use Rattle.lists.specs.Made.{foundAt, elementPlace}
+use Rattle.rows.specs.Found.{foundAt, elementPlace}
 use Rattle.model.specs.Column.{elemAt}
 use Rattle.model.specs.Bitmap.{from}
 use native.Mathlib.Omega.{arith}

@@ -1,4 +1,4 @@
-use Rattle.lists.proofs.ElementLaws.{pop-front, pop-back}
+use Rattle.rows.proofs.ElementLaws.{pop-front, pop-back}
 use lib.ListN.{length-reverse}
 use Rattle.model.proofs.TabLaws.{length-tab}
 use Rattle.model.specs.Elements.{unaryElems}

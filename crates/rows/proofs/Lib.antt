@@ -1,0 +1,2 @@
+pub mod ElementLaws
+pub mod FoundLaws

@@ -1,0 +1,108 @@
+// Taking one element out of a row.
+use column::elements;
+use index::Bound;
+ghost use Prim.Native.Nat.{_+_, _/_, _<_, _≤_};
+ghost use Rattle.bitmap.specs.Push.{Covers, pushBit};
+ghost use Rattle.column.specs.Put.{Source};
+ghost use Rattle.rows.specs.Found.{FirstAt, elementPlace, foundAt, unfitAt};
+ghost use Rattle.model.specs.Bitmap.{from};
+ghost use Rattle.model.specs.Column.{column, elemAt};
+ghost use Rattle.model.specs.Form.{isVal, valueOf};
+ghost use Rattle.model.specs.Limits.{narrow};
+ghost use lib.ListN.{length, set};
+ghost use mathlib.Core.Path.{_≡_};
+
+// Writes element i as value k, or a null where i is the end.
+pub fn write_found(
+    values: &[i64],
+    elements: &[u8],
+    estart: usize,
+    i: usize,
+    end: usize,
+    out_values: &mut [i64],
+    out_rows: &mut [u8],
+    k: usize,
+)
+    requires { ⌜ end ≤ length (now values) ⌝ }
+    requires { ⌜ Covers (from estart (now elements)) (length (now values)) ⌝ }
+    requires { ⌜ k < length (now «out_values») ⌝ }
+    requires { ⌜ k / 8 < length (now «out_rows») ⌝ }
+    ensures { λ _. ⌜ now («out_values» .exit) ≡ set (now («out_values» .entry)) k (valueOf (foundAt (elemAt (now (values .entry)) (from estart (now (elements .entry)))) i end)) ⌝ }
+    ensures { λ _. ⌜ now («out_rows» .exit) ≡ pushBit (now («out_rows» .entry)) k (isVal (foundAt (elemAt (now (values .entry)) (from estart (now (elements .entry)))) i end)) ⌝ }
+{
+    if i < end {
+        elements::write_elem(values, elements, estart, i, out_values, out_rows, k);
+        return;
+    }
+    elements::write_null(out_values, out_rows, k);
+}
+
+// Where the first valid one of the n elements from element a on stands, or the end.
+pub fn first_valid(values: &[i64], elements: &[u8], estart: usize, a: usize, n: usize) -> usize
+    requires column { ⌜ Source (now values) (from estart (now elements)) a n ⌝ }
+    ensures { λ i. ⌜ FirstAt (elemAt (now (values .entry)) (from estart (now (elements .entry)))) a n i ⌝ }
+{
+    let mut p = a;
+    let mut left = n;
+    while 0 < left {
+        if bitmap::is_valid(elements, estart, p, values.len()) {
+            return p;
+        }
+        p += 1;
+        left -= 1;
+    }
+    p
+}
+
+// Whether list and index of row r are valid and the index does not fit 32 signed bits.
+pub fn is_unfit(
+    rows: &[u8],
+    rstart: usize,
+    n: usize,
+    indexes: &[i64],
+    index_bits: &[u8],
+    istart: usize,
+    r: usize,
+) -> bool
+    requires { ⌜ Covers (from rstart (now rows)) n ⌝ }
+    requires { ⌜ Covers (from istart (now «index_bits»)) n ⌝ }
+    requires { ⌜ length (now indexes) ≡ n ⌝ }
+    requires { ⌜ r < n ⌝ }
+    ensures { λ u. ⌜ u ≡ unfitAt (from rstart (now (rows .entry))) (now (indexes .entry)) (from istart (now («index_bits» .entry))) r ⌝ }
+{
+    if !bitmap::is_valid(rows, rstart, r, n) {
+        return false;
+    }
+    if !bitmap::is_valid(index_bits, istart, r, n) {
+        return false;
+    }
+    !index::fits_i32(indexes[r])
+}
+
+// Where the index of row r points among the k elements from element a on, or the end.
+pub fn element_place(
+    n: usize,
+    indexes: &[i64],
+    index_bits: &[u8],
+    istart: usize,
+    r: usize,
+    a: usize,
+    k: usize,
+) -> usize
+    requires { ⌜ Covers (from istart (now «index_bits»)) n ⌝ }
+    requires { ⌜ length (now indexes) ≡ n ⌝ }
+    requires { ⌜ r < n ⌝ }
+    requires { ⌜ a ≤ narrow .offset ⌝ }
+    requires { ⌜ k ≤ narrow .offset ⌝ }
+    ensures { λ i. ⌜ i ≡ elementPlace (elemAt (now (indexes .entry)) (from istart (now («index_bits» .entry))) r) a k ⌝ }
+{
+    if !bitmap::is_valid(index_bits, istart, r, n) {
+        return a + k;
+    }
+    let found = index::adjusted_array_index(indexes[r], k as i32);
+    match found {
+        Bound::Unfit => a + k,
+        Bound::Outside => a + k,
+        Bound::At(p) => a + (p as usize),
+    }
+}

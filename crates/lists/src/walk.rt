@@ -1,10 +1,12 @@
 // The operations on one list without arguments: one walk measures, a second writes.
-use rows::{reverse, set_ops, utils};
 use column::answers;
 use column::checks;
 use column::offsets;
 use model::ListAnswer;
 use model::Unary;
+use rows::reverse;
+use rows::set_ops;
+use rows::utils;
 ghost use Prim.Native.Nat.{_<_, _≤_};
 ghost use Rattle.column.specs.Put.{HasRoom, Holds, Place, Readable, Source, Written};
 ghost use Rattle.column.specs.Rows.{Between, PutsRow, RoomFor, rowFrom};

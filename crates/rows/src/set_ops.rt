@@ -11,13 +11,7 @@ ghost use lib.ListN.{length};
 ghost use mathlib.Core.Path.{_≡_};
 
 // How many of the n elements from element a on are first occurrences.
-pub fn measure_distinct(
-    values: &[i64],
-    elements: &[u8],
-    estart: usize,
-    a: usize,
-    n: usize,
-) -> usize
+pub fn measure_distinct(values: &[i64], elements: &[u8], estart: usize, a: usize, n: usize) -> usize
     requires column { ⌜ Source (now values) (from estart (now elements)) a n ⌝ }
     ensures { λ r. ⌜ r ≡ length (distinct (tab (elemAt (now (values .entry)) (from estart (now (elements .entry)))) a n)) ⌝ }
 {

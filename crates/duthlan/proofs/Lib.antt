@@ -1,0 +1,3 @@
+pub mod SizeLaws
+pub mod AnswerLaws
+pub mod EntryLaws

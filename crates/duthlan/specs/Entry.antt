@@ -1,0 +1,126 @@
+-- What a C entry returns, and what its slices hold then, for every call. All slices are bytes; numbers stand in them little-endian,
+-- four bytes an offset and eight a value (wire, specs/Bytes.antt).
+use Prim.Native.Nat.{ℕ, _/_, _%_}
+use mathlib.Core.Path.{_≡_}
+use mathlib.Core.Bool.{Bool, not, _||_}
+use mathlib.Core.List.{List, [], _∷_, _++_}
+use lib.ListN.{length, getD}
+use lib.Dec.{eqb, ltb}
+use denote.Ref.{now}
+use Rattle.model.specs.Basics.{pick, any, Lent, absent, given}
+use Rattle.model.specs.Bitmap.{from}
+use Rattle.model.specs.Limits.{narrow}
+use Rattle.model.specs.Column.{Elem, Row, Column, column, Arguments, arguments}
+use Rattle.model.specs.Form.{Room, ValueRoom, flat, formOffsets, formRows, formValues, formElements}
+use Rattle.model.specs.Rows.{unary, onLent}
+use Rattle.model.specs.Outcome.{Outcome, refused, made, gate, listOutcome}
+use Rattle.model.specs.Call.{listCounts, valueCounts}
+use Rattle.model.specs.Contract.{Slot, after, room, valueRoom}
+use Rattle.model.specs.declared.Unary.{Unary}
+use Rattle.model.specs.declared.Unary.the-variants.{Reverse, Distinct, PopFront, PopBack}
+use Rattle.wire.specs.Bytes.{ints4, ints8, bytesOf4, bytesOf8, bytesOfCounts}
+
+-- ---- what is lent
+
+-- the column in four slices of bytes as the call begins, and the argument column in two
+abbrev pub decoded : Slot ℕ → Slot ℕ → Slot ℕ → Slot ℕ → Column
+decoded o r v e = column (ints4 (now (o .entry))) (from 0 (now (r .entry))) (ints8 (now (v .entry))) (from 0 (now (e .entry)))
+
+abbrev pub decodedArguments : Slot ℕ → Slot ℕ → Arguments
+decodedArguments v b = arguments (ints8 (now (v .entry))) (from 0 (now (b .entry)))
+
+-- the bytes that a slice has
+abbrev pub size : Slot ℕ → ℕ
+size s = length (now (s .entry))
+
+-- ---- the entry's own refusals
+
+-- a slice of numbers: the bytes of one, the most that the entry takes, and the bytes lent
+pub record Numbers : Type 0 where
+  pub width : ℕ
+  pub most : ℕ
+  pub bytes : ℕ
+
+abbrev pub numbers : ℕ → ℕ → ℕ → Numbers
+numbers w m b = record { width = w; most = m; bytes = b }
+
+-- the most that an entry takes of each kind, in the code's arrays
+abbrev pub mostOffsets : ℕ
+mostOffsets = 4097
+
+abbrev pub mostValues : ℕ
+mostValues = 16384
+
+abbrev pub mostRows : ℕ
+mostRows = 4096
+
+-- offsets and values of a list, lent or for an answer, by their bytes
+abbrev pub listSizes : ℕ → ℕ → List Numbers
+listSizes o v = numbers 4 mostOffsets o ∷ numbers 8 mostValues v ∷ []
+
+-- one value a row: an argument column's values, or those of a value answer
+abbrev pub valueSizes : ℕ → List Numbers
+valueSizes v = numbers 8 mostRows v ∷ []
+
+-- the bytes are no whole number of numbers
+abbrev pub ragged : Numbers → Bool
+ragged s = not (eqb (s .bytes % s .width) 0)
+
+-- they are more numbers than the entry takes
+abbrev pub outsize : Numbers → Bool
+outsize s = ltb (s .most) (s .bytes / s .width)
+
+-- 100 where a slice is ragged, or the counts have fewer bytes than they take; then 101 where one is outsize; 0 is none
+unfoldable pub sizeRefusal : List Numbers → ℕ → ℕ → ℕ
+sizeRefusal ss counts need = pick (any ragged ss || ltb counts need) 100 (pick (any outsize ss) 101 0)
+
+-- 102 before all else, where the entry has no such operation; then a refusal of the sizes; then the operation's outcome
+unfoldable pub entered : {A L : Type 0} → Lent (L → Outcome A) → ℕ → L → Outcome A
+entered absent k l = refused 102
+entered (given f) k l = gate k (f l)
+
+-- the codes of document 01's recipes: "0 reverse, 1 distinct, 2 pop front, 3 pop back"
+unfoldable pub unaryOf : ℕ → Lent Unary
+unaryOf op = getD (given Reverse ∷ given Distinct ∷ given PopFront ∷ given PopBack ∷ []) op absent
+
+-- an operation on one list by its code
+unfoldable pub unaryCall : ℕ → Column → Lent (Room → Outcome (List Row))
+unaryCall op c = onLent (λ k. listOutcome narrow (unary k c)) (unaryOf op)
+
+-- ---- what is returned and written
+
+-- the number of an outcome: 0 where the call is accepted
+unfoldable pub numberOf : {A : Type 0} → Outcome A → ℕ
+numberOf (refused k) = k
+numberOf (made a) = 0
+
+-- the number n, and each slice at entry and at exit, of a list answer: the result's bytes over what was there, none of a refusal
+pub record ListReturns (x : Outcome (List Row)) (n : ℕ) (o o′ r r′ v v′ e e′ c c′ : List ℕ) : Type 0 where
+  pub number : n ≡ numberOf x
+  pub offsets : o′ ≡ after (λ ws. bytesOf4 (formOffsets ws)) x o
+  pub rows : r′ ≡ after formRows x r
+  pub values : v′ ≡ after (λ ws. bytesOf8 (formValues (flat ws))) x v
+  pub elements : e′ ≡ after (λ ws. formElements (flat ws)) x e
+  pub counts : c′ ≡ after (λ ws. bytesOfCounts (listCounts ws)) x c
+
+-- the same of a value answer
+pub record ValueReturns (x : Outcome (List Elem)) (n : ℕ) (v v′ r r′ c c′ : List ℕ) : Type 0 where
+  pub number : n ≡ numberOf x
+  pub values : v′ ≡ after (λ es. bytesOf8 (formValues es)) x v
+  pub rows : r′ ≡ after formElements x r
+  pub counts : c′ ≡ after (λ es. bytesOfCounts (valueCounts es)) x c
+
+-- ---- the contracts
+
+-- an entry with a list answer: f is what the operation comes to for the lengths lent in numbers, ss are the slices of numbers that
+-- it reads; then the number returned, and the outputs and the counts
+abbrev pub ListEntry : Lent (Room → Outcome (List Row)) → List Numbers → ℕ → Slot ℕ → Slot ℕ → Slot ℕ → Slot ℕ → Slot ℕ → Type 0
+ListEntry f ss n o r v e c =
+    ListReturns (entered f (sizeRefusal (ss ++ listSizes (size o) (size v)) (size c) 32) (room (size o / 4) (size r) (size v / 8) (size e))) n
+    (now (o .entry)) (now (o .exit)) (now (r .entry)) (now (r .exit)) (now (v .entry)) (now (v .exit)) (now (e .entry)) (now (e .exit)) (now (c .entry)) (now (c .exit))
+
+-- an entry with a value answer, the same
+abbrev pub ValueEntry : Lent (ValueRoom → Outcome (List Elem)) → List Numbers → ℕ → Slot ℕ → Slot ℕ → Slot ℕ → Type 0
+ValueEntry f ss n v r c =
+    ValueReturns (entered f (sizeRefusal (ss ++ valueSizes (size v)) (size c) 16) (valueRoom (size v / 8) (size r))) n
+    (now (v .entry)) (now (v .exit)) (now (r .entry)) (now (r .exit)) (now (c .entry)) (now (c .exit))

@@ -1,0 +1,120 @@
+// The C entries. Every parameter but `op` is a slice of bytes, a pointer and a length for C: offsets of four bytes, values of
+// eight, little-endian, and bitmaps. The answer is 0 where the call is accepted, with its counts, eight bytes each, at the front
+// of `counts`; 1 to 10 for the operation's refusals; and the entry's own, in this order: 102 for no such operation, 100 for a
+// slice of numbers that ends within one or a short `counts`, 101 for more numbers than the arrays here hold. Whatever is refused
+// changes no byte.
+mod answers;
+mod any_value;
+mod element;
+mod list;
+mod sizes;
+
+ghost use Rattle.duthlan.specs.Entry.{ListEntry, ValueEntry, decoded, decodedArguments, listSizes, size, unaryCall, valueSizes};
+ghost use Rattle.model.specs.Basics.{given};
+ghost use Rattle.model.specs.Limits.{narrow};
+ghost use Rattle.model.specs.Outcome.{anyValueOutcome, elementOutcome};
+ghost use mathlib.Core.List.{_++_};
+
+// Reverse (op 0), distinct (1), pop front (2), pop back (3).
+#[no_mangle]
+pub extern "C" fn duthlan_list(
+    op: u32,
+    offsets: &[u8],
+    rows: &[u8],
+    values: &[u8],
+    elements: &[u8],
+    out_offsets: &mut [u8],
+    out_rows: &mut [u8],
+    out_values: &mut [u8],
+    out_elements: &mut [u8],
+    counts: &mut [u8],
+) -> u32
+    ensures { λ n. ⌜ ListEntry (unaryCall op (decoded offsets rows values elements)) (listSizes (size offsets) (size values)) n «out_offsets» «out_rows» «out_values» «out_elements» counts ⌝ }
+{
+    let mut o = [0i32; sizes::MOST_OFFSETS];
+    let mut v = [0i64; sizes::MOST_VALUES];
+    let mut oo = [0i32; sizes::MOST_OFFSETS];
+    let mut ov = [0i64; sizes::MOST_VALUES];
+    list::enter(
+        op,
+        offsets,
+        rows,
+        values,
+        elements,
+        out_offsets,
+        out_rows,
+        out_values,
+        out_elements,
+        counts,
+        &mut o,
+        &mut v,
+        &mut oo,
+        &mut ov,
+    )
+}
+
+// The first valid element of each row.
+#[no_mangle]
+pub extern "C" fn duthlan_any_value(
+    offsets: &[u8],
+    rows: &[u8],
+    values: &[u8],
+    elements: &[u8],
+    out_values: &mut [u8],
+    out_rows: &mut [u8],
+    counts: &mut [u8],
+) -> u32
+    ensures { λ n. ⌜ ValueEntry (given (anyValueOutcome (decoded offsets rows values elements))) (listSizes (size offsets) (size values)) n «out_values» «out_rows» counts ⌝ }
+{
+    let mut o = [0i32; sizes::MOST_OFFSETS];
+    let mut v = [0i64; sizes::MOST_VALUES];
+    let mut ov = [0i64; sizes::MOST_ROWS];
+    any_value::enter(
+        offsets,
+        rows,
+        values,
+        elements,
+        out_values,
+        out_rows,
+        counts,
+        &mut o,
+        &mut v,
+        &mut ov,
+    )
+}
+
+// The element of each row that its index names.
+#[no_mangle]
+pub extern "C" fn duthlan_element(
+    offsets: &[u8],
+    rows: &[u8],
+    values: &[u8],
+    elements: &[u8],
+    indexes: &[u8],
+    index_bits: &[u8],
+    out_values: &mut [u8],
+    out_rows: &mut [u8],
+    counts: &mut [u8],
+) -> u32
+    ensures { λ n. ⌜ ValueEntry (given (elementOutcome narrow (decoded offsets rows values elements) (decodedArguments indexes «index_bits»))) (listSizes (size offsets) (size values) ++ valueSizes (size indexes)) n «out_values» «out_rows» counts ⌝ }
+{
+    let mut o = [0i32; sizes::MOST_OFFSETS];
+    let mut v = [0i64; sizes::MOST_VALUES];
+    let mut i = [0i64; sizes::MOST_ROWS];
+    let mut ov = [0i64; sizes::MOST_ROWS];
+    element::enter(
+        offsets,
+        rows,
+        values,
+        elements,
+        indexes,
+        index_bits,
+        out_values,
+        out_rows,
+        counts,
+        &mut o,
+        &mut v,
+        &mut i,
+        &mut ov,
+    )
+}

@@ -1,3 +1,5 @@
 pub mod SignedLaws
 pub mod IndexLaws
 pub mod PlaceLaws
+pub mod SliceLaws
+pub mod PlanLaws

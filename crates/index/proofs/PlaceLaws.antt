@@ -16,11 +16,11 @@ use Rattle.model.specs.Limits.{narrow}
 use Rattle.model.specs.Column.{Elem, nul, count}
 use Rattle.model.specs.Elements.{elementAt}
 use Rattle.model.specs.Slice as Slice
-use Rattle.model.specs.Slice.{unfit, outside, place, inRow, fits}
+use Rattle.model.specs.Slice.{unfit, outside, place, inRow, fits, fromPlace, toPlace, fromBound, toBound}
 use Rattle.index.specs.Place.{indexPlace, indexBound, bound, taken}
 use Rattle.index.specs.declared.Bound.the-variants as B
 
-pick-cases : {A : Type 0} (t : Bool) (x y : A) (P : A → Type 0) → (t ≡ true → P x) → (t ≡ false → P y) → P (pick t x y)
+pub pick-cases : {A : Type 0} (t : Bool) (x y : A) (P : A → Type 0) → (t ≡ true → P x) → (t ≡ false → P y) → P (pick t x y)
 pick-cases true x y P f g = f refl
 pick-cases false x y P f g = g refl
 
@@ -58,7 +58,7 @@ element-taken es z h =
 
 -- ---- a place is inside the row
 
-abbrev Inside : ℕ → Slice.Bound → Type 0
+abbrev pub Inside : ℕ → Slice.Bound → Type 0
 Inside n b = (p : ℕ) → b ≡ place p → p < n
 
 no-place : (n : ℕ) → Inside n outside
@@ -67,17 +67,39 @@ no-place n p e = let z : _≡_ {A = ℕ} 0 1 = cc in omega arith
 a-place : (n p : ℕ) → p < n → Inside n (place p)
 a-place n p h q e = let d : p ≡ q = cc in omega arith
 
+row-inside : (n p : ℕ) → Inside n (inRow n p)
+unfolding inRow
+row-inside n p = pick-cases (ltb p n) (place p) outside (Inside n) (λ t. a-place n p (ltb-true p n t)) (λ t. no-place n)
+
 index-inside : (n : ℕ) (z : ℤ) → Inside n (indexPlace n z)
-unfolding indexPlace inRow
+unfolding indexPlace
 index-inside n (pos zero) = no-place n
-index-inside n (pos (suc i)) = pick-cases (ltb i n) (place i) outside (Inside n) (λ t. a-place n i (ltb-true i n t)) (λ t. no-place n)
+index-inside n (pos (suc i)) = row-inside n i
 index-inside n (negsuc i) =
     pick-cases (ltb i n) (place (n - (i + 1))) outside (Inside n) (λ t. let l = ltb-true i n t in a-place n (n - (i + 1)) (omega arith)) (λ t. no-place n)
 
+to-place-inside : (n : ℕ) (z : ℤ) → Inside n (toPlace n z)
+unfolding toPlace indexPlace
+to-place-inside n (pos zero) = no-place n
+to-place-inside n (pos (suc i)) = row-inside n (pick (ltb i n) i (n - 1))
+to-place-inside n (negsuc i) = index-inside n (negsuc i)
+
+-- a bound whose number does not fit has no place
+fit-inside : (n : ℕ) (t : Bool) (b : Slice.Bound) → Inside n b → Inside n (pick t b unfit)
+fit-inside n true b h = h
+fit-inside n false b h = λ p e. let x : _≡_ {A = ℕ} 0 1 = cc in omega arith
+
 pub place-inside : (n p : ℕ) (z : ℤ) → indexBound narrow n z ≡ place p → p < n
 unfolding indexBound
-place-inside n p z =
-    pick-cases (fits narrow z) (indexPlace n z) unfit (λ b. b ≡ place p → p < n) (λ t. index-inside n z p) (λ t e. let x : _≡_ {A = ℕ} 0 1 = cc in omega arith)
+place-inside n p z = fit-inside n (fits narrow z) (indexPlace n z) (index-inside n z) p
+
+pub from-inside : (n p : ℕ) (z : ℤ) → fromBound narrow n z ≡ place p → p < n
+unfolding fromBound
+from-inside n p z = fit-inside n (fits narrow z) (inRow n (fromPlace n z)) (row-inside n (fromPlace n z)) p
+
+pub to-inside : (n p : ℕ) (z : ℤ) → toBound narrow n z ≡ place p → p < n
+unfolding toBound
+to-inside n p z = fit-inside n (fits narrow z) (toPlace n z) (to-place-inside n z) p
 
 -- ---- the bound that an answer tells
 
@@ -107,7 +129,7 @@ pub record Points (n : ℕ) (z x : ℤ) : Type 0 where
   pub inside : natAbs x < n
   pub fits-usize : Fits w64 (natAbs x)
 
-small-signed : (x : ℤ) → natAbs x < 2147483648 → SFits w32 x
+pub small-signed : (x : ℤ) → natAbs x < 2147483648 → SFits w32 x
 small-signed (pos n) h = record { sfits = h }
 small-signed (negsuc n) h = record { sfits = omega arith }
 

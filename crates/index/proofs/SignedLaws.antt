@@ -1,7 +1,7 @@
 -- Laws of signed sums, differences and tests at any width.
-use mathlib.Core.Path.{_≡_, refl, subst}
+use mathlib.Core.Path.{_≡_, refl, sym, ap, _∙_, subst}
 use mathlib.Core.Bool.{Bool, true, false, cond}
-use Prim.Native.Nat.{ℕ, suc, _-_, _^_, _<_, _≤_}
+use Prim.Native.Nat.{ℕ, zero, suc, _+_, _-_, _^_, _<_, _≤_}
 use native.Mathlib.Omega.{arith}
 use lib.Dec.{T, ltb}
 use lib.IntN.{ℤ, pos, negsuc, subℕ, _+ℤ_, _-ℤ_}
@@ -35,6 +35,10 @@ difference-cases a b P f g = cond-cases (ltb a b) (negsuc (b - suc a)) (pos (a -
 
 pub difference-natural : (a b : ℕ) → b ≤ a → subℕ a b ≡ pos (a - b)
 difference-natural a b h = difference-cases a b (λ z. z ≡ pos (a - b)) (λ l. let z : ⊥ = omega arith in absurd z) (λ l. refl)
+
+pub difference-of : (a b : ℕ) → pos a -ℤ pos b ≡ subℕ a b
+difference-of a zero = let e : a + 0 ≡ a - 0 = omega arith in ap pos e ∙ sym (difference-natural a 0 (omega arith))
+difference-of a (suc b) = refl
 
 pub difference-small : (a b h : ℕ) → a < h → b ≤ h → mag (subℕ a b) < h
 difference-small a b h p q = difference-cases a b (λ z. mag z < h) (λ l. omega arith) (λ l. omega arith)

@@ -1,4 +1,6 @@
 // Where a 64-bit index points in a row, by signed 32-bit arithmetic. An inner crate, for the operations above it; it asks nothing of them.
+pub mod slice;
+
 ghost use Rattle.index.specs.Place.{bound, indexBound, indexPlace};
 ghost use Rattle.model.specs.Column.{count};
 ghost use Rattle.model.specs.Limits.{narrow};

@@ -4,14 +4,10 @@ use column::checks;
 use column::offsets;
 use model::ListAnswer;
 use model::Unary;
-use rows::reverse;
-use rows::set_ops;
-use rows::utils;
 ghost use Prim.Native.Nat.{_<_, _≤_};
-ghost use Rattle.column.specs.Put.{HasRoom, Holds, Place, Readable, Source, Written};
+ghost use Rattle.column.specs.Put.{HasRoom, Holds, Readable};
 ghost use Rattle.column.specs.Rows.{Between, PutsRow, RoomFor, rowFrom};
 ghost use Rattle.lists.specs.Made.{unaryRows};
-ghost use Rattle.model.specs.Basics.{tab};
 ghost use Rattle.model.specs.Bitmap.{from};
 ghost use Rattle.model.specs.Column.{column, elemAt, rowCount};
 ghost use Rattle.model.specs.Contract.{ListMeets, room};
@@ -22,80 +18,6 @@ ghost use Rattle.model.specs.Outcome.{listOutcome};
 ghost use Rattle.model.specs.Rows.{onRow, unary};
 ghost use lib.ListN.{length};
 ghost use mathlib.Core.Path.{_≡_};
-
-// The number of elements that the operation makes of the n elements from element a on.
-fn measure(op: Unary, values: &[i64], elements: &[u8], estart: usize, a: usize, n: usize) -> usize
-    requires column { ⌜ Source (now values) (from estart (now elements)) a n ⌝ }
-    ensures { λ r. ⌜ r ≡ length (unaryElems op (tab (elemAt (now (values .entry)) (from estart (now (elements .entry)))) a n)) ⌝ }
-{
-    match op {
-        Unary::Reverse => n,
-        Unary::Distinct => set_ops::measure_distinct(values, elements, estart, a, n),
-        Unary::PopFront => utils::one_less(n),
-        Unary::PopBack => utils::one_less(n),
-    }
-}
-
-// Writes what the operation makes of the n elements from element a on; gives the next place.
-fn write_made(
-    op: Unary,
-    values: &[i64],
-    elements: &[u8],
-    estart: usize,
-    a: usize,
-    n: usize,
-    out_values: &mut [i64],
-    out_elements: &mut [u8],
-    at: usize,
-) -> usize
-    requires column { ⌜ Source (now values) (from estart (now elements)) a n ⌝ }
-    requires room { ⌜ Place (unaryElems op (tab (elemAt (now values) (from estart (now elements))) a n)) at (length (now «out_values»)) (length (now «out_elements»)) ⌝ }
-    ensures { λ r. ⌜ Written (unaryElems op (tab (elemAt (now (values .entry)) (from estart (now (elements .entry)))) a n)) at (now («out_values» .entry)) (now («out_values» .exit)) (now («out_elements» .entry)) (now («out_elements» .exit)) r ⌝ }
-{
-    let k = utils::one_less(n);
-    match op {
-        Unary::Reverse => reverse::write_backward(
-            values,
-            elements,
-            estart,
-            a,
-            n,
-            out_values,
-            out_elements,
-            at,
-        ),
-        Unary::Distinct => set_ops::write_distinct(
-            values,
-            elements,
-            estart,
-            a,
-            n,
-            out_values,
-            out_elements,
-            at,
-        ),
-        Unary::PopFront => utils::write_forward(
-            values,
-            elements,
-            estart,
-            a + (n - k),
-            k,
-            out_values,
-            out_elements,
-            at,
-        ),
-        Unary::PopBack => utils::write_forward(
-            values,
-            elements,
-            estart,
-            a,
-            k,
-            out_values,
-            out_elements,
-            at,
-        ),
-    }
-}
 
 // The number of elements that the operation makes of row r.
 fn measure_row(
@@ -114,7 +36,7 @@ fn measure_row(
     ensures { λ k. ⌜ k ≡ length (elemsOf (onRow (unaryElems op) (rowFrom (from rstart (now (rows .entry))) (elemAt (now (values .entry)) (from estart (now (elements .entry)))) r a b))) ⌝ }
 {
     let k = column::rows::row_len(rows, rstart, n, r, a, b);
-    measure(op, values, elements, estart, a, k)
+    ops::measure_plain(op, values, elements, estart, a, k)
 }
 
 // Writes the row that the operation makes of row r, but for its offset; gives the number of elements then written.
@@ -140,7 +62,7 @@ fn put_row(
 {
     let valid = bitmap::is_valid(rows, rstart, r, n);
     let k = column::rows::row_len(rows, rstart, n, r, a, b);
-    let next = write_made(
+    let next = ops::write_plain(
         op,
         values,
         elements,

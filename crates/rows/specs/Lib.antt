@@ -1,1 +1,4 @@
+pub mod Cells
 pub mod Found
+pub mod Pairs
+pub mod Strides

@@ -10,8 +10,8 @@ use Rattle.lists.proofs.walk.measure_row.Tie as tie
 row-len-requires : tie.Need-row-len-requires
 row-len-requires c κs = search needs
 
-measure-requires : tie.Need-measure-requires
-measure-requires c κs =
+measure-plain-requires : tie.Need-measure-plain-requires
+measure-plain-requires c κs =
     let s = c .before .before .before in
     let a = s .args in
     let l = len-from-le (from (a .rstart) (a .rows .now)) (a .r) (a .a) (a .b) (s .pre .rises) in
@@ -20,7 +20,7 @@ measure-requires c κs =
 returns : tie.Need-returns
 returns c =
     let a = c .before .before .before .before .args in
-    rw (elems-made (from (a .rstart) (a .rows .now)) (a .r) (a .a) (a .b) (a .op) (elemAt (a .values .now) (from (a .estart) (a .elements .now))), ← c .before .row-len .ensures) (c .measure .ensures)
+    rw (elems-made (from (a .rstart) (a .rows .now)) (a .r) (a .a) (a .b) (a .op) (elemAt (a .values .now) (from (a .estart) (a .elements .now))), ← c .before .row-len .ensures) (c .measure-plain .ensures)
 
 pub measure-row-spec : {M : Type 1} → statement M
-measure-row-spec = tie.close (tie.spec row-len-requires measure-requires returns)
+measure-row-spec = tie.close (tie.spec row-len-requires measure-plain-requires returns)

@@ -13,8 +13,8 @@ is-valid-requires c κs = search needs
 row-len-requires : tie.Need-row-len-requires
 row-len-requires c κs = search needs
 
-write-made-requires : tie.Need-write-made-requires
-write-made-requires c κs =
+write-plain-requires : tie.Need-write-plain-requires
+write-plain-requires c κs =
     let n = c .before .before in
     let s = c .before .before .before .before .before .before .before .before in
     let a = s .args in
@@ -46,9 +46,9 @@ returns c =
     let e = elems-made (from (a .rstart) (a .rows .now)) (a .r) (a .a) (a .b) (a .op) E in
     record {
       rows = rw (isRow-made (from (a .rstart) (a .rows .now)) (a .r) (a .a) (a .b) (a .op) E, ← v .is-valid .ensures) (c .before .before .push-bit .ensures);
-      values = rw (e, ← n .row-len .ensures) (w .write-made .ensures .values);
-      elements = rw (e, ← n .row-len .ensures) (w .write-made .ensures .elements);
-      place = rw (e, ← n .row-len .ensures) (w .write-made .ensures .next);
+      values = rw (e, ← n .row-len .ensures) (w .write-plain .ensures .values);
+      elements = rw (e, ← n .row-len .ensures) (w .write-plain .ensures .elements);
+      place = rw (e, ← n .row-len .ensures) (w .write-plain .ensures .next);
     }
 
 pub put-row-spec : {M : Type 1} → statement M
@@ -57,7 +57,7 @@ put-row-spec =
     (tie.spec
     is-valid-requires
     row-len-requires
-    write-made-requires
+    write-plain-requires
     push-bit-requires
     same-length
     same-length-2

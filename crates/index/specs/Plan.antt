@@ -1,0 +1,50 @@
+-- The plan of a slice and its stride as the code has them, and what the code's inner functions ask. Document 01, "Slice:".
+use Prim.Native.Nat.{_<_}
+use mathlib.Core.Bool.{false}
+use mathlib.Core.Path.{_≡_}
+use lib.Dec.{T}
+use lib.IntN.{ℤ, pos, natAbs}
+use lib.Signed.{nonNeg}
+use Rattle.model.specs.Limits.{narrow}
+use Rattle.model.specs.Column.{count}
+use Rattle.model.specs.Slice as Slice
+use Rattle.model.specs.Slice.{unfit, outside, place, refuse, empty, places, against, isZero}
+use Rattle.index.specs.declared.Bound.{Bound}
+use Rattle.index.specs.declared.Bound.the-variants as B
+use Rattle.index.specs.declared.slice.SlicePlan.{SlicePlan}
+use Rattle.index.specs.declared.slice.SlicePlan.the-variants as P
+use Rattle.index.specs.declared.slice.Stride.{Stride}
+use Rattle.index.specs.declared.slice.Stride.the-variants as S
+
+-- the plan as the code answers it
+unfoldable pub planOf : Slice.Plan → SlicePlan
+planOf (refuse k) = P.Refused k
+planOf empty = P.Empty
+planOf (places a s n) = P.Steps (pos a) s (pos n)
+
+-- "absent stride is 1"
+unfoldable pub strideOf : Stride → ℤ
+strideOf S.Absent = pos 1
+strideOf (S.By s) = s
+
+-- the bound that the code's answer tells
+unfoldable pub told : Bound → Slice.Bound
+told B.Unfit = unfit
+told B.Outside = outside
+told (B.At x) = place (count x)
+
+-- a place of the longest row
+pub record IsPlace (x : ℤ) : Type 0 where
+  pub natural : T (nonNeg x)
+  pub small : natAbs x < narrow .offset
+
+-- a bound whose place, where it has one, is such a place
+abbrev pub Within : Bound → Type 0
+Within b = (x : ℤ) → b ≡ B.At x → IsPlace x
+
+-- a stride that leads from the place a to the place b
+pub record Suits (a b s : ℤ) : Type 0 where
+  pub from : IsPlace a
+  pub to : IsPlace b
+  pub some : isZero s ≡ false
+  pub direction : against (count a) (count b) s ≡ false

@@ -1,0 +1,168 @@
+// The places that a slice takes of a row, by signed 32-bit arithmetic.
+use crate::Bound;
+ghost use Prim.Native.Nat.{_<_};
+ghost use Rattle.index.specs.Place.{bound};
+ghost use Rattle.index.specs.Plan.{IsPlace, Suits, Within, planOf, strideOf, told};
+ghost use Rattle.model.specs.Column.{count};
+ghost use Rattle.model.specs.Limits.{narrow};
+ghost use Rattle.model.specs.Slice.{against, between, fromBound, fromPlace, slicePlan, stepCount, strided, toBound, toPlace};
+ghost use lib.IntN.{pos};
+ghost use mathlib.Core.Path.{_≡_};
+
+// No places, so many from a start on by a stride, or the number of a refusal.
+pub enum SlicePlan {
+    Empty,
+    Steps { start: i32, stride: i32, count: i32 },
+    Refused(u8),
+}
+
+pub enum Stride {
+    Absent,
+    By(i64),
+}
+
+// The place of a from, which may still be past the end.
+fn from_place(index: i32, len: i32) -> i32
+    requires { ⌜ 0 < count len ⌝ }
+    ensures { λ r. ⌜ r ≡ pos (fromPlace (count len) index) ⌝ }
+{
+    if index < 0 {
+        let at = index + len;
+        if at < 0 {
+            return 0;
+        }
+        return at;
+    }
+    if index < 1 {
+        return 0;
+    }
+    index - 1
+}
+
+// A to past the end is the last place; any other counts as an index does.
+fn to_place(index: i32, len: i32) -> Bound
+    requires { ⌜ 0 < count len ⌝ }
+    ensures { λ r. ⌜ r ≡ bound (toPlace (count len) index) ⌝ }
+{
+    let last = len - 1;
+    if last < index {
+        return Bound::At(last);
+    }
+    crate::index_place(index, len)
+}
+
+// From 0 or 1 is the first place, and so is a from below minus the length.
+pub fn adjusted_from_index(index: i64, len: i32) -> Bound
+    ensures { λ r. ⌜ r ≡ bound (fromBound narrow (count len) index) ⌝ }
+{
+    if !crate::fits_i32(index) {
+        return Bound::Unfit;
+    }
+    if len < 1 {
+        return Bound::Outside;
+    }
+    let at = from_place(index as i32, len);
+    if at < len {
+        return Bound::At(at);
+    }
+    Bound::Outside
+}
+
+// To -1 is the last place, included.
+pub fn adjusted_to_index(index: i64, len: i32) -> Bound
+    ensures { λ r. ⌜ r ≡ bound (toBound narrow (count len) index) ⌝ }
+{
+    if !crate::fits_i32(index) {
+        return Bound::Unfit;
+    }
+    if len < 1 {
+        return Bound::Outside;
+    }
+    to_place(index as i32, len)
+}
+
+// Whether the stride leads away from to.
+fn is_against(from: i32, to: i32, stride: i64) -> bool
+    requires { ⌜ IsPlace from ⌝ }
+    requires { ⌜ IsPlace to ⌝ }
+    ensures { λ r. ⌜ r ≡ against (count from) (count to) stride ⌝ }
+{
+    if stride < 0 {
+        return from < to;
+    }
+    to < from
+}
+
+// How many places there are from from by stride, to included.
+fn count_steps(from: i32, to: i32, stride: i32) -> i32
+    requires { ⌜ Suits from to stride ⌝ }
+    ensures { λ r. ⌜ r ≡ pos (stepCount (count from) (count to) stride) ⌝ }
+{
+    (to - from) / stride + 1
+}
+
+// The plan between two places of the row.
+fn plan_steps(from: i32, to: i32, stride: i64) -> SlicePlan
+    requires { ⌜ IsPlace from ⌝ }
+    requires { ⌜ IsPlace to ⌝ }
+    ensures { λ r. ⌜ r ≡ planOf (strided narrow (count from) (count to) stride) ⌝ }
+{
+    if stride == 0 {
+        return SlicePlan::Refused(5);
+    }
+    if is_against(from, to, stride) {
+        return SlicePlan::Empty;
+    }
+    if !crate::fits_i32(stride) {
+        return SlicePlan::Refused(6);
+    }
+    let by = stride as i32;
+    let count = count_steps(from, to, by);
+    SlicePlan::Steps {
+        start: from,
+        stride: by,
+        count,
+    }
+}
+
+// The plan between two bounds.
+fn plan_between(from: Bound, to: Bound, stride: i64) -> SlicePlan
+    requires { ⌜ Within from ⌝ }
+    requires { ⌜ Within to ⌝ }
+    ensures { λ r. ⌜ r ≡ planOf (between narrow (told from) (told to) stride) ⌝ }
+{
+    match from {
+        Bound::Unfit => SlicePlan::Refused(4),
+        Bound::Outside => match to {
+            Bound::Unfit => SlicePlan::Refused(4),
+            Bound::Outside => SlicePlan::Empty,
+            Bound::At(_) => SlicePlan::Empty,
+        },
+        Bound::At(first) => match to {
+            Bound::Unfit => SlicePlan::Refused(4),
+            Bound::Outside => SlicePlan::Empty,
+            Bound::At(last) => plan_steps(first, last, stride),
+        },
+    }
+}
+
+fn stride_of(stride: Stride) -> i64
+    ensures { λ r. ⌜ r ≡ strideOf stride ⌝ }
+{
+    match stride {
+        Stride::Absent => 1,
+        Stride::By(s) => s,
+    }
+}
+
+// A negative length counts as 0.
+pub fn compute_slice_plan(len: i32, from: i64, to: i64, stride: Stride) -> SlicePlan
+    ensures { λ r. ⌜ r ≡ planOf (slicePlan narrow (count len) from to (strideOf stride)) ⌝ }
+{
+    if len < 1 {
+        return SlicePlan::Empty;
+    }
+    let first = adjusted_from_index(from, len);
+    let last = adjusted_to_index(to, len);
+    plan_between(first, last, stride_of(stride))
+}

@@ -1,0 +1,149 @@
+-- The operations on one list, and what each does to one row once the row's arguments are read.
+use Prim.Native.Nat.{ℕ}
+use mathlib.Core.Bool.{Bool, true, false}
+use mathlib.Core.List.{List, []}
+use lib.IntN.{natAbs}
+use Rattle.model.specs.Basics.{pick, absent, given}
+use Rattle.model.specs.Column.{Elem, nullRow, listRow, count}
+use Rattle.model.specs.Elements.{unaryElems, resized, replaced, removed}
+use Rattle.model.specs.Limits.{narrow}
+use Rattle.model.specs.Rows.{ListCall, unary, slice, resize, replace, remove, Made, refuses, makes}
+use Rattle.model.specs.Slice.{slicePlan, sliced}
+use Rattle.index.specs.Plan.{planOf, strideOf}
+use Rattle.index.specs.declared.slice.SlicePlan.{SlicePlan}
+use Rattle.index.specs.declared.slice.SlicePlan.the-variants as P
+use Rattle.index.specs.declared.slice.Stride.{Stride}
+use Rattle.index.specs.declared.slice.Stride.the-variants as S
+use Rattle.rows.specs.Cells.{elemOf, fillElem}
+use Rattle.rows.specs.Strides.{Walks}
+use Rattle.rows.specs.declared.Cell.{Cell}
+use Rattle.rows.specs.declared.Cell.the-variants as C
+use Rattle.rows.specs.declared.resize.Fill.{Fill}
+use Rattle.rows.specs.declared.resize.Fill.the-variants as F
+use Rattle.ops.specs.declared.ListOp.{ListOp}
+use Rattle.ops.specs.declared.ListOp.the-variants as L
+use Rattle.ops.specs.declared.RowOp.{RowOp}
+use Rattle.ops.specs.declared.RowOp.the-variants as R
+
+-- the call that an operation makes of a list and of the argument columns that it takesOf
+unfoldable pub callOf : {C A : Type 0} → ListOp → C → A → A → A → ListCall C A
+callOf (L.Plain u) c x y z = unary u c
+callOf L.Slice c x y z = slice c x y absent
+callOf L.SliceBy c x y z = slice c x y (given z)
+callOf L.Resize c x y z = resize c x absent
+callOf L.ResizeWith c x y z = resize c x (given y)
+callOf L.Replace c x y z = replace c x y z
+callOf L.Remove c x y z = remove c x y
+
+-- how many argument columns an operation takesOf
+unfoldable pub takesOf : ListOp → ℕ
+takesOf (L.Plain u) = 0
+takesOf L.Slice = 2
+takesOf L.SliceBy = 3
+takesOf L.Resize = 1
+takesOf L.ResizeWith = 2
+takesOf L.Replace = 3
+takesOf L.Remove = 2
+
+unfoldable pub planOp : SlicePlan → RowOp
+planOp P.Empty = R.Empty
+planOp (P.Steps a s n) = R.Steps a s n
+planOp (P.Refused k) = R.Refused k
+
+unfoldable pub sliceOp : ℕ → Cell → Cell → Stride → RowOp
+sliceOp n C.Null t s = R.Null
+sliceOp n (C.Value f) C.Null s = R.Null
+sliceOp n (C.Value f) (C.Value t) s = planOp (planOf (slicePlan narrow n f t (strideOf s)))
+
+unfoldable pub strideOp : ℕ → Cell → Cell → Cell → RowOp
+strideOp n f t C.Null = R.Null
+strideOp n f t (C.Value s) = sliceOp n f t (S.By s)
+
+unfoldable pub resizeOp : Cell → Fill → RowOp
+resizeOp C.Null f = R.Null
+resizeOp (C.Value n) f = R.Resized (count n) f
+
+unfoldable pub replaceOp : Cell → Cell → Cell → RowOp
+replaceOp f t C.Null = R.Null
+replaceOp f t (C.Value n) = R.Replaced f t (count n)
+
+unfoldable pub removeOp : Cell → Cell → RowOp
+removeOp C.Null n = R.Null
+removeOp (C.Value v) C.Null = R.Null
+removeOp (C.Value v) (C.Value n) = R.Removed (C.Value v) (count n)
+
+-- what is done to a valid row of n elements
+unfoldable pub validOp : ListOp → ℕ → Cell → Cell → Cell → RowOp
+validOp (L.Plain u) n x y z = R.Plain u
+validOp L.Slice n x y z = sliceOp n x y S.Absent
+validOp L.SliceBy n x y z = strideOp n x y z
+validOp L.Resize n x y z = resizeOp x F.Absent
+validOp L.ResizeWith n x y z = resizeOp x (F.Own y)
+validOp L.Replace n x y z = replaceOp x y z
+validOp L.Remove n x y z = removeOp x y
+
+unfoldable pub rowOpOf : ListOp → Bool → ℕ → Cell → Cell → Cell → RowOp
+rowOpOf op valid n x y z = pick valid (validOp op n x y z) R.Null
+
+-- the elements that are made of a row's
+unfoldable pub opElems : RowOp → List Elem → List Elem
+opElems R.Null es = []
+opElems (R.Refused k) es = []
+opElems (R.Plain u) es = unaryElems u es
+opElems R.Empty es = []
+opElems (R.Steps a s n) es = sliced (natAbs a) s (natAbs n) es
+opElems (R.Resized k f) es = resized k (fillElem f) es
+opElems (R.Replaced f t k) es = replaced k (elemOf f) (elemOf t) es
+opElems (R.Removed f k) es = removed k (elemOf f) es
+
+-- is the row that is made null
+unfoldable pub opNull : RowOp → Bool
+opNull R.Null = true
+opNull (R.Refused k) = true
+opNull (R.Plain u) = false
+opNull R.Empty = false
+opNull (R.Steps a s n) = false
+opNull (R.Resized k f) = false
+opNull (R.Replaced f t k) = false
+opNull (R.Removed f k) = false
+
+-- the row that is made, or the refusal
+unfoldable pub opMade : RowOp → List Elem → Made
+opMade R.Null es = makes nullRow
+opMade (R.Refused k) es = refuses k
+opMade (R.Plain u) es = makes (listRow (opElems (R.Plain u) es))
+opMade R.Empty es = makes (listRow [])
+opMade (R.Steps a s n) es = makes (listRow (opElems (R.Steps a s n) es))
+opMade (R.Resized k f) es = makes (listRow (opElems (R.Resized k f) es))
+opMade (R.Replaced f t k) es = makes (listRow (opElems (R.Replaced f t k) es))
+opMade (R.Removed f k) es = makes (listRow (opElems (R.Removed f k) es))
+
+-- a limit may have one row for all
+unfoldable pub secondLimit : ListOp → Bool
+secondLimit (L.Plain u) = false
+secondLimit L.Slice = false
+secondLimit L.SliceBy = false
+secondLimit L.Resize = false
+secondLimit L.ResizeWith = false
+secondLimit L.Replace = false
+secondLimit L.Remove = true
+
+unfoldable pub thirdLimit : ListOp → Bool
+thirdLimit (L.Plain u) = false
+thirdLimit L.Slice = false
+thirdLimit L.SliceBy = false
+thirdLimit L.Resize = false
+thirdLimit L.ResizeWith = false
+thirdLimit L.Replace = true
+thirdLimit L.Remove = false
+
+-- what is done can be done to a row of n elements: the places of a slice lie in it
+unfoldable pub Doable : RowOp → ℕ → Type 0
+Doable R.Null n = Unit
+Doable (R.Refused k) n = Unit
+Doable (R.Plain u) n = Unit
+Doable R.Empty n = Unit
+Doable (R.Steps a s k) n = Walks a s k n
+Doable (R.Resized k f) n = Unit
+Doable (R.Replaced f t k) n = Unit
+Doable (R.Removed f k) n = Unit

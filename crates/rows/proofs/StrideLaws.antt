@@ -1,0 +1,135 @@
+-- The places of a strided walk, and the elements that it takes.
+use mathlib.Core.Bool.{Bool, true, false, cond}
+use mathlib.Core.List.{List}
+use mathlib.Core.Path.{_≡_, refl, sym, ap, _∙_}
+use Prim.Native.Nat.{ℕ, _+_, _-_, _*_, _/_, _^_, _<_, _≤_, suc}
+use native.Mathlib.Nat.{mul-le-mul-right, add-mul, one-mul}
+use native.Mathlib.Omega.{arith}
+use borrow.Author.Tests.{ltb-true}
+use lib.Dec.{T, ltb}
+use lib.IntN.{ℤ, pos, negsuc, subℕ, _+ℤ_, natAbs}
+use lib.ListN.{length, getD, set}
+use lib.Signed.{nonNeg}
+use mir.Facts.{toZ-ofZ, toZ-pos}
+use mir.Syntax.{w32}
+use mir.Val.{SFits, toZ, ofZ}
+use Rattle.model.proofs.TabLaws.{length-tab, tab-step, tab-none, tab-ext, getD-tab}
+use Rattle.model.specs.Basics.{tab}
+use Rattle.model.specs.Column.{Elem, nul}
+use Rattle.model.specs.Form.{isVal, valueOf}
+use Rattle.model.specs.Limits.{narrow}
+use Rattle.model.specs.Slice.{stepFrom, sliced}
+use Rattle.bitmap.specs.Push.{pushBit}
+use Rattle.column.proofs.WriteLaws.{Writing, begun, written, room, done}
+use Rattle.column.specs.Put.{Place, Written}
+use Rattle.rows.specs.Strides.{Reaches}
+
+-- ---- signed places
+
+pub back32 : (x : ℤ) → SFits w32 x → toZ w32 (ofZ w32 x) ≡ x
+back32 x f = toZ-ofZ {w = w32} f
+
+pub low : (p : ℕ) → p < 2 ^ 31 → toZ w32 p ≡ pos p
+low p h = toZ-pos w32 h
+
+pub start-bits : (z : ℤ) → T (nonNeg z) → ofZ w32 z ≡ natAbs z
+start-bits (pos n) t = refl
+start-bits (negsuc n) t = absurd t
+
+difference : (a b : ℕ) → b ≤ a → subℕ a b ≡ pos (a - b)
+difference a b h = go (ltb a b) refl
+  where
+    go : (t : Bool) → ltb a b ≡ t → cond t (negsuc (b - suc a)) (pos (a - b)) ≡ pos (a - b)
+    go true e = let l = ltb-true a b e in let z : ⊥ = omega arith in absurd z
+    go false e = refl
+
+-- ---- the places
+
+-- once more a stride
+more : (j s : ℕ) → (j + 1) * s ≡ j * s + s
+more j s = add-mul j 1 s ∙ ap (λ (x : ℕ). j * s + x) (one-mul s)
+
+module _ (a k n j : ℕ) where
+  -- each place is inside the row
+  pub in-row : (s : ℤ) → Reaches a s k n → j < k → stepFrom a s j < n
+  unfolding Reaches stepFrom
+  in-row (pos s) r h = let m = mul-le-mul-right {m = j} {n = k - 1} s (omega arith) in omega arith
+  in-row (negsuc s) r h = omega arith
+
+  -- the sum that steps to the next place
+  next-place : (s : ℤ) → Reaches a s k n → j + 1 < k → pos (stepFrom a s j) +ℤ s ≡ pos (stepFrom a s (j + 1))
+  unfolding Reaches stepFrom
+  next-place (pos s) r h = let e = more j s in let f : a + j * s + s ≡ a + (j + 1) * s = omega arith in ap pos f
+  next-place (negsuc s) r h =
+      let e = more j (s + 1) in
+      let m = mul-le-mul-right {m = j + 1} {n = k - 1} (s + 1) (omega arith) in
+      let f : a - j * (s + 1) - suc s ≡ a - (j + 1) * (s + 1) = omega arith in
+      difference (a - j * (s + 1)) (suc s) (omega (arith, r .0)) ∙ ap pos f
+
+first-place : (a : ℕ) (s : ℤ) → stepFrom a s 0 ≡ a
+unfolding stepFrom
+first-place a (pos s) = omega arith
+first-place a (negsuc s) = omega arith
+
+-- ---- the elements
+
+-- what stands at place j of the walk
+unfoldable pub taken : ℕ → ℤ → List Elem → ℕ → Elem
+taken a s es j = getD es (stepFrom a s j) nul
+
+pub length-sliced : (a : ℕ) (s : ℤ) (k : ℕ) (es : List Elem) → length (sliced a s k es) ≡ k
+unfolding sliced
+length-sliced a s k es = length-tab _ 0 k
+
+-- the element at a place of the row
+pub taken-is : (E : ℕ → Elem) (b n a : ℕ) (s : ℤ) (j p : ℕ) → p ≡ stepFrom a s j → p < n → taken a s (tab E b n) j ≡ E (b + p)
+unfolding taken
+taken-is E b n a s j p e h = rw (← e) (getD-tab E b n p nul h)
+
+-- a slice of a row, by the row's elements
+pub sliced-tab : (E : ℕ → Elem) (b n a : ℕ) (s : ℤ) (k : ℕ) → Reaches a s k n → sliced a s k (tab E b n) ≡ tab (λ j. E (b + stepFrom a s j)) 0 k
+unfolding sliced
+sliced-tab E b n a s k r = tab-ext _ _ 0 0 k (λ j h. let z : 0 + j ≡ j = omega arith in rw z (getD-tab E b n (stepFrom a s j) nul (in-row a k n j s r h)))
+
+-- ---- the walk: of the k elements that it takes of es, the last left ones are to come, the next at place p
+
+pub record Going (a : ℕ) (s : ℤ) (k : ℕ) (es : List Elem) (at : ℕ) (vo₀ : List ℤ) (eo₀ : List ℕ) (left q : ℕ) (vo : List ℤ) (eo : List ℕ) (p : ℕ) : Type 0 where
+  pub writing : Writing (sliced a s k es) at vo₀ eo₀ (tab (taken a s es) (k - left) left) q vo eo
+  pub most : left ≤ k
+  pub place : 0 < left → p ≡ stepFrom a s (k - left)
+
+pub begin : (a : ℕ) (s : ℤ) (k : ℕ) (es : List Elem) (at : ℕ) (vo₀ : List ℤ) (eo₀ : List ℕ) → Going a s k es at vo₀ eo₀ k at vo₀ eo₀ a
+unfolding sliced taken
+begin a s k es at vo₀ eo₀ =
+    let e : k - k ≡ 0 = omega arith in
+    record { writing = rw e (begun _ refl); most = omega arith; place = λ h. rw e (sym (first-place a s)) }
+
+module _ {a : ℕ} {s : ℤ} {k : ℕ} {es : List Elem} {at : ℕ} {vo₀ : List ℤ} {eo₀ : List ℕ} {left q : ℕ} {vo : List ℤ} {eo : List ℕ} {p : ℕ} (g : Going a s k es at vo₀ eo₀ left q vo eo p) where
+  pub room-for : 0 < left → Place (sliced a s k es) at (length vo₀) (length eo₀) → (q < length vo) × (q / 8 < length eo)
+  room-for h r = room (g .writing) _ _ (tab-step (taken a s es) (k - left) left h) r
+
+  pub stop : left ≤ 0 → Written (sliced a s k es) at vo₀ vo eo₀ eo q
+  stop h = done (g .writing) (tab-none (taken a s es) (k - left) left h)
+
+  pub turned : 0 < left → {vo′ : List ℤ} {eo′ : List ℕ} {p′ : ℕ} → vo′ ≡ set vo q (valueOf (taken a s es (k - left))) → eo′ ≡ pushBit eo q (isVal (taken a s es (k - left)))
+      → (0 < left - 1 → p′ ≡ stepFrom a s (k - left + 1)) → Going a s k es at vo₀ eo₀ (left - 1) (q + 1) vo′ eo′ p′
+  turned h {vo′} {eo′} {p′} v e f =
+      let d : k - (left - 1) ≡ k - left + 1 = omega (arith, g .most) in
+      record {
+        writing = rw d (written (g .writing) _ _ (tab-step (taken a s es) (k - left) left h) v e);
+        most = omega (arith, g .most);
+        place = λ l. rw d (f l);
+      }
+
+  module _ (n : ℕ) (r : 0 < k → Reaches a s k n) where
+    pub here : 0 < left → p < n
+    here h = rw (g .place h) (in-row a k n (k - left) s (r (omega (arith, g .most))) (omega (arith, g .most)))
+
+    -- the sum that steps to the next place, where one is left
+    pub stepping : 0 < left - 1 → pos p +ℤ s ≡ pos (stepFrom a s (k - left + 1))
+    stepping h = rw (g .place (omega arith)) (next-place a k n (k - left) s (r (omega (arith, g .most))) (omega (arith, g .most)))
+
+    pub step-fits : 0 < left - 1 → n ≤ narrow .offset → SFits w32 (pos p +ℤ s)
+    step-fits h l =
+        let b = in-row a k n (k - left + 1) s (r (omega (arith, g .most))) (omega (arith, g .most)) in
+        rw (stepping h) (record { sfits = omega (arith, b) })

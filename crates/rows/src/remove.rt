@@ -1,0 +1,90 @@
+// Remove: a row without its first matches.
+use crate::Cell;
+use crate::utils;
+use column::elements;
+ghost use Rattle.column.specs.Put.{Place, Source, Written};
+ghost use Rattle.model.specs.Basics.{tab};
+ghost use Rattle.model.specs.Bitmap.{from};
+ghost use Rattle.model.specs.Column.{elemAt};
+ghost use Rattle.model.specs.Elements.{removed};
+ghost use Rattle.rows.specs.Cells.{elemOf};
+ghost use lib.ListN.{length};
+ghost use mathlib.Core.Path.{_≡_};
+
+// How many of the n elements from element a on are kept; past the limit all are.
+pub fn measure_removed(
+    values: &[i64],
+    elements: &[u8],
+    estart: usize,
+    a: usize,
+    n: usize,
+    element: Cell,
+    limit: usize,
+) -> usize
+    requires column { ⌜ Source (now values) (from estart (now elements)) a n ⌝ }
+    ensures { λ r. ⌜ r ≡ length (removed limit (elemOf element) (tab (elemAt (now (values .entry)) (from estart (now (elements .entry)))) a n)) ⌝ }
+{
+    let mut p = a;
+    let mut left = n;
+    let mut most = limit;
+    let mut kept: usize = 0;
+    while 0 < left {
+        if most == 0 {
+            return kept + left;
+        }
+        if utils::matches(values, elements, estart, p, element) {
+            most -= 1;
+        } else {
+            kept += 1;
+        }
+        p += 1;
+        left -= 1;
+    }
+    kept
+}
+
+// Writes the n elements from element a on without the first matches; past the limit they are copied.
+pub fn write_removed(
+    values: &[i64],
+    elements: &[u8],
+    estart: usize,
+    a: usize,
+    n: usize,
+    element: Cell,
+    limit: usize,
+    out_values: &mut [i64],
+    out_elements: &mut [u8],
+    at: usize,
+) -> usize
+    requires column { ⌜ Source (now values) (from estart (now elements)) a n ⌝ }
+    requires room { ⌜ Place (removed limit (elemOf element) (tab (elemAt (now values) (from estart (now elements))) a n)) at (length (now «out_values»)) (length (now «out_elements»)) ⌝ }
+    ensures { λ r. ⌜ Written (removed limit (elemOf element) (tab (elemAt (now (values .entry)) (from estart (now (elements .entry)))) a n)) at (now («out_values» .entry)) (now («out_values» .exit)) (now («out_elements» .entry)) (now («out_elements» .exit)) r ⌝ }
+{
+    let mut p = a;
+    let mut left = n;
+    let mut most = limit;
+    let mut k = at;
+    while 0 < left {
+        if most == 0 {
+            return utils::write_forward(
+                values,
+                elements,
+                estart,
+                p,
+                left,
+                out_values,
+                out_elements,
+                k,
+            );
+        }
+        if utils::matches(values, elements, estart, p, element) {
+            most -= 1;
+        } else {
+            elements::write_elem(values, elements, estart, p, out_values, out_elements, k);
+            k += 1;
+        }
+        p += 1;
+        left -= 1;
+    }
+    k
+}

@@ -1,0 +1,59 @@
+// Replace: the first matches of a row become another element.
+use crate::Cell;
+use crate::utils;
+use column::elements;
+ghost use Rattle.column.specs.Put.{Place, Source, Written};
+ghost use Rattle.model.specs.Basics.{tab};
+ghost use Rattle.model.specs.Bitmap.{from};
+ghost use Rattle.model.specs.Column.{elemAt};
+ghost use Rattle.model.specs.Elements.{replaced};
+ghost use Rattle.rows.specs.Cells.{elemOf};
+ghost use lib.ListN.{length};
+
+// Writes the n elements from element a on, the first matches as another element; past the limit they are copied.
+pub fn write_replaced(
+    values: &[i64],
+    elements: &[u8],
+    estart: usize,
+    a: usize,
+    n: usize,
+    needle: Cell,
+    to: Cell,
+    limit: usize,
+    out_values: &mut [i64],
+    out_elements: &mut [u8],
+    at: usize,
+) -> usize
+    requires column { ⌜ Source (now values) (from estart (now elements)) a n ⌝ }
+    requires room { ⌜ Place (replaced limit (elemOf needle) (elemOf to) (tab (elemAt (now values) (from estart (now elements))) a n)) at (length (now «out_values»)) (length (now «out_elements»)) ⌝ }
+    ensures { λ r. ⌜ Written (replaced limit (elemOf needle) (elemOf to) (tab (elemAt (now (values .entry)) (from estart (now (elements .entry)))) a n)) at (now («out_values» .entry)) (now («out_values» .exit)) (now («out_elements» .entry)) (now («out_elements» .exit)) r ⌝ }
+{
+    let mut p = a;
+    let mut left = n;
+    let mut most = limit;
+    let mut k = at;
+    while 0 < left {
+        if most == 0 {
+            return utils::write_forward(
+                values,
+                elements,
+                estart,
+                p,
+                left,
+                out_values,
+                out_elements,
+                k,
+            );
+        }
+        if utils::matches(values, elements, estart, p, needle) {
+            utils::write_cell(to, out_values, out_elements, k);
+            most -= 1;
+        } else {
+            elements::write_elem(values, elements, estart, p, out_values, out_elements, k);
+        }
+        p += 1;
+        k += 1;
+        left -= 1;
+    }
+    k
+}

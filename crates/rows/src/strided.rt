@@ -1,0 +1,67 @@
+// Slice: the elements of a row at places a stride apart.
+use column::elements;
+ghost use Prim.Native.Nat.{_<_};
+ghost use Rattle.column.specs.Put.{Place, Source, Written};
+ghost use Rattle.model.specs.Basics.{tab};
+ghost use Rattle.model.specs.Bitmap.{from};
+ghost use Rattle.model.specs.Column.{elemAt};
+ghost use Rattle.model.specs.Slice.{sliced};
+ghost use Rattle.rows.specs.Strides.{Walks};
+ghost use lib.Dec.{T};
+ghost use lib.IntN.{_+ℤ_, natAbs};
+ghost use lib.ListN.{length};
+ghost use lib.Signed.{nonNeg};
+ghost use mathlib.Core.Path.{_≡_};
+ghost use mir.Syntax.{w32};
+ghost use mir.Val.{SFits};
+
+// A place or a count that is not negative.
+pub fn to_usize(x: i32) -> usize
+    requires { ⌜ T (nonNeg x) ⌝ }
+    ensures { λ r. ⌜ r ≡ natAbs x ⌝ }
+{
+    x as usize
+}
+
+// The place after p, where one is left: none past the last is computed.
+fn place_after(p: i32, stride: i32, left: usize) -> i32
+    requires { ⌜ (0 < left → SFits w32 (p +ℤ stride)) ⌝ }
+    ensures { λ r. ⌜ (0 < left → r ≡ p +ℤ stride) ⌝ }
+{
+    if left == 0 {
+        return p;
+    }
+    p + stride
+}
+
+// Writes count elements of the n from element a on: those at start, start + stride, and so on.
+pub fn write_strided(
+    values: &[i64],
+    elements: &[u8],
+    estart: usize,
+    a: usize,
+    n: usize,
+    start: i32,
+    stride: i32,
+    count: i32,
+    out_values: &mut [i64],
+    out_elements: &mut [u8],
+    at: usize,
+) -> usize
+    requires column { ⌜ Source (now values) (from estart (now elements)) a n ⌝ }
+    requires places { ⌜ Walks start stride count n ⌝ }
+    requires room { ⌜ Place (sliced (natAbs start) stride (natAbs count) (tab (elemAt (now values) (from estart (now elements))) a n)) at (length (now «out_values»)) (length (now «out_elements»)) ⌝ }
+    ensures { λ r. ⌜ Written (sliced (natAbs start) stride (natAbs count) (tab (elemAt (now (values .entry)) (from estart (now (elements .entry)))) a n)) at (now («out_values» .entry)) (now («out_values» .exit)) (now («out_elements» .entry)) (now («out_elements» .exit)) r ⌝ }
+{
+    let mut p = start;
+    let mut left = to_usize(count);
+    let mut k = at;
+    while 0 < left {
+        let i = a + to_usize(p);
+        elements::write_elem(values, elements, estart, i, out_values, out_elements, k);
+        k += 1;
+        left -= 1;
+        p = place_after(p, stride, left);
+    }
+    k
+}

@@ -3,7 +3,6 @@ use mathlib.Core.Path.{_≡_, refl, sym, ap, _∙_}
 use mathlib.Core.List.{List, [], _∷_, map}
 use Prim.Native.Nat.{ℕ, zero, suc, _-_, _≤_}
 use native.Mathlib.Omega.{arith}
-use borrow.Author.Tests.{ne-eqb}
 use lib.ListN.{length, getD}
 use Rattle.model.specs.Basics.{tab}
 use Rattle.model.specs.Bitmap.{Bits, validAt}
@@ -13,7 +12,7 @@ use Rattle.model.specs.Form.{Room, isRow, elemsOf, flat}
 use Rattle.model.specs.Limits.{Limits}
 use Rattle.model.specs.Rows.{unary, onRow, onCall, listsIn, argumentsIn, makes, madeOf, atRow, rowsIn, rowByRow, rowMade, rowsMade}
 use Rattle.model.specs.Refusals.{unequal, firstOf, refusalOf, sumsRefusal, rowsRefusal}
-use Rattle.model.specs.Outcome.{Outcome, refused, gate, columnsRefusal, fitted, afterThree, listShown, listOutcome}
+use Rattle.model.specs.Outcome.{gate, columnsRefusal, fitted, afterThree, listShown, listOutcome}
 use Rattle.model.specs.declared.Unary.{Unary}
 use Rattle.model.proofs.TabLaws.{length-tab, map-tab, tab-of}
 use Rattle.model.proofs.OutcomeLaws.{gate-open}
@@ -73,10 +72,6 @@ unary-outcome L op c l =
 pub length-unary : (op : Unary) (c : Column) → length (unaryRows op c) ≡ rowCount (c .offsets)
 unfolding unaryRows
 length-unary op c = length-tab (unaryAt op c) 0 (rowCount (c .offsets))
-
-pub gate-shut : {A : Type 0} (k : ℕ) (o : Outcome A) → (k ≡ 0 → ⊥) → gate k o ≡ refused k
-unfolding gate
-gate-shut k o h = rw (ne-eqb k 0 h)
 
 -- the rows made, counted by the code's n
 module _ (op : Unary) (c : Column) (n : ℕ) (e : n ≡ rowCount (c .offsets)) where

@@ -9,7 +9,7 @@ use borrow.Author.Tests.{eq-eqb, ne-eqb}
 use lib.ListN.{length}
 use Rattle.model.specs.Basics.{pick, tab, any}
 use Rattle.model.specs.Bitmap.{shortBits}
-use Rattle.model.specs.Column.{Elem, nul, Row, nullRow, Column, Arguments, elemAt, rowAt, rowsOf, shownBy, rowCount, refusal1, refusal2, refusal2ᵃ}
+use Rattle.model.specs.Column.{Elem, nul, Row, Column, Arguments, elemAt, rowAt, rowsOf, shownBy, rowCount, refusal1, refusal2, refusal2ᵃ}
 use Rattle.model.specs.Form.{ValueRoom}
 use Rattle.model.specs.Limits.{narrow}
 use Rattle.model.specs.Refusals.{firstOf, elementRefusal}
@@ -20,6 +20,7 @@ use Rattle.model.proofs.OutcomeLaws.{gate-open}
 use Rattle.lists.specs.Made.{anyValueAt, anyValues, elementAtRow, elementsOf}
 use Rattle.rows.proofs.FoundLaws.{four-at}
 use Rattle.rows.specs.Found.{fourAt}
+use Rattle.sets.proofs.SetLaws.{length-rows, row-at}
 
 -- ---- the calls
 
@@ -31,17 +32,9 @@ pub length-any : (c : Column) → length (anyValues c) ≡ rowCount (c .offsets)
 unfolding anyValues
 length-any c = length-tab (anyValueAt c) 0 (rowCount (c .offsets))
 
-length-rows : (c : Column) → length (rowsOf c) ≡ rowCount (c .offsets)
-unfolding rowsOf
-length-rows c = length-tab (rowAt c) 0 (rowCount (c .offsets))
-
 length-shown : (a : Arguments) → length (shownBy a) ≡ length (a .values)
 unfolding shownBy
 length-shown a = length-tab (elemAt (a .values) (a .bits)) 0 (length (a .values))
-
-row-at : (c : Column) (r : ℕ) → r < rowCount (c .offsets) → rowOf (rowsOf c) r ≡ rowAt c r
-unfolding rowsOf
-row-at c r h = getD-tab (rowAt c) 0 (rowCount (c .offsets)) r nullRow h ∙ ap (rowAt c) (zero-add r)
 
 argument-at : (a : Arguments) (r : ℕ) → r < length (a .values) → argumentOf (shownBy a) r ≡ elemAt (a .values) (a .bits) r
 unfolding shownBy

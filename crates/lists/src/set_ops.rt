@@ -1,13 +1,13 @@
-// Distinct: first occurrences, by comparing with the elements before.
+// Distinct, union and intersect: first occurrences, by comparing with the elements before.
 use crate::walk;
-use column::elements;
 use model::ListAnswer;
+use model::SetOp;
 use model::Unary;
 ghost use Rattle.model.specs.Contract.{ListAnswers, lent};
 ghost use Rattle.model.specs.Elements.{distinct};
 ghost use Rattle.model.specs.Limits.{narrow};
 ghost use Rattle.model.specs.Outcome.{listOutcome};
-ghost use Rattle.model.specs.Rows.{unary};
+ghost use Rattle.model.specs.Rows.{setOp, unary};
 
 pub fn general_array_distinct(
     offsets: &[i32],
@@ -28,6 +28,45 @@ pub fn general_array_distinct(
         0,
         values,
         elements,
+        0,
+        out_offsets,
+        out_rows,
+        out_values,
+        out_elements,
+    )
+}
+
+// Union or intersect, row by row.
+pub fn generic_set_lists<'a>(
+    l_offsets: &[i32],
+    l_rows: &[u8],
+    l_values: &'a [i64],
+    l_elements: &[u8],
+    r_offsets: &[i32],
+    r_rows: &[u8],
+    r_values: &'a [i64],
+    r_elements: &[u8],
+    set_op: SetOp,
+    out_offsets: &mut [i32],
+    out_rows: &mut [u8],
+    out_values: &mut [i64],
+    out_elements: &mut [u8],
+) -> ListAnswer
+    ensures { λ a. ⌜ ListAnswers (listOutcome narrow (setOp «set_op» (lent «l_offsets» «l_rows» «l_values» «l_elements») (lent «r_offsets» «r_rows» «r_values» «r_elements»))) a «out_offsets» «out_rows» «out_values» «out_elements» ⌝ }
+{
+    sets::run(
+        set_op,
+        l_offsets,
+        l_rows,
+        0,
+        l_values,
+        l_elements,
+        0,
+        r_offsets,
+        r_rows,
+        0,
+        r_values,
+        r_elements,
         0,
         out_offsets,
         out_rows,

@@ -13,7 +13,7 @@ use Rattle.model.proofs.OutcomeLaws.{gate-open}
 use Rattle.column.proofs.AnswerLaws.{value-refused, value-made, has-value-room, same-value-fit, values-made, values-short}
 use Rattle.column.proofs.WalkLaws.{readable}
 use Rattle.lists.specs.Made.{anyValues}
-use Rattle.lists.proofs.UnaryLaws.{gate-shut}
+use Rattle.sets.proofs.SetLaws.{gate-shut}
 use Rattle.lists.proofs.ValueLaws.{any-outcome, length-any}
 use Rattle.lists.proofs.extract.general_array_any_value.Statement.{statement}
 use Rattle.lists.proofs.extract.general_array_any_value.Tie as tie

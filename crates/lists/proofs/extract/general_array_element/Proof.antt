@@ -19,7 +19,7 @@ use Rattle.column.proofs.AnswerLaws.{value-refused, value-made, has-value-room,
 use Rattle.column.proofs.WalkLaws.{readable}
 use Rattle.lists.specs.Made.{elementsOf}
 use Rattle.rows.specs.Found.{fourAt}
-use Rattle.lists.proofs.UnaryLaws.{gate-shut}
+use Rattle.sets.proofs.SetLaws.{gate-shut}
 use Rattle.lists.proofs.ValueLaws.{element-early, element-two, element-shown, element-three, element-goes, length-elements}
 use Rattle.lists.proofs.extract.general_array_element.Statement.{statement}
 use Rattle.lists.proofs.extract.general_array_element.Tie as tie

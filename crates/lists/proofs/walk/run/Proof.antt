@@ -16,7 +16,8 @@ use Rattle.column.specs.Put.{HasRoom}
 use Rattle.column.proofs.AnswerLaws.{list-refused, list-made, has-room, same-fit, fitted-made, fitted-short}
 use Rattle.column.proofs.WalkLaws.{readable}
 use Rattle.lists.specs.Made.{unaryRows}
-use Rattle.lists.proofs.UnaryLaws.{unary-outcome, length-unary, gate-shut}
+use Rattle.sets.proofs.SetLaws.{gate-shut}
+use Rattle.lists.proofs.UnaryLaws.{unary-outcome, length-unary}
 use Rattle.lists.proofs.walk.run.Statement.{statement}
 use Rattle.lists.proofs.walk.run.Tie as tie
 

@@ -1,0 +1,406 @@
+// The operations on two lists: one walk measures the pairs of rows, a second writes. An inner crate: its callers meet what it asks.
+use column::answers;
+use column::checks;
+use column::offsets;
+use model::ListAnswer;
+use model::SetOp;
+use rows::set_ops;
+ghost use Prim.Native.Nat.{_<_, _≤_};
+ghost use Rattle.bitmap.specs.Push.{Covers};
+ghost use Rattle.column.specs.Put.{HasRoom, Holds, Readable};
+ghost use Rattle.column.specs.Rows.{Between, PutsRow, RoomFor, rowFrom};
+ghost use Rattle.model.specs.Bitmap.{from, validAt};
+ghost use Rattle.model.specs.Column.{column, elemAt, rowCount};
+ghost use Rattle.model.specs.Contract.{ListMeets, room};
+ghost use Rattle.model.specs.Elements.{setElems};
+ghost use Rattle.model.specs.Form.{elemsOf, flat};
+ghost use Rattle.model.specs.Limits.{narrow};
+ghost use Rattle.model.specs.Outcome.{columnsRefusal, listOutcome};
+ghost use Rattle.model.specs.Refusals.{unionRefusal};
+ghost use Rattle.model.specs.Rows.{onRows, setOp};
+ghost use Rattle.sets.specs.Pairs.{boundOf, pairRows};
+ghost use lib.ListN.{length};
+ghost use mathlib.Core.Bool.{_&&_};
+ghost use mathlib.Core.List.{[], _∷_};
+ghost use mathlib.Core.Path.{_≡_};
+
+// 1 of either list, else 2 of either, else 0.
+fn lists_refusal(
+    loffsets: &[i32],
+    lrows: &[u8],
+    lrstart: usize,
+    lvalues: &[i64],
+    lelements: &[u8],
+    lestart: usize,
+    roffsets: &[i32],
+    rrows: &[u8],
+    rrstart: usize,
+    rvalues: &[i64],
+    relements: &[u8],
+    restart: usize,
+) -> u8
+    requires { ⌜ lrstart < 8 ⌝ }
+    requires { ⌜ lestart < 8 ⌝ }
+    requires { ⌜ rrstart < 8 ⌝ }
+    requires { ⌜ restart < 8 ⌝ }
+    ensures { λ k. ⌜ k ≡ columnsRefusal (column (now (loffsets .entry)) (from lrstart (now (lrows .entry))) (now (lvalues .entry)) (from lestart (now (lelements .entry))) ∷ column (now (roffsets .entry)) (from rrstart (now (rrows .entry))) (now (rvalues .entry)) (from restart (now (relements .entry))) ∷ []) [] ⌝ }
+{
+    let left = checks::list_refusal(loffsets, lrows, lrstart, lvalues, lelements, lestart);
+    if left == 1 {
+        return 1;
+    }
+    let right = checks::list_refusal(roffsets, rrows, rrstart, rvalues, relements, restart);
+    if right == 1 {
+        return 1;
+    }
+    if left != 0 {
+        return left;
+    }
+    right
+}
+
+// Whether row r of n is valid in both lists.
+fn are_valid(lrows: &[u8], lrstart: usize, rrows: &[u8], rrstart: usize, n: usize, r: usize) -> bool
+    requires left { ⌜ Covers (from lrstart (now lrows)) n ⌝ }
+    requires right { ⌜ Covers (from rrstart (now rrows)) n ⌝ }
+    requires there { ⌜ r < n ⌝ }
+    ensures { λ v. ⌜ v ≡ validAt (from lrstart (now (lrows .entry))) r && validAt (from rrstart (now (rrows .entry))) r ⌝ }
+{
+    if bitmap::is_valid(lrows, lrstart, r, n) {
+        return bitmap::is_valid(rrows, rrstart, r, n);
+    }
+    false
+}
+
+// The number of elements that the operation makes of the rows r, which lie from a to b and from c to d.
+fn measure_pair<'a>(
+    op: SetOp,
+    lrows: &[u8],
+    lrstart: usize,
+    lvalues: &'a [i64],
+    lelements: &[u8],
+    lestart: usize,
+    a: usize,
+    b: usize,
+    rrows: &[u8],
+    rrstart: usize,
+    rvalues: &'a [i64],
+    relements: &[u8],
+    restart: usize,
+    c: usize,
+    d: usize,
+    n: usize,
+    r: usize,
+) -> usize
+    requires left { ⌜ Between (from lrstart (now lrows)) n (now lvalues) (from lestart (now lelements)) r a b ⌝ }
+    requires right { ⌜ Between (from rrstart (now rrows)) n (now rvalues) (from restart (now relements)) r c d ⌝ }
+    requires small { ⌜ b ≤ narrow .offset ⌝ }
+    requires low { ⌜ d ≤ narrow .offset ⌝ }
+    ensures { λ k. ⌜ k ≡ length (elemsOf (onRows (setElems op) (rowFrom (from lrstart (now (lrows .entry))) (elemAt (now (lvalues .entry)) (from lestart (now (lelements .entry)))) r a b) (rowFrom (from rrstart (now (rrows .entry))) (elemAt (now (rvalues .entry)) (from restart (now (relements .entry)))) r c d))) ⌝ }
+{
+    if !are_valid(lrows, lrstart, rrows, rrstart, n, r) {
+        return 0;
+    }
+    set_ops::measure_set(
+        op,
+        lvalues,
+        lelements,
+        lestart,
+        a,
+        b - a,
+        rvalues,
+        relements,
+        restart,
+        c,
+        d - c,
+    )
+}
+
+// Writes the row that the operation makes of the rows r, but for its offset; gives the number of elements then written.
+fn put_pair<'a>(
+    op: SetOp,
+    lrows: &[u8],
+    lrstart: usize,
+    lvalues: &'a [i64],
+    lelements: &[u8],
+    lestart: usize,
+    a: usize,
+    b: usize,
+    rrows: &[u8],
+    rrstart: usize,
+    rvalues: &'a [i64],
+    relements: &[u8],
+    restart: usize,
+    c: usize,
+    d: usize,
+    n: usize,
+    r: usize,
+    out_rows: &mut [u8],
+    out_values: &mut [i64],
+    out_elements: &mut [u8],
+    at: usize,
+) -> usize
+    requires left { ⌜ Between (from lrstart (now lrows)) n (now lvalues) (from lestart (now lelements)) r a b ⌝ }
+    requires right { ⌜ Between (from rrstart (now rrows)) n (now rvalues) (from restart (now relements)) r c d ⌝ }
+    requires room { ⌜ RoomFor (onRows (setElems op) (rowFrom (from lrstart (now lrows)) (elemAt (now lvalues) (from lestart (now lelements))) r a b) (rowFrom (from rrstart (now rrows)) (elemAt (now rvalues) (from restart (now relements))) r c d)) r at (length (now «out_rows»)) (length (now «out_values»)) (length (now «out_elements»)) ⌝ }
+    ensures { λ k. ⌜ PutsRow (onRows (setElems op) (rowFrom (from lrstart (now (lrows .entry))) (elemAt (now (lvalues .entry)) (from lestart (now (lelements .entry)))) r a b) (rowFrom (from rrstart (now (rrows .entry))) (elemAt (now (rvalues .entry)) (from restart (now (relements .entry)))) r c d)) r at (now («out_rows» .entry)) (now («out_rows» .exit)) (now («out_values» .entry)) (now («out_values» .exit)) (now («out_elements» .entry)) (now («out_elements» .exit)) k ⌝ }
+{
+    if !are_valid(lrows, lrstart, rrows, rrstart, n, r) {
+        bitmap::push_bit(out_rows, r, false);
+        return at;
+    }
+    let next = set_ops::write_set(
+        op,
+        lvalues,
+        lelements,
+        lestart,
+        a,
+        b - a,
+        rvalues,
+        relements,
+        restart,
+        c,
+        d - c,
+        out_values,
+        out_elements,
+        at,
+    );
+    bitmap::push_bit(out_rows, r, true);
+    next
+}
+
+// The number of elements that the operation makes.
+fn measure_pairs<'a>(
+    op: SetOp,
+    loffsets: &[i32],
+    lrows: &[u8],
+    lrstart: usize,
+    lvalues: &'a [i64],
+    lelements: &[u8],
+    lestart: usize,
+    roffsets: &[i32],
+    rrows: &[u8],
+    rrstart: usize,
+    rvalues: &'a [i64],
+    relements: &[u8],
+    restart: usize,
+) -> usize
+    requires left { ⌜ Readable (column (now loffsets) (from lrstart (now lrows)) (now lvalues) (from lestart (now lelements))) ⌝ }
+    requires right { ⌜ Readable (column (now roffsets) (from rrstart (now rrows)) (now rvalues) (from restart (now relements))) ⌝ }
+    requires equal { ⌜ rowCount (now roffsets) ≡ rowCount (now loffsets) ⌝ }
+    ensures { λ m. ⌜ m ≡ length (flat (pairRows op (column (now (loffsets .entry)) (from lrstart (now (lrows .entry))) (now (lvalues .entry)) (from lestart (now (lelements .entry)))) (column (now (roffsets .entry)) (from rrstart (now (rrows .entry))) (now (rvalues .entry)) (from restart (now (relements .entry)))))) ⌝ }
+    ensures { λ m. ⌜ m ≤ boundOf op (narrow .offset) (narrow .offset) ⌝ }
+{
+    let n = offsets::row_count(loffsets);
+    let mut found: usize = 0;
+    let mut r: usize = 0;
+    let mut left = n;
+    while 0 < left {
+        let a = offsets::offset_at(loffsets, r);
+        let b = offsets::offset_at(loffsets, r + 1);
+        let c = offsets::offset_at(roffsets, r);
+        let d = offsets::offset_at(roffsets, r + 1);
+        let len = measure_pair(
+            op,
+            lrows,
+            lrstart,
+            lvalues,
+            lelements,
+            lestart,
+            a,
+            b,
+            rrows,
+            rrstart,
+            rvalues,
+            relements,
+            restart,
+            c,
+            d,
+            n,
+            r,
+        );
+        found += len;
+        r += 1;
+        left -= 1;
+    }
+    found
+}
+
+// Writes the rows that the operation makes, in result form.
+fn write_pairs<'a>(
+    op: SetOp,
+    loffsets: &[i32],
+    lrows: &[u8],
+    lrstart: usize,
+    lvalues: &'a [i64],
+    lelements: &[u8],
+    lestart: usize,
+    roffsets: &[i32],
+    rrows: &[u8],
+    rrstart: usize,
+    rvalues: &'a [i64],
+    relements: &[u8],
+    restart: usize,
+    out_offsets: &mut [i32],
+    out_rows: &mut [u8],
+    out_values: &mut [i64],
+    out_elements: &mut [u8],
+)
+    requires left { ⌜ Readable (column (now loffsets) (from lrstart (now lrows)) (now lvalues) (from lestart (now lelements))) ⌝ }
+    requires right { ⌜ Readable (column (now roffsets) (from rrstart (now rrows)) (now rvalues) (from restart (now relements))) ⌝ }
+    requires equal { ⌜ rowCount (now roffsets) ≡ rowCount (now loffsets) ⌝ }
+    requires small { ⌜ length (flat (pairRows op (column (now loffsets) (from lrstart (now lrows)) (now lvalues) (from lestart (now lelements))) (column (now roffsets) (from rrstart (now rrows)) (now rvalues) (from restart (now relements))))) ≤ narrow .offset ⌝ }
+    requires room { ⌜ HasRoom (rowCount (now loffsets)) (length (flat (pairRows op (column (now loffsets) (from lrstart (now lrows)) (now lvalues) (from lestart (now lelements))) (column (now roffsets) (from rrstart (now rrows)) (now rvalues) (from restart (now relements)))))) (length (now «out_offsets»)) (length (now «out_rows»)) (length (now «out_values»)) (length (now «out_elements»)) ⌝ }
+    ensures { λ _. ⌜ Holds (pairRows op (column (now (loffsets .entry)) (from lrstart (now (lrows .entry))) (now (lvalues .entry)) (from lestart (now (lelements .entry)))) (column (now (roffsets .entry)) (from rrstart (now (rrows .entry))) (now (rvalues .entry)) (from restart (now (relements .entry))))) (now («out_offsets» .entry)) (now («out_offsets» .exit)) (now («out_rows» .entry)) (now («out_rows» .exit)) (now («out_values» .entry)) (now («out_values» .exit)) (now («out_elements» .entry)) (now («out_elements» .exit)) ⌝ }
+{
+    let n = offsets::row_count(loffsets);
+    offsets::put_offset(out_offsets, 0, 0);
+    let mut r: usize = 0;
+    let mut at: usize = 0;
+    let mut left = n;
+    while 0 < left {
+        let a = offsets::offset_at(loffsets, r);
+        let b = offsets::offset_at(loffsets, r + 1);
+        let c = offsets::offset_at(roffsets, r);
+        let d = offsets::offset_at(roffsets, r + 1);
+        at = put_pair(
+            op,
+            lrows,
+            lrstart,
+            lvalues,
+            lelements,
+            lestart,
+            a,
+            b,
+            rrows,
+            rrstart,
+            rvalues,
+            relements,
+            restart,
+            c,
+            d,
+            n,
+            r,
+            out_rows,
+            out_values,
+            out_elements,
+            at,
+        );
+        offsets::put_offset(out_offsets, r + 1, at);
+        r += 1;
+        left -= 1;
+    }
+}
+
+// 8 where a union has more than 2147483647 elements.
+fn union_refusal(op: SetOp, m: usize) -> u8
+    ensures { λ k. ⌜ k ≡ unionRefusal narrow op m ⌝ }
+{
+    match op {
+        SetOp::Union => {
+            if 2147483647 < m {
+                return 8;
+            }
+            0
+        }
+        SetOp::Intersect => 0,
+    }
+}
+
+// Checks the columns and the outputs, and writes what the operation makes.
+pub fn run<'a>(
+    op: SetOp,
+    loffsets: &[i32],
+    lrows: &[u8],
+    lrstart: usize,
+    lvalues: &'a [i64],
+    lelements: &[u8],
+    lestart: usize,
+    roffsets: &[i32],
+    rrows: &[u8],
+    rrstart: usize,
+    rvalues: &'a [i64],
+    relements: &[u8],
+    restart: usize,
+    out_offsets: &mut [i32],
+    out_rows: &mut [u8],
+    out_values: &mut [i64],
+    out_elements: &mut [u8],
+) -> ListAnswer
+    requires { ⌜ lrstart < 8 ⌝ }
+    requires { ⌜ lestart < 8 ⌝ }
+    requires { ⌜ rrstart < 8 ⌝ }
+    requires { ⌜ restart < 8 ⌝ }
+    ensures { λ k. ⌜ ListMeets (listOutcome narrow (setOp op (column (now (loffsets .entry)) (from lrstart (now (lrows .entry))) (now (lvalues .entry)) (from lestart (now (lelements .entry)))) (column (now (roffsets .entry)) (from rrstart (now (rrows .entry))) (now (rvalues .entry)) (from restart (now (relements .entry))))) (room (length (now («out_offsets» .entry))) (length (now («out_rows» .entry))) (length (now («out_values» .entry))) (length (now («out_elements» .entry))))) k (now («out_offsets» .entry)) (now («out_offsets» .exit)) (now («out_rows» .entry)) (now («out_rows» .exit)) (now («out_values» .entry)) (now («out_values» .exit)) (now («out_elements» .entry)) (now («out_elements» .exit)) ⌝ }
+{
+    let k = lists_refusal(
+        loffsets,
+        lrows,
+        lrstart,
+        lvalues,
+        lelements,
+        lestart,
+        roffsets,
+        rrows,
+        rrstart,
+        rvalues,
+        relements,
+        restart,
+    );
+    if k != 0 {
+        return ListAnswer::Refused(k);
+    }
+    let n = offsets::row_count(loffsets);
+    if offsets::row_count(roffsets) != n {
+        return ListAnswer::Refused(3);
+    }
+    let m = measure_pairs(
+        op,
+        loffsets,
+        lrows,
+        lrstart,
+        lvalues,
+        lelements,
+        lestart,
+        roffsets,
+        rrows,
+        rrstart,
+        rvalues,
+        relements,
+        restart,
+    );
+    let long = union_refusal(op, m);
+    if long != 0 {
+        return ListAnswer::Refused(long);
+    }
+    if !checks::has_room(
+        n,
+        m,
+        out_offsets.len(),
+        out_rows.len(),
+        out_values.len(),
+        out_elements.len(),
+    ) {
+        return ListAnswer::Refused(9);
+    }
+    write_pairs(
+        op,
+        loffsets,
+        lrows,
+        lrstart,
+        lvalues,
+        lelements,
+        lestart,
+        roffsets,
+        rrows,
+        rrstart,
+        rvalues,
+        relements,
+        restart,
+        out_offsets,
+        out_rows,
+        out_values,
+        out_elements,
+    );
+    answers::list_answer(out_rows, n, out_elements, m)
+}

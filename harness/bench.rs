@@ -2,9 +2,9 @@
 //! buffers. The buffers are not cleared between calls.
 
 use crate::entry::{Case, Entry, MOST_ROWS, MOST_VALUES};
-use crate::generate::{input_of, lend, Layout, Room};
+use crate::generate::{input_of, lend, shuffle, Layout, Room};
 use crate::library::Library;
-use crate::model::{Element, Row};
+use crate::model::{Element, Role, Row, Shown};
 use crate::plain;
 use crate::rng::Rng;
 use std::hint::black_box;
@@ -14,48 +14,101 @@ const ROUNDS: usize = 9;
 const ROUND_TIME: Duration = Duration::from_millis(4);
 const MOST_REPEATS: u128 = 20_000;
 
-/// One null in eight, or none.
-fn element_or_null(nulls: bool, rng: &mut Rng) -> Element {
-    let level = rng.between(-32768, 32767);
-    if nulls && rng.chance(1, 8) {
-        None
-    } else {
-        Some(level)
+/// What stands in the bitmaps.
+#[derive(Clone, Copy, PartialEq)]
+enum Nulls {
+    NoBitmaps,
+    None,
+    OneInEight,
+}
+
+impl Nulls {
+    const ALL: [Nulls; 3] = [Nulls::NoBitmaps, Nulls::None, Nulls::OneInEight];
+
+    fn name(self) -> &'static str {
+        match self {
+            Nulls::NoBitmaps => "no bits",
+            Nulls::None => "none",
+            Nulls::OneInEight => "1 in 8",
+        }
+    }
+
+    /// Whether every eighth is null, counted from some place on.
+    fn is_null(self, at: usize, from: usize) -> bool {
+        self == Nulls::OneInEight && at % 8 == from
     }
 }
 
-fn rows_of(length: usize, nulls: bool, rng: &mut Rng) -> Vec<Row> {
-    let count = (MOST_VALUES / length).min(MOST_ROWS);
-    let row = |at: usize, rng: &mut Rng| {
-        let null = nulls && at % 8 == 3;
-        (!null).then(|| (0..length).map(|_| element_or_null(nulls, rng)).collect())
-    };
-    (0..count).map(|at| row(at, rng)).collect()
+fn level(rng: &mut Rng) -> i64 {
+    rng.between(-32768, 32767)
 }
 
-fn indexes_of(rows: usize, length: usize, nulls: bool, rng: &mut Rng) -> Vec<Element> {
+fn row_of(length: usize, nulls: Nulls, rng: &mut Rng) -> Vec<Element> {
+    let element = |_| {
+        let null = nulls == Nulls::OneInEight && rng.chance(1, 8);
+        (!null).then(|| level(rng))
+    };
+    (0..length).map(element).collect()
+}
+
+/// As many rows as the entry takes, or half as many where the result is larger than the list.
+fn rows_of(entry: Entry, length: usize, nulls: Nulls, rng: &mut Rng) -> Vec<Row> {
+    let grows = entry.lists() == 2
+        || entry.roles().iter().any(|role| matches!(role, Role::Count | Role::Times));
+    let most = if grows { MOST_VALUES / 2 } else { MOST_VALUES };
+    let count = (most / length).min(MOST_ROWS);
+    (0..count).map(|at| (!nulls.is_null(at, 3)).then(|| row_of(length, nulls, rng))).collect()
+}
+
+/// A second list that shares about half of its elements with the first.
+fn right_of(rows: &[Row], nulls: Nulls, rng: &mut Rng) -> Vec<Row> {
+    let beside = |(at, row): (usize, &Row)| {
+        let row = row.as_ref().filter(|_| !nulls.is_null(at, 6))?;
+        let mut right = row_of(row.len(), nulls, rng);
+        right[row.len() / 2..].copy_from_slice(&row[row.len() / 2..]);
+        shuffle(&mut right, rng);
+        Some(right)
+    };
+    rows.iter().enumerate().map(beside).collect()
+}
+
+fn argument_of(role: Role, length: usize, row: &Row, rng: &mut Rng) -> i64 {
     let length = length as i64;
-    let index = |at: usize, rng: &mut Rng| {
-        let null = nulls && at % 8 == 5;
-        (!null).then(|| rng.between(-length, length))
-    };
-    (0..rows).map(|at| index(at, rng)).collect()
+    let middle = row.as_ref().and_then(|row| row[row.len() / 2]);
+    match role {
+        Role::Index => rng.between(-length, length),
+        Role::From => rng.between(1, 3),
+        Role::To => rng.between(-3, -1),
+        Role::Stride => rng.between(1, 3),
+        Role::Count => length + rng.between(-4, 4),
+        Role::Fill | Role::New => level(rng),
+        Role::Old => middle.unwrap_or(0),
+        Role::Limit | Role::Times => 2,
+    }
 }
 
-fn load(entry: Entry, length: usize, nulls: bool) -> Case {
+fn load(entry: Entry, length: usize, nulls: Nulls) -> Case {
     let mut rng = Rng::new(1, "bench");
-    let rows = rows_of(length, nulls, &mut rng);
-    let arguments = match entry {
-        Entry::Element => vec![indexes_of(rows.len(), length, nulls, &mut rng)],
-        _ => Vec::new(),
+    let rows = rows_of(entry, length, nulls, &mut rng);
+    let column = |(place, role): (usize, &Role)| -> Vec<Element> {
+        let value = |(at, row): (usize, &Row)| {
+            (!nulls.is_null(at, 5 + place)).then(|| argument_of(*role, length, row, &mut rng))
+        };
+        rows.iter().enumerate().map(value).collect()
     };
+    let arguments = entry.roles().iter().enumerate().map(column).collect();
+    let mut lists = vec![rows];
+    if entry.lists() == 2 {
+        lists.push(right_of(&lists[0], nulls, &mut rng));
+    }
     let layout = Layout {
-        absent_bitmaps: !nulls,
-        under_null_rows: usize::from(nulls),
-        numbers_under_nulls: nulls,
+        absent_bitmaps: nulls == Nulls::NoBitmaps,
+        under_null_rows: usize::from(nulls == Nulls::OneInEight),
+        numbers_under_nulls: true,
         ..Layout::default()
     };
-    lend(&input_of(entry, &rows, &arguments, layout, &mut rng), Room::Exact, &mut rng)
+    let input = input_of(entry, &Shown { lists, arguments }, &[layout], &mut rng);
+    lend(&input, Room::Exact, &mut rng)
 }
 
 /// Nanoseconds a call, over this many calls.
@@ -90,7 +143,7 @@ fn check_equal(libraries: [&Library; 2], case: &Case) {
     assert!(results[0] == results[1], "both sides of the benchmark agree");
 }
 
-fn print_line(name: &str, libraries: [&Library; 2], entry: Entry, length: usize, nulls: bool) {
+fn print_line(name: &str, libraries: [&Library; 2], entry: Entry, length: usize, nulls: Nulls) {
     let mut case = load(entry, length, nulls);
     check_equal(libraries, &case);
     let repeats = repeats_for(libraries, &mut case);
@@ -102,20 +155,11 @@ fn print_line(name: &str, libraries: [&Library; 2], entry: Entry, length: usize,
     }
     let [port, plain] = times.map(median);
     let rows = case.inputs[0].len() / 4 - 1;
-    let nulls = if nulls { "1 in 8" } else { "none" };
+    let nulls = nulls.name();
     let (port_us, plain_us, ratio) = (port / 1000.0, plain / 1000.0, port / plain);
     println!(
         "{name:<22} {length:>6} {rows:>6} {nulls:>7} {port_us:>12.2} {plain_us:>12.2} {ratio:>8.2}"
     );
-}
-
-/// The plain Rust with a hash set for distinct.
-fn by_set() -> Library {
-    let list: crate::library::ListEntry =
-        |_, offsets, rows, values, elements, oo, or, ov, oe, counts| {
-            plain::distinct_by_set(offsets, rows, values, elements, oo, or, ov, oe, counts)
-        };
-    Library { list, ..plain::LIBRARY }
 }
 
 pub fn print(port: &Library) {
@@ -125,16 +169,15 @@ pub fn print(port: &Library) {
         "{:<22} {:>6} {:>6} {:>7} {:>12} {:>12} {:>8}",
         "operation", "length", "rows", "nulls", "port", "plain", "ratio"
     );
-    for entry in Entry::ALL {
+    let by_set = Library { list: Some(plain::distinct_by_set), ..Library::EMPTY };
+    let distinct = ("distinct / hash set", Entry::List(1), &by_set);
+    let lines = Entry::all().map(|entry| (entry.name(), entry, &plain::LIBRARY));
+    for (name, entry, plain) in lines.chain([distinct]).filter(|line| port.has(line.1)) {
         for length in [8, 100, 4000] {
-            for nulls in [false, true] {
-                print_line(entry.name(), [port, &plain::LIBRARY], entry, length, nulls);
+            for nulls in Nulls::ALL {
+                print_line(name, [port, plain], entry, length, nulls);
             }
         }
     }
-    for length in [8, 100, 4000] {
-        for nulls in [false, true] {
-            print_line("distinct / hash set", [port, &by_set()], Entry::List(1), length, nulls);
-        }
-    }
+    port.print_absent();
 }

@@ -1,9 +1,10 @@
 //! One call against the model: the answer, every byte written, every byte kept, and the bytes
 //! around each lent slice. A case that differs is printed whole.
 
-use crate::coverage::{self, answer_name, Coverage};
-use crate::entry::{decode_i32, decode_i64, Case, Expected, Input, SliceKind};
+use crate::coverage::{self, Coverage};
+use crate::entry::{decode_i32, decode_i64, Case, Content, Expected, Input, SliceKind};
 use crate::library::Library;
+use std::borrow::Cow;
 use std::ops::Range;
 
 /// Bytes before, between and behind the slices; an odd number, so that slices start anywhere.
@@ -75,10 +76,12 @@ pub struct Observed {
 
 /// Makes calls, compares them and keeps the record of the group that is running.
 pub struct Checker<'a> {
-    library: &'a Library,
+    pub library: &'a Library,
     /// The words that run the same calls again.
     replay: String,
     trace: bool,
+    /// Whether the program ends at the first difference.
+    stop: bool,
     group: String,
     pub calls: u64,
     pub differences: u64,
@@ -86,9 +89,9 @@ pub struct Checker<'a> {
 }
 
 impl<'a> Checker<'a> {
-    pub fn new(library: &'a Library, replay: String, trace: bool) -> Checker<'a> {
+    pub fn new(library: &'a Library, replay: String, trace: bool, stop: bool) -> Checker<'a> {
         let (group, coverage) = (String::new(), Coverage::default());
-        Checker { library, replay, trace, group, calls: 0, differences: 0, coverage }
+        Checker { library, replay, trace, stop, group, calls: 0, differences: 0, coverage }
     }
 
     pub fn start_group(&mut self, name: &str) {
@@ -97,7 +100,12 @@ impl<'a> Checker<'a> {
         self.differences = 0;
     }
 
-    pub fn covered(&mut self, case: &Case, kind: &'static str, subject: &'static str) {
+    pub fn covered(
+        &mut self,
+        case: &Case,
+        kind: &'static str,
+        subject: impl Into<Cow<'static, str>>,
+    ) {
         self.coverage.count(case.entry.name(), kind, subject);
     }
 
@@ -164,17 +172,26 @@ impl<'a> Checker<'a> {
             println!("  {fault}");
         }
         print_case(case);
+        if self.stop {
+            println!("FAILED {}: ended at the first difference", self.group);
+            std::process::exit(1);
+        }
     }
 
     fn record_coverage(&mut self, case: &Case, expected: &Expected) {
         self.covered(case, "calls", "");
-        self.covered(case, "answer", answer_name(expected.number));
-        if expected.number != 0 && expected.number != 4 {
+        self.covered(case, "answer", expected.number.to_string());
+        if !matches!(expected.number, 0 | 3..=9) {
             return;
         }
         let input = case.decode();
-        for subject in coverage::arguments(&input, expected.number) {
-            self.covered(case, "argument", subject);
+        for subject in coverage::limits_met(&input, expected.number) {
+            self.covered(case, "row", subject);
+        }
+        if expected.number != 3 {
+            for subject in coverage::rows_met(&input, expected.number) {
+                self.covered(case, "row", subject);
+            }
         }
         if expected.number == 0 {
             self.record_accepted(case, &input, expected);
@@ -252,7 +269,8 @@ fn output_faults(case: &Case, expected: &Expected, wanted: &Arena, after: &Arena
     faults
 }
 
-const COUNTS: SliceKind = SliceKind { name: "counts", width: 8, most: None };
+const COUNTS: SliceKind =
+    SliceKind { name: "counts", content: Content::Values, width: 8, most: None };
 
 /// The numbers of a slice, and the bytes of a ragged end.
 fn show(kind: SliceKind, bytes: &[u8]) -> String {

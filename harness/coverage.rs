@@ -1,39 +1,36 @@
 //! What the calls of a run covered. Kinds are seen from the bytes of a case and from the model, and
 //! not from how the case was made; a run fails where a kind that it must reach was not reached.
+//!
+//! Each refusal is demanded from both sides: the number that is refused, and the nearest that is
+//! not. What is demanded of the rows of an operation is written out by hand, so that it also checks
+//! the model: a row that becomes something else leaves a demand unmet.
 
 use crate::entry::{Case, Entry, Expected, Input, SliceKind};
-use crate::generate::Damage;
+use crate::generate::{Column, Harm};
+use crate::library::Library;
 use crate::model::{
-    bitmap_bytes, is_valid, shown_arguments, shown_rows, ArgumentColumn, Element, ListColumn, Row,
+    self, bitmap_bytes, is_too_short, is_valid, ArgumentColumn, Element, ListColumn, Made,
+    Operation, Role, Row, Shown,
 };
+use std::borrow::Cow;
 use std::collections::BTreeMap;
 
 /// How often each thing was reached, by operation, kind and subject.
 #[derive(Default)]
-pub struct Coverage(pub BTreeMap<(&'static str, &'static str, &'static str), u64>);
+pub struct Coverage(BTreeMap<(&'static str, &'static str, Cow<'static, str>), u64>);
 
 impl Coverage {
-    pub fn count(&mut self, operation: &'static str, kind: &'static str, subject: &'static str) {
-        *self.0.entry((operation, kind, subject)).or_insert(0) += 1;
+    pub fn count(
+        &mut self,
+        operation: &'static str,
+        kind: &'static str,
+        subject: impl Into<Cow<'static, str>>,
+    ) {
+        *self.0.entry((operation, kind, subject.into())).or_insert(0) += 1;
     }
 
-    pub fn of(&self, operation: &'static str, kind: &'static str, subject: &'static str) -> u64 {
-        self.0.get(&(operation, kind, subject)).copied().unwrap_or(0)
-    }
-}
-
-pub fn answer_name(number: u32) -> &'static str {
-    match number {
-        0 => "0",
-        1 => "1",
-        2 => "2",
-        3 => "3",
-        4 => "4",
-        9 => "9",
-        100 => "100",
-        101 => "101",
-        102 => "102",
-        _ => "another",
+    fn reached(&self, operation: &'static str, kind: &'static str, subject: &str) -> bool {
+        self.0.contains_key(&(operation, kind, Cow::Owned(subject.to_string())))
     }
 }
 
@@ -64,27 +61,67 @@ pub fn row_count(input: &Input) -> Option<&'static str> {
 
 // Layouts.
 
-const LIST_LAYOUTS: [&str; 8] = [
+const LIST_LAYOUTS: [&str; 13] = [
+    "first offset 0",
     "first offset above 0",
     "null row over values",
+    "equal offsets",
+    "last offset at the end of the values",
     "values behind the last offset",
     "number under a null element",
     "spare bit set",
+    "row bitmap just long enough",
+    "element bitmap just long enough",
     "bitmap longer than needed",
     "absent row bitmap",
     "absent element bitmap",
 ];
 
-const ARGUMENT_LAYOUTS: [&str; 4] = [
-    "number under a null argument",
-    "argument spare bit set",
-    "argument bitmap longer than needed",
-    "absent argument bitmap",
+const ARGUMENT_LAYOUTS: [&str; 7] = [
+    "0 under a null",
+    "negative number under a null",
+    "number beyond 32 bits under a null",
+    "spare bit set",
+    "bitmap just long enough",
+    "bitmap longer than needed",
+    "absent bitmap",
 ];
 
-pub fn layouts(input: &Input) -> Vec<&'static str> {
-    let lists = input.lists.iter().flat_map(list_layouts);
-    lists.chain(input.arguments.iter().flat_map(argument_layouts)).collect()
+const UNTAKEN_LAYOUTS: [&str; 3] = [
+    "untaken column of another length",
+    "untaken column with a short bitmap",
+    "untaken column with a null",
+];
+
+pub fn layouts(input: &Input) -> Vec<String> {
+    let entry = input.entry;
+    let named = |column: Column, names: Vec<&'static str>| {
+        let layout = move |name| layout_name(column, entry, name);
+        names.into_iter().map(layout)
+    };
+    let lists = input.lists.iter().enumerate();
+    let lists = lists.flat_map(|(at, list)| named(Column::List(at), list_layouts(list)));
+    let arguments = input.taken().iter().enumerate();
+    let arguments =
+        arguments.flat_map(|(at, one)| named(Column::Argument(at), argument_layouts(one)));
+    lists.chain(arguments).chain(untaken_layouts(input).map(str::to_string)).collect()
+}
+
+fn layout_name(column: Column, entry: Entry, name: &str) -> String {
+    format!("{}: {name}", column.name(entry))
+}
+
+fn untaken_layouts(input: &Input) -> impl Iterator<Item = &'static str> + use<'_> {
+    let rows = input.lists[0].offsets.len() - 1;
+    input.arguments[input.taken().len()..].iter().flat_map(move |one| {
+        let short = is_too_short(&one.bits, one.values.len());
+        let holds = [
+            one.values.len() != rows,
+            short,
+            !short && (0..one.values.len()).any(|row| !is_valid(&one.bits, row)),
+        ];
+        chosen(UNTAKEN_LAYOUTS, holds)
+    })
 }
 
 fn list_layouts(list: &ListColumn) -> Vec<&'static str> {
@@ -93,11 +130,16 @@ fn list_layouts(list: &ListColumn) -> Vec<&'static str> {
     let places = |row: usize| list.offsets[row] as usize..list.offsets[row + 1] as usize;
     let hides = |place: usize| !is_valid(&list.elements, place) && list.values[place] != 0;
     let holds = [
+        first == 0,
         first > 0,
         (0..rows).any(|row| !is_valid(&list.rows, row) && !places(row).is_empty()),
+        list.offsets.windows(2).any(|pair| pair[0] == pair[1]),
+        last as usize == list.values.len(),
         (last as usize) < list.values.len(),
         (0..rows).any(|row| is_valid(&list.rows, row) && places(row).any(hides)),
         has_spare_bit(&list.rows, rows) || has_spare_bit(&list.elements, list.values.len()),
+        is_exact(&list.rows, rows),
+        is_exact(&list.elements, list.values.len()),
         is_longer(&list.rows, rows) || is_longer(&list.elements, list.values.len()),
         rows > 0 && list.rows.is_empty(),
         first < last && list.elements.is_empty(),
@@ -107,9 +149,15 @@ fn list_layouts(list: &ListColumn) -> Vec<&'static str> {
 
 fn argument_layouts(argument: &ArgumentColumn) -> Vec<&'static str> {
     let rows = argument.values.len();
+    let hides = |is: &dyn Fn(i64) -> bool| {
+        (0..rows).any(|row| !is_valid(&argument.bits, row) && is(argument.values[row]))
+    };
     let holds = [
-        (0..rows).any(|row| !is_valid(&argument.bits, row) && argument.values[row] != 0),
+        hides(&|number| number == 0),
+        hides(&|number| number < 0),
+        hides(&|number| i32::try_from(number).is_err()),
         has_spare_bit(&argument.bits, rows),
+        is_exact(&argument.bits, rows),
         is_longer(&argument.bits, rows),
         rows > 0 && argument.bits.is_empty(),
     ];
@@ -119,6 +167,10 @@ fn argument_layouts(argument: &ArgumentColumn) -> Vec<&'static str> {
 /// A 1 behind the last position, in its byte.
 fn has_spare_bit(bitmap: &[u8], positions: usize) -> bool {
     positions % 8 != 0 && !bitmap.is_empty() && bitmap[positions / 8] >> (positions % 8) != 0
+}
+
+fn is_exact(bitmap: &[u8], positions: usize) -> bool {
+    !bitmap.is_empty() && bitmap.len() == bitmap_bytes(positions)
 }
 
 fn is_longer(bitmap: &[u8], positions: usize) -> bool {
@@ -148,158 +200,752 @@ pub fn slices_at_size(case: &Case) -> Vec<&'static str> {
     at_size.map(|(kind, _)| kind.name).collect()
 }
 
-// Arguments.
+// Rows.
 
-/// The boundaries that the arguments of a call meet, accepted or refused by a row.
-pub fn arguments(input: &Input, number: u32) -> Vec<&'static str> {
-    if input.entry != Entry::Element {
-        return Vec::new();
-    }
-    let rows = shown_rows(&input.lists[0]);
-    let indexes = &input.arguments[0];
-    let shown = shown_arguments(indexes);
-    if number == 4 {
-        return refused_index(&rows, &shown);
-    }
-    let mut met = Vec::new();
-    for (place, (row, index)) in rows.iter().zip(&shown).enumerate() {
-        let lent = indexes.values[place];
-        let beyond = i32::try_from(lent).is_err();
-        match (row, index) {
-            (Some(row), Some(index)) => met.extend(index_boundaries(row.len() as i64, *index)),
-            (Some(_), None) if beyond => met.push("beyond 32 bits under a null index"),
-            (None, Some(_)) if beyond => met.push("beyond 32 bits at a null row"),
-            _ => (),
+/// What one row becomes, in a word.
+fn outcome_of(operation: Operation, rows: &[&Row], arguments: &[Element]) -> Cow<'static, str> {
+    let row = rows[0].as_deref();
+    let name = match model::make_row(operation, rows, arguments) {
+        Err(number) => return Cow::Owned(format!("refused {number}")),
+        Ok(Made::Values(made)) => made[0].map_or("null", |_| "value"),
+        Ok(Made::Lists(made)) => match &made[0] {
+            None => "null",
+            Some(made) if made.is_empty() => "empty",
+            Some(_) if is_slice(operation) => "places",
+            Some(made) if Some(made.as_slice()) == row => "same",
+            Some(made) if made.len() < row.map_or(0, <[_]>::len) => "shorter",
+            Some(made) if made.len() > row.map_or(0, <[_]>::len) => "longer",
+            Some(_) => "changed",
+        },
+        Ok(Made::ListsOfLists(made)) => match made[0].as_deref() {
+            None => "null",
+            Some([]) => "no lists",
+            Some([None, ..]) => "null lists",
+            Some([Some(_), ..]) => "lists",
+        },
+        Ok(Made::TooLong(_)) => "too long",
+    };
+    Cow::Borrowed(name)
+}
+
+fn is_slice(operation: Operation) -> bool {
+    matches!(operation, Operation::Slice | Operation::SliceWithoutStride)
+}
+
+/// What the rows of a call met: all rows of an accepted call, the first bad row of a refused one.
+pub fn rows_met(input: &Input, number: u32) -> Vec<String> {
+    let operation = input.entry.known_operation();
+    let shown = model::shown(&input.lists, input.taken());
+    let mut met = sums_met(operation, &shown, input, number);
+    let all = 0..shown.lists[0].len();
+    for row in all.take(MOST_ROWS_SEEN) {
+        let rows: Vec<&Row> = shown.lists.iter().map(|list| &list[row]).collect();
+        let value = |column: &Vec<Element>| column[if column.len() == 1 { 0 } else { row }];
+        let arguments: Vec<Element> = shown.arguments.iter().map(value).collect();
+        let outcome = outcome_of(operation, &rows, &arguments);
+        let refused = outcome.starts_with("refused");
+        if number == 0 || refused {
+            met.extend(row_met(operation, &rows, &arguments, &outcome));
+        }
+        if refused {
+            break;
         }
     }
     met
 }
 
-const INDEX_BOUNDARIES: [&str; 9] =
-    ["0", "1", "-1", "length", "length + 1", "-length", "-length - 1", "2147483647", "-2147483648"];
+/// The rows that are looked at in one call.
+const MOST_ROWS_SEEN: usize = 20;
 
-fn index_boundaries(length: i64, index: i64) -> Vec<&'static str> {
-    let boundaries = [0, 1, -1, length, length + 1, -length, -length - 1, 2147483647, -2147483648];
-    let holds = boundaries.map(|boundary| boundary == index);
-    chosen(INDEX_BOUNDARIES, holds)
+fn row_met(
+    operation: Operation,
+    rows: &[&Row],
+    arguments: &[Element],
+    outcome: &str,
+) -> Vec<String> {
+    let mut met = Vec::new();
+    if let [left, right] = rows {
+        met.extend(pair_met(left, right).into_iter().map(str::to_string));
+    }
+    let roles = operation.roles();
+    let beside_null = arguments.iter().any(Option::is_none) && operation != Operation::Replace;
+    let state = match rows[0].as_deref() {
+        None => " of a null row",
+        Some(_) if beside_null => " beside a null",
+        Some([]) => " of an empty row",
+        Some(_) => "",
+    };
+    let row = rows[0].as_deref().unwrap_or(&[]);
+    for (role, argument) in roles.iter().zip(arguments) {
+        for name in argument_names(*role, row, *argument, arguments) {
+            met.push(format!("{} {name}{state}: {outcome}", role.name()));
+        }
+    }
+    if let (Operation::Slice, "", [Some(from), Some(to), Some(stride)]) =
+        (operation, state, arguments)
+    {
+        let bounds = bounds_name(row.len() as i64, *from, *to);
+        met.push(format!("bounds {bounds}, stride {}: {outcome}", stride_name(*stride)));
+    }
+    met
 }
 
-const NULL_INDEXES: [&str; 2] =
-    ["beyond 32 bits under a null index", "beyond 32 bits at a null row"];
+/// The boundaries that an argument meets.
+fn argument_names(
+    role: Role,
+    row: &[Element],
+    argument: Element,
+    arguments: &[Element],
+) -> Vec<&'static str> {
+    let Some(number) = argument else {
+        return vec!["null"];
+    };
+    match role {
+        Role::Fill | Role::Old | Role::New => vec!["given"],
+        Role::Limit => {
+            let matches = row.iter().filter(|element| **element == arguments[0]).count() as i64;
+            limit_names(matches, number)
+        }
+        _ => number_names(row.len() as i64, number),
+    }
+}
 
-const REFUSED_INDEXES: [&str; 6] = [
-    "refused 2147483648",
-    "refused -2147483649",
-    "refused largest",
-    "refused smallest",
-    "refused over an empty row",
-    "refused behind another row",
+const NUMBERS: [&str; 17] = [
+    "0",
+    "1",
+    "-1",
+    "2",
+    "-2",
+    "length - 1",
+    "length",
+    "length + 1",
+    "length + 2",
+    "-length",
+    "-length - 1",
+    "2147483647",
+    "-2147483648",
+    "2147483648",
+    "-2147483649",
+    "largest",
+    "smallest",
 ];
 
-fn refused_index(rows: &[Row], shown: &[Element]) -> Vec<&'static str> {
-    let refuses = |row: &Row, index: &Element| {
-        row.is_some() && index.is_some_and(|index| i32::try_from(index).is_err())
-    };
-    let Some(at) = rows.iter().zip(shown).position(|(row, index)| refuses(row, index)) else {
-        return Vec::new();
-    };
-    let index = shown[at];
-    let holds = [
-        index == Some(2147483648),
-        index == Some(-2147483649),
-        index == Some(i64::MAX),
-        index == Some(i64::MIN),
-        rows[at] == Some(Vec::new()),
-        at > 0,
+fn number_names(length: i64, number: i64) -> Vec<&'static str> {
+    let numbers = [
+        0,
+        1,
+        -1,
+        2,
+        -2,
+        length - 1,
+        length,
+        length + 1,
+        length + 2,
+        -length,
+        -length - 1,
+        2147483647,
+        -2147483648,
+        2147483648,
+        -2147483649,
+        i64::MAX,
+        i64::MIN,
     ];
-    chosen(REFUSED_INDEXES, holds)
+    chosen(NUMBERS, numbers.map(|boundary| boundary == number))
+}
+
+const LIMITS: [&str; 7] = [
+    "smallest",
+    "-1",
+    "0",
+    "below the matches",
+    "equal to the matches",
+    "above the matches",
+    "largest",
+];
+
+/// Where a limit lies beside at least one match.
+fn limit_names(matches: i64, limit: i64) -> Vec<&'static str> {
+    let holds = [
+        limit == i64::MIN,
+        limit == -1,
+        limit == 0,
+        0 < limit && limit < matches,
+        limit == matches,
+        limit > matches,
+        limit == i64::MAX,
+    ];
+    if matches > 0 {
+        chosen(LIMITS, holds)
+    } else {
+        Vec::new()
+    }
+}
+
+fn stride_name(stride: i64) -> &'static str {
+    match stride {
+        0 => "0",
+        2147483648.. => "above 32 bits",
+        ..-2147483648 => "below 32 bits",
+        1.. => "positive",
+        _ => "negative",
+    }
+}
+
+/// How the bounds of a slice lie, by document 01.
+fn bounds_name(length: i64, from: i64, to: i64) -> &'static str {
+    if i32::try_from(from).is_err() || i32::try_from(to).is_err() {
+        return "beyond 32 bits";
+    }
+    let first = if from < 0 { (length + from).max(0) } else { (from - 1).max(0) };
+    let last = if to < 0 { length + to } else { to.min(length) - 1 };
+    match first.cmp(&last) {
+        _ if first >= length || last < 0 => "outside",
+        std::cmp::Ordering::Less => "rising",
+        std::cmp::Ordering::Equal => "equal",
+        std::cmp::Ordering::Greater => "falling",
+    }
+}
+
+// Pairs of rows.
+
+const PAIRS: [&str; 19] = [
+    "left longer",
+    "right longer",
+    "equal lengths",
+    "left row null",
+    "right row null",
+    "both rows null",
+    "left empty",
+    "right empty",
+    "both empty",
+    "nothing common",
+    "element twice in the left",
+    "element twice in the right",
+    "common element twice in each",
+    "null in both",
+    "null in the left only",
+    "null in the right only",
+    "left longer, right in another order",
+    "right longer, left in another order",
+    "equal lengths, another order",
+];
+
+fn has_repeats(row: &[Element]) -> bool {
+    row.iter().enumerate().any(|(at, element)| row[..at].contains(element))
+}
+
+/// The elements of one row that the other holds, each once, in the order of the one.
+fn common(walked: &[Element], other: &[Element]) -> Vec<Element> {
+    let mut kept = Vec::new();
+    for element in walked {
+        if other.contains(element) && !kept.contains(element) {
+            kept.push(*element);
+        }
+    }
+    kept
+}
+
+fn pair_met(left: &Row, right: &Row) -> Vec<&'static str> {
+    let (Some(left), Some(right)) = (left, right) else {
+        let rows = ["left row null", "right row null", "both rows null"];
+        let (no_left, no_right) = (left.is_none(), right.is_none());
+        return chosen(rows, [no_left && !no_right, no_right && !no_left, no_left && no_right]);
+    };
+    let (by_left, by_right) = (common(left, right), common(right, left));
+    let (nulls_left, nulls_right) = (left.contains(&None), right.contains(&None));
+    let twice =
+        |row: &[Element]| row.iter().filter(|one| by_left.first() == Some(*one)).count() > 1;
+    let holds = [
+        left.len() > right.len(),
+        right.len() > left.len(),
+        left.len() == right.len(),
+        false,
+        false,
+        false,
+        left.is_empty() && !right.is_empty(),
+        right.is_empty() && !left.is_empty(),
+        left.is_empty() && right.is_empty(),
+        by_left.is_empty() && !left.is_empty() && !right.is_empty(),
+        has_repeats(left),
+        has_repeats(right),
+        twice(left) && twice(right),
+        nulls_left && nulls_right,
+        nulls_left && !nulls_right,
+        nulls_right && !nulls_left,
+        left.len() > right.len() && by_left != by_right,
+        right.len() > left.len() && by_left != by_right,
+        left.len() == right.len() && by_left != by_right,
+    ];
+    chosen(PAIRS, holds)
+}
+
+// Sums, and columns of limits.
+
+const RESIZE_SUMS: [&str; 10] = [
+    "sum 16384: 0",
+    "sum 16385: 9",
+    "sum 2147483647: 9",
+    "sum 2147483648: 8",
+    "running sum 18446744073709551615, then a negative count: 7",
+    "running sum 18446744073709551616, then a negative count: 8",
+    "negative count, then a running sum past 18446744073709551615: 7",
+    "sum past 2147483647, then a negative count: 7",
+    "negative count at a null row: 0",
+    "count past 2147483647 at a null row: 0",
+];
+
+fn resize_sums_met(shown: &Shown, number: u32) -> Vec<&'static str> {
+    let rows = shown.lists[0].iter().zip(&shown.arguments[0]);
+    let counts: Vec<i128> = rows
+        .clone()
+        .filter(|(row, _)| row.is_some())
+        .filter_map(|(_, count)| count.map(i128::from))
+        .collect();
+    let at_null_row = |is: &dyn Fn(i64) -> bool| {
+        rows.clone().any(|(row, count)| row.is_none() && count.is_some_and(is))
+    };
+    let negative = counts.iter().position(|count| *count < 0);
+    let before: i128 = counts[..negative.unwrap_or(counts.len())].iter().sum();
+    let behind: i128 = counts[negative.unwrap_or(counts.len())..].iter().sum();
+    let all = if negative.is_none() { before } else { -1 };
+    let before = if negative.is_some() { before } else { -1 };
+    let past = 18446744073709551615;
+    let holds = [
+        all == 16384 && number == 0,
+        all == 16385 && number == 9,
+        all == 2147483647 && number == 9,
+        all == 2147483648 && number == 8,
+        before == past && number == 7,
+        before == past + 1 && number == 8,
+        negative == Some(0) && behind > past && number == 7,
+        (2147483648..=past).contains(&before) && number == 7,
+        at_null_row(&|count| count < 0) && number == 0,
+        at_null_row(&|count| count > 2147483647) && number == 0,
+    ];
+    chosen(RESIZE_SUMS, holds)
+}
+
+const REPEAT_SUMS: [&str; 12] = [
+    "lists 16384: 0",
+    "lists 16385: 9",
+    "values 16384: 0",
+    "values 16385: 9",
+    "lists 2147483647: 9",
+    "lists 2147483648, values fewer: 8",
+    "lists 2147483648, all null: 8",
+    "values 2147483647: 9",
+    "values 2147483648, lists fewer: 8",
+    "lists past 18446744073709551615: 8",
+    "null list over values, too many if they counted: 9",
+    "null list over values, repeated: 0",
+];
+
+fn repeat_sums_met(shown: &Shown, list: &ListColumn, number: u32) -> Vec<&'static str> {
+    let rows = shown.lists[0].iter().zip(&shown.arguments[0]).enumerate();
+    let (mut lists, mut null_lists, mut values, mut hidden) = (0, 0, 0, 0);
+    for (at, (row, times)) in rows {
+        let times = i128::from(times.unwrap_or(0).max(0));
+        lists += times;
+        match row {
+            Some(row) => values += times * row.len() as i128,
+            None => {
+                null_lists += times;
+                hidden += times * i128::from(list.offsets[at + 1] - list.offsets[at]);
+            }
+        }
+    }
+    let holds = [
+        lists == 16384 && number == 0,
+        lists == 16385 && number == 9,
+        values == 16384 && number == 0,
+        values == 16385 && number == 9,
+        lists == 2147483647 && number == 9,
+        lists == 2147483648 && values < lists && number == 8,
+        lists == 2147483648 && null_lists == lists && number == 8,
+        values == 2147483647 && number == 9,
+        values == 2147483648 && lists < values && number == 8,
+        lists > 18446744073709551615 && number == 8,
+        values + hidden > 2147483647 && values <= 2147483647 && number == 9,
+        hidden > 0 && number == 0,
+    ];
+    chosen(REPEAT_SUMS, holds)
+}
+
+const LIMIT_COLUMNS: [&str; 9] = [
+    "one limit for several rows: 0",
+    "one null limit for several rows: 0",
+    "as many limits as rows: 0",
+    "one limit for no rows: 0",
+    "no limit for no rows: 0",
+    "two limits for no rows: 3",
+    "no limit for one row: 3",
+    "one limit fewer than rows: 3",
+    "one limit more than rows: 3",
+];
+
+fn limit_columns_met(rows: usize, limits: &[Element], number: u32) -> Vec<&'static str> {
+    let holds = [
+        rows > 1 && limits.len() == 1 && limits[0].is_some() && number == 0,
+        rows > 1 && limits.len() == 1 && limits[0].is_none() && number == 0,
+        rows > 1 && limits.len() == rows && number == 0,
+        rows == 0 && limits.len() == 1 && number == 0,
+        rows == 0 && limits.is_empty() && number == 0,
+        rows == 0 && limits.len() == 2 && number == 3,
+        rows == 1 && limits.is_empty() && number == 3,
+        rows > 2 && limits.len() == rows - 1 && number == 3,
+        rows > 0 && limits.len() == rows + 1 && number == 3,
+    ];
+    chosen(LIMIT_COLUMNS, holds)
+}
+
+fn sums_met(operation: Operation, shown: &Shown, input: &Input, number: u32) -> Vec<String> {
+    let met = match operation {
+        Operation::Resize | Operation::ResizeWithoutFill => resize_sums_met(shown, number),
+        Operation::ListRepeat => repeat_sums_met(shown, &input.lists[0], number),
+        _ => Vec::new(),
+    };
+    met.into_iter().map(str::to_string).collect()
+}
+
+/// The limit column of a call that no refusal before 3 ends.
+pub fn limits_met(input: &Input, number: u32) -> Vec<&'static str> {
+    if input.entry.roles().last() != Some(&Role::Limit) {
+        return Vec::new();
+    }
+    let column = &input.taken()[input.taken().len() - 1];
+    limit_columns_met(input.lists[0].offsets.len() - 1, &model::shown_arguments(column), number)
 }
 
 // What a run must reach.
 
-/// Two refusals of one call, the one that must be answered first.
-pub const ORDERS: [(u32, u32, &str); 22] = [
-    (1, 2, "1 before 2"),
-    (1, 3, "1 before 3"),
-    (1, 4, "1 before 4"),
-    (1, 9, "1 before 9"),
-    (2, 3, "2 before 3"),
-    (2, 4, "2 before 4"),
-    (2, 9, "2 before 9"),
-    (3, 4, "3 before 4"),
-    (3, 9, "3 before 9"),
-    (4, 9, "4 before 9"),
-    (101, 1, "101 before 1"),
-    (101, 2, "101 before 2"),
-    (101, 9, "101 before 9"),
-    (100, 101, "100 before 101"),
-    (100, 1, "100 before 1"),
-    (100, 2, "100 before 2"),
-    (100, 9, "100 before 9"),
-    (102, 100, "102 before 100"),
-    (102, 101, "102 before 101"),
-    (102, 1, "102 before 1"),
-    (102, 2, "102 before 2"),
-    (102, 9, "102 before 9"),
+const INDEXES: &[&str] = &[
+    "index 0: null",
+    "index 1: value",
+    "index -1: value",
+    "index length: value",
+    "index length + 1: null",
+    "index -length: value",
+    "index -length - 1: null",
+    "index 2147483647: null",
+    "index -2147483648: null",
+    "index 2147483648: refused 4",
+    "index -2147483649: refused 4",
+    "index largest: refused 4",
+    "index smallest: refused 4",
+    "index 2147483647 of an empty row: null",
+    "index 2147483648 of an empty row: refused 4",
+    "index 2147483648 of a null row: null",
+    "index null beside a null: null",
 ];
 
-/// The answers that an operation can give.
+const BOUNDS: &[&str] = &[
+    "from 0: places",
+    "from 1: places",
+    "from -1: places",
+    "from length: places",
+    "from length + 1: empty",
+    "from -length: places",
+    "from -length - 1: places",
+    "from 2147483647: empty",
+    "from -2147483648: places",
+    "from 2147483648: refused 4",
+    "from -2147483649: refused 4",
+    "from largest: refused 4",
+    "from smallest: refused 4",
+    "from 2147483648 of an empty row: empty",
+    "from 2147483648 of a null row: null",
+    "from 2147483648 beside a null: null",
+    "from null beside a null: null",
+    "to 0: empty",
+    "to 1: places",
+    "to -1: places",
+    "to length: places",
+    "to length + 1: places",
+    "to -length: places",
+    "to -length - 1: empty",
+    "to 2147483647: places",
+    "to -2147483648: empty",
+    "to 2147483648: refused 4",
+    "to -2147483649: refused 4",
+    "to largest: refused 4",
+    "to smallest: refused 4",
+    "to 2147483648 of an empty row: empty",
+    "to 2147483648 of a null row: null",
+    "to 2147483648 beside a null: null",
+    "to null beside a null: null",
+];
+
+const STRIDES: &[&str] = &[
+    "stride 0: refused 5",
+    "stride 0: empty",
+    "stride 0 of an empty row: empty",
+    "stride 0 of a null row: null",
+    "stride 0 beside a null: null",
+    "stride 1: places",
+    "stride -1: places",
+    "stride 2: places",
+    "stride -2: places",
+    "stride length: places",
+    "stride -length: places",
+    "stride 2147483647: places",
+    "stride -2147483648: places",
+    "stride 2147483648: refused 6",
+    "stride 2147483648: empty",
+    "stride -2147483649: refused 6",
+    "stride -2147483649: empty",
+    "stride largest: refused 6",
+    "stride smallest: refused 6",
+    "stride 2147483648 of an empty row: empty",
+    "stride 2147483648 of a null row: null",
+    "stride 2147483648 beside a null: null",
+    "stride null beside a null: null",
+    "bounds rising, stride 0: refused 5",
+    "bounds rising, stride positive: places",
+    "bounds rising, stride negative: empty",
+    "bounds rising, stride above 32 bits: refused 6",
+    "bounds rising, stride below 32 bits: empty",
+    "bounds equal, stride 0: refused 5",
+    "bounds equal, stride positive: places",
+    "bounds equal, stride negative: places",
+    "bounds equal, stride above 32 bits: refused 6",
+    "bounds equal, stride below 32 bits: refused 6",
+    "bounds falling, stride 0: refused 5",
+    "bounds falling, stride positive: empty",
+    "bounds falling, stride negative: places",
+    "bounds falling, stride above 32 bits: empty",
+    "bounds falling, stride below 32 bits: refused 6",
+    "bounds outside, stride 0: empty",
+    "bounds outside, stride positive: empty",
+    "bounds outside, stride negative: empty",
+    "bounds outside, stride above 32 bits: empty",
+    "bounds outside, stride below 32 bits: empty",
+    "bounds beyond 32 bits, stride 0: refused 4",
+    "bounds beyond 32 bits, stride positive: refused 4",
+    "bounds beyond 32 bits, stride negative: refused 4",
+    "bounds beyond 32 bits, stride above 32 bits: refused 4",
+    "bounds beyond 32 bits, stride below 32 bits: refused 4",
+];
+
+/// A null fill stands beside no null of another argument.
+const COUNTS: &[&str] = &[
+    "count -1: refused 7",
+    "count smallest: refused 7",
+    "count 0: empty",
+    "count 0 of an empty row: empty",
+    "count length - 1: shorter",
+    "count length: same",
+    "count length + 1: longer",
+    "count length + 2: longer",
+    "count 1 of an empty row: longer",
+    "count -1 of a null row: null",
+    "count null beside a null: null",
+];
+
+const FILLS: &[&str] = &[
+    "fill given: longer",
+    "fill given: shorter",
+    "fill given: same",
+    "fill null beside a null: longer",
+    "fill null beside a null: shorter",
+    "fill null beside a null: same",
+    "fill given beside a null: null",
+];
+
+const REPLACEMENTS: &[&str] = &[
+    "old given: changed",
+    "old given: same",
+    "old null: changed",
+    "old null: same",
+    "old null of an empty row: empty",
+    "old null of a null row: null",
+    "new null: changed",
+    "new null of an empty row: empty",
+    "limit null: null",
+    "limit null of an empty row: null",
+    "limit null of a null row: null",
+    "limit smallest: same",
+    "limit -1: same",
+    "limit 0: same",
+    "limit below the matches: changed",
+    "limit equal to the matches: changed",
+    "limit above the matches: changed",
+    "limit largest: changed",
+];
+
+const REMOVALS: &[&str] = &[
+    "old given: shorter",
+    "old given: same",
+    "old given: empty",
+    "old null beside a null: null",
+    "old null of a null row: null",
+    "limit null beside a null: null",
+    "limit -1 beside a null: null",
+    "limit smallest: same",
+    "limit -1: same",
+    "limit 0: same",
+    "limit below the matches: shorter",
+    "limit equal to the matches: shorter",
+    "limit above the matches: shorter",
+    "limit largest: shorter",
+];
+
+const REPEATS: &[&str] = &[
+    "times null beside a null: null",
+    "times null of a null row: null",
+    "times smallest: no lists",
+    "times -1: no lists",
+    "times 0: no lists",
+    "times 1: lists",
+    "times 2: lists",
+    "times 0 of an empty row: no lists",
+    "times 2 of an empty row: lists",
+    "times -1 of a null row: no lists",
+    "times 0 of a null row: no lists",
+    "times 1 of a null row: null lists",
+    "times 2 of a null row: null lists",
+    "times 2147483648: refused 8",
+    "times largest: refused 8",
+];
+
+/// What the rows of an operation must meet.
+fn demanded_of_rows(operation: Operation) -> Vec<&'static str> {
+    let parts: &[&[&str]] = match operation {
+        Operation::Element => &[INDEXES],
+        Operation::Union | Operation::Intersect => &[&PAIRS],
+        Operation::Slice => &[BOUNDS, STRIDES],
+        Operation::SliceWithoutStride => &[BOUNDS],
+        Operation::Resize => &[COUNTS, FILLS, &RESIZE_SUMS],
+        Operation::ResizeWithoutFill => &[COUNTS, &RESIZE_SUMS],
+        Operation::Replace => &[REPLACEMENTS, &LIMIT_COLUMNS],
+        Operation::Remove => &[REMOVALS, &LIMIT_COLUMNS],
+        Operation::ListRepeat => &[REPEATS, &REPEAT_SUMS],
+        _ => &[],
+    };
+    parts.concat()
+}
+
+/// The answers that can be reached for an operation. Union's 8 takes more than 2147483647 elements
+/// in its result, and its entry takes no more than 16384 values for it and in each list.
 pub fn answers(entry: Entry) -> Vec<u32> {
-    match entry {
-        Entry::List(_) => vec![0, 1, 2, 9, 100, 101, 102],
-        Entry::AnyValue => vec![0, 1, 2, 9, 100, 101],
-        Entry::Element => vec![0, 1, 2, 3, 4, 9, 100, 101],
+    let others = entry.lists() + entry.roles().len() > 1;
+    let operation = entry.known_operation();
+    let mut answers = vec![0, 1, 2];
+    answers.extend(others.then_some(3));
+    answers.extend(operation.refusals().iter().filter(|_| operation != Operation::Union));
+    answers.extend([9, 100, 101]);
+    answers.extend(entry.with_code(0).map(|_| 102));
+    answers
+}
+
+/// The orders of two refusals that a call may meet, the one that must be answered first; rows that
+/// are refused with different numbers have a group of their own.
+fn demanded_orders(entry: Entry) -> Vec<String> {
+    let mut orders = Vec::new();
+    let answers = answers(entry);
+    let of_rows = |number: u32| (4..=8).contains(&number);
+    let rank = |number: u32| [102, 100, 101].iter().position(|one| *one == number).unwrap_or(3);
+    for first in answers.iter().copied().filter(|one| *one != 0) {
+        for then in answers.iter().copied().filter(|one| *one != 0 && *one != first) {
+            let comes_first = (rank(first), first) < (rank(then), then);
+            if of_rows(first) && of_rows(then) {
+                if entry.operation().is_some_and(is_slice) {
+                    orders.push(format!("{first} in a row before {then}"));
+                }
+            } else if comes_first {
+                orders.push(format!("{first} before {then}"));
+            }
+        }
     }
+    orders.extend(demanded_column_orders(entry));
+    orders
+}
+
+/// 1 before 2 before 3, each in every column in which it can hold.
+fn demanded_column_orders(entry: Entry) -> Vec<String> {
+    let mut orders = Vec::new();
+    let harms = Harm::of(entry);
+    for one in &harms {
+        for other in &harms {
+            if let (Some(first), Some(then)) = (one.refusal(), other.refusal()) {
+                let (column, other_column) = (one.column.name(entry), other.column.name(entry));
+                if first < then {
+                    orders.push(format!("{first} of {column} before {then} of {other_column}"));
+                }
+            }
+        }
+    }
+    orders.sort();
+    orders.dedup();
+    orders
 }
 
 /// Everything that a whole run must reach for one operation.
-fn demanded(entry: Entry) -> Vec<(&'static str, &'static str)> {
-    let answers = answers(entry);
-    let mut all: Vec<(&str, &str)> = Vec::new();
-    all.extend(answers.iter().filter(|one| **one != 102).map(|one| ("answer", answer_name(*one))));
-    all.extend(ROW_COUNTS.iter().map(|(_, name)| ("rows", *name)));
-    all.extend(LIST_LAYOUTS.map(|name| ("layout", name)));
-    all.extend(OUTPUT_LENGTHS.map(|name| ("outputs", name)));
-    all.extend(entry.outputs().iter().map(|kind| ("one slot short", kind.name)));
-    all.extend(Damage::of(entry).iter().map(|damage| ("damage", damage.name())));
-    let possible =
-        |(first, then, _): &&(u32, u32, &str)| answers.contains(first) && answers.contains(then);
-    all.extend(ORDERS.iter().filter(possible).map(|(_, _, name)| ("order", *name)));
-    for kind in entry.inputs().iter().chain(entry.outputs()).filter(|kind| kind.most.is_some()) {
-        all.extend(["ragged", "over size", "at size"].map(|way| (way, kind.name)));
+fn demanded(entry: Entry) -> Vec<(&'static str, String)> {
+    let mut all: Vec<(&'static str, String)> = Vec::new();
+    let mut add = |kind: &'static str, subjects: Vec<String>| {
+        all.extend(subjects.into_iter().map(|subject| (kind, subject)));
+    };
+    let owned = |subjects: &[&str]| subjects.iter().map(|one| one.to_string()).collect();
+    let answers = answers(entry).into_iter().filter(|one| *one != 102);
+    add("answer", answers.map(|number| number.to_string()).collect());
+    add("rows", ROW_COUNTS.iter().map(|(_, name)| name.to_string()).collect());
+    add("layout", demanded_layouts(entry));
+    add("outputs", owned(&OUTPUT_LENGTHS));
+    add("one slot short", entry.outputs().iter().map(|kind| kind.name.to_string()).collect());
+    add("damage", Harm::of(entry).iter().map(|harm| harm.name(entry)).collect());
+    add("order", demanded_orders(entry));
+    for way in ["ragged", "over size", "at size"] {
+        let slices = entry.inputs().into_iter().chain(entry.outputs().iter().copied());
+        let numbers = slices.filter(|kind| kind.most.is_some());
+        add(way, numbers.map(|kind| kind.name.to_string()).collect());
     }
-    all.push(("ragged", "counts"));
-    if entry == Entry::Element {
-        all.extend(ARGUMENT_LAYOUTS.map(|name| ("layout", name)));
-        all.extend(INDEX_BOUNDARIES.map(|name| ("argument", name)));
-        all.extend(NULL_INDEXES.map(|name| ("argument", name)));
-        all.extend(REFUSED_INDEXES.map(|name| ("argument", name)));
-    }
+    add("ragged", vec!["counts".to_string()]);
+    add("row", owned(&demanded_of_rows(entry.known_operation())));
     all
 }
 
+fn demanded_layouts(entry: Entry) -> Vec<String> {
+    let mut layouts = Vec::new();
+    for at in 0..entry.lists() {
+        layouts.extend(LIST_LAYOUTS.map(|name| layout_name(Column::List(at), entry, name)));
+    }
+    for at in 0..entry.roles().len() {
+        layouts.extend(ARGUMENT_LAYOUTS.map(|name| layout_name(Column::Argument(at), entry, name)));
+    }
+    if entry.arguments() > entry.roles().len() {
+        layouts.extend(UNTAKEN_LAYOUTS.map(str::to_string));
+    }
+    layouts
+}
+
 impl Coverage {
-    /// What a whole run must reach and did not.
-    pub fn missing(&self) -> Vec<String> {
+    /// What a whole run must reach for the operations of the library and did not.
+    pub fn missing(&self, library: &Library) -> Vec<String> {
         let mut missing = Vec::new();
-        for entry in Entry::ALL {
+        for entry in library.operations() {
             for (kind, subject) in demanded(entry) {
-                if self.of(entry.name(), kind, subject) == 0 {
+                if !self.reached(entry.name(), kind, &subject) {
                     missing.push(format!("{}: {kind} {subject}", entry.name()));
                 }
             }
         }
-        if self.of("unknown", "answer", "102") == 0 {
+        if !self.reached("unknown", "answer", "102") {
             missing.push("unknown operations: answer 102".to_string());
         }
         missing
     }
 
+    /// Prints all that was reached, but of the rows only what is demanded.
     pub fn print(&self) {
         println!("covered, as calls by operation:");
+        let rows = |entry: Entry| (entry.name(), demanded_of_rows(entry.known_operation()));
+        let rows: BTreeMap<&str, Vec<&str>> = Entry::all().map(rows).collect();
         let mut line = String::new();
         let mut last = ("", "");
         for ((operation, kind, subject), count) in &self.0 {
+            if *kind == "row" && !rows[operation].contains(&&**subject) {
+                continue;
+            }
             if last != (operation, kind) && !line.is_empty() {
                 println!("  {line}");
                 line.clear();
@@ -313,5 +959,12 @@ impl Coverage {
             line.push_str(&format!(" {subject} {count}").replace("  ", " "));
         }
         println!("  {line}");
+        if self.reached("union", "calls", "") {
+            println!("not reachable, and not demanded:");
+            println!(
+                "  union, answer 8: its result would exceed 2147483647 elements, and the entry \
+                 takes 16384 values for it and in each list"
+            );
+        }
     }
 }

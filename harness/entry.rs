@@ -1,9 +1,10 @@
 //! The C entries: which slices each takes, how columns lie in them, and the answers that an entry
 //! gives by itself (100, 101, 102). A case is one call, as bytes.
 //!
-//! An operation is added by its arm in each function of `Entry`.
+//! An operation is added by its line in `OPERATIONS`, an entry by its arm in each function of
+//! `Entry`.
 
-use crate::model::{self, ArgumentColumn, ListColumn, Operation, ResultForm, Slots};
+use crate::model::{self, ArgumentColumn, ListColumn, Operation, ResultForm, Role, Slots};
 
 pub const RAGGED: u32 = 100;
 pub const OVER_SIZE: u32 = 101;
@@ -15,6 +16,37 @@ pub enum Entry {
     List(u32),
     AnyValue,
     Element,
+    Lists(u32),
+    ListWith(u32),
+    ListRepeat,
+}
+
+/// Every operation of the port, with the entry that reaches it and its name.
+const OPERATIONS: [(Entry, Operation, &str); 15] = [
+    (Entry::List(0), Operation::Reverse, "reverse"),
+    (Entry::List(1), Operation::Distinct, "distinct"),
+    (Entry::List(2), Operation::PopFront, "pop front"),
+    (Entry::List(3), Operation::PopBack, "pop back"),
+    (Entry::AnyValue, Operation::AnyValue, "any-value"),
+    (Entry::Element, Operation::Element, "element"),
+    (Entry::Lists(9), Operation::Union, "union"),
+    (Entry::Lists(10), Operation::Intersect, "intersect"),
+    (Entry::ListWith(4), Operation::Slice, "slice"),
+    (Entry::ListWith(5), Operation::SliceWithoutStride, "slice without stride"),
+    (Entry::ListWith(6), Operation::Resize, "resize"),
+    (Entry::ListWith(11), Operation::ResizeWithoutFill, "resize without fill"),
+    (Entry::ListWith(7), Operation::Replace, "replace"),
+    (Entry::ListWith(8), Operation::Remove, "remove"),
+    (Entry::ListRepeat, Operation::ListRepeat, "list-repeat"),
+];
+
+/// What the slots of a slice are.
+#[derive(Clone, Copy, PartialEq, Eq, Debug)]
+pub enum Content {
+    Offsets,
+    Values,
+    RowValues,
+    Bits,
 }
 
 /// One slice of an entry: bytes a slot, and the most slots that the entry takes (bitmaps may have
@@ -22,121 +54,169 @@ pub enum Entry {
 #[derive(Clone, Copy, Debug)]
 pub struct SliceKind {
     pub name: &'static str,
+    pub content: Content,
     pub width: usize,
     pub most: Option<usize>,
-}
-
-const fn numbers(name: &'static str, width: usize, most: usize) -> SliceKind {
-    SliceKind { name, width, most: Some(most) }
-}
-
-const fn bitmap(name: &'static str) -> SliceKind {
-    SliceKind { name, width: 1, most: None }
 }
 
 pub const MOST_ROWS: usize = 4096;
 pub const MOST_VALUES: usize = 16384;
 
-const LIST: [SliceKind; 4] = [
-    numbers("offsets", 4, MOST_ROWS + 1),
-    bitmap("rows"),
-    numbers("values", 8, MOST_VALUES),
-    bitmap("elements"),
+/// The most lists in the outer rows of list-repeat.
+pub const MOST_INNER_ROWS: usize = 16384;
+
+const fn offsets(name: &'static str, most_rows: usize) -> SliceKind {
+    SliceKind { name, content: Content::Offsets, width: 4, most: Some(most_rows + 1) }
+}
+
+const fn values(name: &'static str) -> SliceKind {
+    SliceKind { name, content: Content::Values, width: 8, most: Some(MOST_VALUES) }
+}
+
+/// One value a row.
+const fn row_values(name: &'static str) -> SliceKind {
+    SliceKind { name, content: Content::RowValues, width: 8, most: Some(MOST_ROWS) }
+}
+
+const fn bits(name: &'static str) -> SliceKind {
+    SliceKind { name, content: Content::Bits, width: 1, most: None }
+}
+
+const LISTS: [SliceKind; 8] = [
+    offsets("offsets", MOST_ROWS),
+    bits("rows"),
+    values("values"),
+    bits("elements"),
+    offsets("right offsets", MOST_ROWS),
+    bits("right rows"),
+    values("right values"),
+    bits("right elements"),
 ];
-const INDEXES: [SliceKind; 2] = [numbers("indexes", 8, MOST_ROWS), bitmap("index bits")];
+const INDEXES: [SliceKind; 2] = [row_values("indexes"), bits("index bits")];
+const TIMES: [SliceKind; 2] = [row_values("times"), bits("times bits")];
+const ARGUMENTS: [SliceKind; 6] = [
+    row_values("first"),
+    bits("first bits"),
+    row_values("second"),
+    bits("second bits"),
+    row_values("third"),
+    bits("third bits"),
+];
+const VALUE_ANSWER: [SliceKind; 2] = [row_values("output values"), bits("output rows")];
 const LIST_ANSWER: [SliceKind; 4] = [
-    numbers("output offsets", 4, MOST_ROWS + 1),
-    bitmap("output rows"),
-    numbers("output values", 8, MOST_VALUES),
-    bitmap("output elements"),
+    offsets("output offsets", MOST_ROWS),
+    bits("output rows"),
+    values("output values"),
+    bits("output elements"),
 ];
-const VALUE_ANSWER: [SliceKind; 2] =
-    [numbers("output values", 8, MOST_ROWS), bitmap("output rows")];
+const LIST_OF_LISTS_ANSWER: [SliceKind; 6] = [
+    offsets("output offsets", MOST_ROWS),
+    bits("output rows"),
+    offsets("inner offsets", MOST_INNER_ROWS),
+    bits("inner rows"),
+    values("output values"),
+    bits("output elements"),
+];
 
 impl Entry {
     /// Every operation of the port, as the entry that reaches it.
-    pub const ALL: [Entry; 6] = [
-        Entry::List(0),
-        Entry::List(1),
-        Entry::List(2),
-        Entry::List(3),
-        Entry::AnyValue,
-        Entry::Element,
-    ];
+    pub fn all() -> impl Iterator<Item = Entry> {
+        OPERATIONS.into_iter().map(|(entry, _, _)| entry)
+    }
+
+    /// The entry for an operation.
+    pub fn of(operation: Operation) -> Entry {
+        let line = OPERATIONS.iter().find(|(_, one, _)| *one == operation);
+        line.expect("every operation has an entry").0
+    }
 
     pub fn operation(self) -> Option<Operation> {
-        match self {
-            Entry::List(0) => Some(Operation::Reverse),
-            Entry::List(1) => Some(Operation::Distinct),
-            Entry::List(2) => Some(Operation::PopFront),
-            Entry::List(3) => Some(Operation::PopBack),
-            Entry::List(_) => None,
-            Entry::AnyValue => Some(Operation::AnyValue),
-            Entry::Element => Some(Operation::Element),
-        }
+        OPERATIONS.iter().find(|(entry, _, _)| *entry == self).map(|(_, operation, _)| *operation)
+    }
+
+    /// The operation of an entry whose code is one of its own.
+    pub fn known_operation(self) -> Operation {
+        self.operation().expect("a code that the entry knows")
     }
 
     pub fn name(self) -> &'static str {
-        match self.operation() {
-            Some(Operation::Reverse) => "reverse",
-            Some(Operation::Distinct) => "distinct",
-            Some(Operation::PopFront) => "pop front",
-            Some(Operation::PopBack) => "pop back",
-            Some(Operation::AnyValue) => "any-value",
-            Some(Operation::Element) => "element",
-            None => "unknown",
+        let line = OPERATIONS.iter().find(|(entry, _, _)| *entry == self);
+        line.map_or("unknown", |(_, _, name)| name)
+    }
+
+    /// The same entry with another code, if it takes one.
+    pub fn with_code(self, code: u32) -> Option<Entry> {
+        match self {
+            Entry::List(_) => Some(Entry::List(code)),
+            Entry::Lists(_) => Some(Entry::Lists(code)),
+            Entry::ListWith(_) => Some(Entry::ListWith(code)),
+            Entry::AnyValue | Entry::Element | Entry::ListRepeat => None,
         }
     }
 
     /// How many list columns come first among the inputs.
     pub fn lists(self) -> usize {
-        1
-    }
-
-    /// The argument columns, which come behind the lists.
-    fn argument_kinds(self) -> &'static [SliceKind] {
         match self {
-            Entry::Element => &INDEXES,
-            _ => &[],
+            Entry::Lists(_) => 2,
+            _ => 1,
         }
     }
 
+    /// The argument columns that the operation takes, which are the first of those behind the
+    /// lists.
+    pub fn roles(self) -> &'static [Role] {
+        self.operation().map_or(&[], Operation::roles)
+    }
+
+    fn argument_kinds(self) -> &'static [SliceKind] {
+        match self {
+            Entry::Element => &INDEXES,
+            Entry::ListWith(_) => &ARGUMENTS,
+            Entry::ListRepeat => &TIMES,
+            Entry::List(_) | Entry::AnyValue | Entry::Lists(_) => &[],
+        }
+    }
+
+    /// How many argument columns are lent, among them those that the operation does not take.
+    pub fn arguments(self) -> usize {
+        self.argument_kinds().len() / 2
+    }
+
     pub fn inputs(self) -> Vec<SliceKind> {
-        let mut kinds = LIST.repeat(self.lists());
-        kinds.extend_from_slice(self.argument_kinds());
-        kinds
+        [&LISTS[..4 * self.lists()], self.argument_kinds()].concat()
     }
 
     pub fn outputs(self) -> &'static [SliceKind] {
         match self {
-            Entry::List(_) => &LIST_ANSWER,
+            Entry::List(_) | Entry::Lists(_) | Entry::ListWith(_) => &LIST_ANSWER,
             Entry::AnyValue | Entry::Element => &VALUE_ANSWER,
+            Entry::ListRepeat => &LIST_OF_LISTS_ANSWER,
         }
     }
 
-    /// The bytes of the counts that an accepted call writes.
+    /// The bytes of the counts that an accepted call writes: as many counts as output slices.
     pub fn count_bytes(self) -> usize {
-        match self {
-            Entry::List(_) => 32,
-            Entry::AnyValue | Entry::Element => 16,
-        }
+        8 * self.outputs().len()
     }
 
     /// The slots of each output that a result with these counts takes.
     pub fn written_slots(self, counts: &[u64]) -> Vec<usize> {
-        let rows = counts[0] as usize;
-        match self {
-            Entry::List(_) => {
-                let elements = counts[1] as usize;
-                let row_bytes = model::bitmap_bytes(rows);
-                vec![rows.saturating_add(1), row_bytes, elements, model::bitmap_bytes(elements)]
+        let counts: Vec<usize> = counts.iter().map(|count| *count as usize).collect();
+        let offsets_and_bits = |rows: usize| [rows.saturating_add(1), model::bitmap_bytes(rows)];
+        let values_and_bits = |values: usize| [values, model::bitmap_bytes(values)];
+        match counts[..] {
+            [rows, _] => values_and_bits(rows).to_vec(),
+            [rows, elements, _, _] => [offsets_and_bits(rows), values_and_bits(elements)].concat(),
+            [rows, elements, _, _, inner_rows, _] => {
+                let lists = [offsets_and_bits(rows), offsets_and_bits(inner_rows)];
+                [lists.concat(), values_and_bits(elements).to_vec()].concat()
             }
-            Entry::AnyValue | Entry::Element => vec![rows, model::bitmap_bytes(rows)],
+            _ => panic!("an answer has two, four or six counts"),
         }
     }
 }
 
-/// The columns of a call.
+/// The columns of a call, among them argument columns that its operation does not take.
 #[derive(Clone, Debug)]
 pub struct Input {
     pub entry: Entry,
@@ -145,6 +225,11 @@ pub struct Input {
 }
 
 impl Input {
+    /// The argument columns that the operation takes.
+    pub fn taken(&self) -> &[ArgumentColumn] {
+        &self.arguments[..self.entry.roles().len()]
+    }
+
     /// The slices of all columns, in the order of the entry's inputs.
     pub fn encode(&self) -> Vec<Vec<u8>> {
         let mut slices = Vec::new();
@@ -252,7 +337,7 @@ impl Case {
         let kinds = self.entry.outputs().iter();
         let lengths: Vec<usize> =
             kinds.zip(&self.outputs).map(|(kind, bytes)| bytes.len() / kind.width).collect();
-        match model::outcome(operation, &input.lists, &input.arguments, &lengths) {
+        match model::outcome(operation, &input.lists, input.taken(), &lengths) {
             Ok(form) => Expected::accepted(&form),
             Err(number) => Expected::refusal(number),
         }

@@ -1,9 +1,11 @@
-//! Short columns, all of them: every offset, bitmap and argument over small alphabets.
+//! Short columns and boundary arguments, all of them: every offset and bitmap of a list, every
+//! boundary number of an argument, every sum of counts, over small alphabets.
 
 use crate::compare::Checker;
 use crate::entry::{Entry, Input};
-use crate::generate::{lend, Room, BEYOND_32_BITS};
-use crate::model::{ArgumentColumn, ListColumn};
+use crate::generate::{accepted_columns, random_rows, small_shape, RowShape};
+use crate::generate::{boundaries, input_of, lend, random_beside, random_layouts, Room};
+use crate::model::{shown_rows, Element, ListColumn, Operation, Role, Row, Shown};
 use crate::rng::Rng;
 
 /// Different values, among them 0 and the extremes.
@@ -55,47 +57,25 @@ fn equalities(count: usize) -> Vec<Vec<i64>> {
     all.iter().map(|word| word.iter().map(|letter| VALUES[*letter]).collect()).collect()
 }
 
+/// Whether other columns stand beside the one that is tried in every form.
+fn has_others(entry: Entry) -> bool {
+    entry.lists() + entry.roles().len() > 1
+}
+
 fn value_lists(entry: Entry, count: usize) -> Vec<Vec<i64>> {
-    match entry {
-        Entry::List(1) => equalities(count),
+    match entry.known_operation() {
+        Operation::Distinct => equalities(count),
         _ => vec![VALUES[..count].to_vec()],
     }
 }
 
 /// The most values for this many rows, which bounds the number of columns.
 fn most_values(entry: Entry, rows: usize) -> usize {
-    match (entry, rows) {
-        (Entry::List(1), 3) | (Entry::Element, _) => 3,
-        _ => 4,
-    }
-}
-
-/// Every index for one row; few for two; two random columns for three.
-fn index_columns(rows: usize, rng: &mut Rng) -> Vec<ArgumentColumn> {
-    let mut one_row: Vec<i64> = (-6..=6).chain(BEYOND_32_BITS).collect();
-    one_row.extend([2147483647, -2147483648]);
-    let value_lists = match rows {
-        0 => vec![Vec::new()],
-        1 => words(&one_row, 1),
-        2 => words(&[1, -1, 2, -3, 2147483648], 2),
-        _ => (0..2).map(|_| (0..rows).map(|_| rng.pick(&one_row)).collect()).collect(),
-    };
-    let with_bits = |values: Vec<i64>| {
-        let mut all = bitmaps(rows);
-        if rows > 1 {
-            // All valid, written out, then one of the others at random.
-            let other = all[1 + rng.below(all.len() - 1)].clone();
-            all = vec![vec![0xff], other];
-        }
-        all.into_iter().map(move |bits| ArgumentColumn { values: values.clone(), bits })
-    };
-    value_lists.into_iter().flat_map(with_bits).collect()
-}
-
-fn arguments(entry: Entry, rows: usize, rng: &mut Rng) -> Vec<Vec<ArgumentColumn>> {
-    match entry {
-        Entry::Element => index_columns(rows, rng).into_iter().map(|column| vec![column]).collect(),
-        _ => vec![Vec::new()],
+    let fewer = entry.known_operation() == Operation::Distinct && rows == 3 || has_others(entry);
+    if fewer {
+        3
+    } else {
+        4
     }
 }
 
@@ -109,16 +89,33 @@ fn room_by_turns(turn: u64, entry: Entry) -> Room {
     }
 }
 
-fn check_with_arguments(checker: &mut Checker, entry: Entry, list: &ListColumn, rng: &mut Rng) {
-    let rows = list.offsets.len().max(1) - 1;
-    for arguments in arguments(entry, rows, rng) {
-        let input = Input { entry, lists: vec![list.clone()], arguments };
-        let room = room_by_turns(checker.calls, entry);
-        checker.check(&lend(&input, room, rng));
-    }
+fn check_input(checker: &mut Checker, input: &Input, rng: &mut Rng) {
+    let room = room_by_turns(checker.calls, input.entry);
+    checker.check(&lend(input, room, rng));
 }
 
-/// Every well-formed column of at most three rows and three or four values.
+fn check_shown(checker: &mut Checker, entry: Entry, shown: &Shown, rng: &mut Rng) {
+    let layouts = random_layouts(entry, rng);
+    check_input(checker, &input_of(entry, shown, &layouts, rng), rng);
+}
+
+/// A list as it stands in one place of a call, with random columns beside it that suit its rows.
+fn check_beside(
+    checker: &mut Checker,
+    entry: Entry,
+    place: usize,
+    list: &ListColumn,
+    rows: &[Row],
+    rng: &mut Rng,
+) {
+    let shown = random_beside(entry, place, rows, rng);
+    let layouts = random_layouts(entry, rng);
+    let mut input = input_of(entry, &shown, &layouts, rng);
+    input.lists[place] = list.clone();
+    check_input(checker, &input, rng);
+}
+
+/// Every well-formed column of at most three rows and three or four values, as each list.
 pub fn short_columns(checker: &mut Checker, entry: Entry, rng: &mut Rng, _calls: u64) {
     for rows in 0..=3 {
         for count in 0..=most_values(entry, rows) {
@@ -138,12 +135,24 @@ fn check_every_bitmap(checker: &mut Checker, entry: Entry, mut list: ListColumn,
         list.rows = rows;
         for elements in bitmaps(list.values.len()) {
             list.elements = elements;
-            check_with_arguments(checker, entry, &list, rng);
+            for place in 0..entry.lists() {
+                for _ in 0..draws(entry) {
+                    check_beside(checker, entry, place, &list, &shown_rows(&list), rng);
+                }
+            }
         }
     }
 }
 
-/// Every list of at most four offsets over a small alphabet, most of them refused.
+/// How often columns are drawn beside one list.
+fn draws(entry: Entry) -> usize {
+    match entry.roles().len() {
+        0 => 1,
+        _ => 3,
+    }
+}
+
+/// Every list of at most four offsets over a small alphabet, most of them refused, as each list.
 pub fn short_offsets(checker: &mut Checker, entry: Entry, rng: &mut Rng, _calls: u64) {
     for slots in 0..=4 {
         for offsets in words(&[-1, 0, 1, 2, 3, i32::MAX], slots) {
@@ -154,17 +163,211 @@ pub fn short_offsets(checker: &mut Checker, entry: Entry, rng: &mut Rng, _calls:
                     rows: rng.pick(&[&[][..], &[0xff], &[5]]).to_vec(),
                     elements: rng.pick(&[&[][..], &[0xff], &[5]]).to_vec(),
                 };
-                check_with_one_argument(checker, entry, list, rng);
+                let rows = vec![Some(vec![Some(7)]); slots.max(1) - 1];
+                for place in 0..entry.lists() {
+                    check_beside(checker, entry, place, &list, &rows, rng);
+                }
             }
         }
     }
 }
 
-fn check_with_one_argument(checker: &mut Checker, entry: Entry, list: ListColumn, rng: &mut Rng) {
-    let rows = list.offsets.len().max(1) - 1;
-    let choices = arguments(entry, rows, rng);
-    let arguments = choices[rng.below(choices.len())].clone();
-    let input = Input { entry, lists: vec![list], arguments };
-    let room = room_by_turns(checker.calls, entry);
-    checker.check(&lend(&input, room, rng));
+// Arguments beside one row.
+
+/// Every row of at most this many elements over null, 0 and 7, and the null row.
+fn short_rows(longest: usize) -> Vec<Row> {
+    let rows = (0..=longest).flat_map(|length| words(&[None, Some(0), Some(7)], length));
+    rows.map(Some).chain([None]).collect()
+}
+
+/// Rows of every length to four, whose elements differ, and the null row.
+fn rows_of_each_length() -> Vec<Row> {
+    let elements = [Some(7), None, Some(0), Some(i64::MIN)];
+    (0..=4).map(|length| Some(elements[..length].to_vec())).chain([None]).collect()
+}
+
+/// One row of each list: all pairs for two lists, few rows for many arguments.
+fn row_choices(operation: Operation, lists: usize) -> Vec<Vec<Row>> {
+    let rows = match operation {
+        _ if lists == 2 => short_rows(4),
+        Operation::Element | Operation::Slice | Operation::SliceWithoutStride => {
+            rows_of_each_length()
+        }
+        _ => short_rows(3),
+    };
+    let letters: Vec<&Row> = rows.iter().collect();
+    words(&letters, lists)
+        .iter()
+        .map(|rows| rows.iter().map(|row| (*row).clone()).collect())
+        .collect()
+}
+
+/// Null, and every boundary number.
+fn argument_choices(role: Role, row: &Row) -> Vec<Element> {
+    let row = row.as_deref().unwrap_or(&[Some(7), None]);
+    [None].into_iter().chain(boundaries(role, row).into_iter().map(Some)).collect()
+}
+
+/// Every choice of a value for each argument of one row.
+fn argument_words(operation: Operation, row: &Row) -> Vec<Vec<Element>> {
+    let mut all = vec![Vec::new()];
+    for role in operation.roles() {
+        let choices = argument_choices(*role, row);
+        let longer = |word: &Vec<Element>| {
+            let word = word.clone();
+            choices.iter().map(move |choice| [word.as_slice(), &[*choice]].concat())
+        };
+        all = all.iter().flat_map(longer).collect();
+    }
+    all
+}
+
+/// Every boundary number, and null, for every argument of one row; every pair of short rows. Where
+/// these are few, they are gone through again in other layouts.
+pub fn every_argument(checker: &mut Checker, entry: Entry, rng: &mut Rng, _calls: u64) {
+    let operation = entry.known_operation();
+    while checker.calls < 5000 {
+        for rows in row_choices(operation, entry.lists()) {
+            for arguments in argument_words(operation, &rows[0]) {
+                let shown = Shown {
+                    lists: rows.iter().map(|row| vec![row.clone()]).collect(),
+                    arguments: arguments.into_iter().map(|argument| vec![argument]).collect(),
+                };
+                check_shown(checker, entry, &shown, rng);
+            }
+        }
+    }
+}
+
+// Sums over rows.
+
+/// Counts whose sums lie about 2147483647 and about 2 to the 64.
+const COUNTS: [Element; 11] = [
+    None,
+    Some(-1),
+    Some(0),
+    Some(1),
+    Some(2),
+    Some(2147483646),
+    Some(2147483647),
+    Some(2147483648),
+    Some(4294967295),
+    Some(i64::MAX - 1),
+    Some(i64::MAX),
+];
+
+/// Times whose sums, once, twice or three times, lie about 2147483647.
+const TIMES: [Element; 12] = [
+    None,
+    Some(-1),
+    Some(0),
+    Some(1),
+    Some(715827882),
+    Some(715827883),
+    Some(1073741823),
+    Some(1073741824),
+    Some(2147483646),
+    Some(2147483647),
+    Some(2147483648),
+    Some(i64::MAX),
+];
+
+/// Counts whose sums lie about the most values that the entry takes.
+const COUNTS_AT_SIZE: [&[i64]; 6] =
+    [&[16383], &[16384], &[16385], &[0, 16383, 1], &[16384, 1], &[1, 16384]];
+
+/// Lengths of lists with times, whose sums lie about the most lists or values of the entry; -1 is
+/// a null list.
+const TIMES_AT_SIZE: [&[(i64, i64)]; 11] = [
+    &[(0, 16384)],
+    &[(0, 16385)],
+    &[(-1, 16384)],
+    &[(-1, 16385)],
+    &[(-1, 1), (0, 16384)],
+    &[(1, 16384)],
+    &[(2, 8192)],
+    &[(2, 8192), (1, 1)],
+    &[(1, 1), (-1, 8), (2, 8192)],
+    &[(3, 5461), (1, 1)],
+    &[(3, 5461), (2, 1)],
+];
+
+/// Every short column of counts, or of lists and times, with sums at their limits in every order.
+pub fn every_sum(checker: &mut Checker, entry: Entry, rng: &mut Rng, _calls: u64) {
+    if entry.known_operation() == Operation::ListRepeat {
+        return every_repeated_sum(checker, entry, rng);
+    }
+    for length in 1..=4 {
+        for counts in words(&COUNTS, length) {
+            check_counts(checker, entry, counts, rng.pick(&[0, 0, 2]), rng);
+        }
+    }
+    for counts in COUNTS_AT_SIZE {
+        check_counts(checker, entry, counts.iter().copied().map(Some).collect(), 0, rng);
+    }
+}
+
+fn check_counts(
+    checker: &mut Checker,
+    entry: Entry,
+    counts: Vec<Element>,
+    null_rows: usize,
+    rng: &mut Rng,
+) {
+    let count = counts.len();
+    let rows = random_rows(RowShape { count, longest: 2, null_rows, ..small_shape(rng) }, rng);
+    let mut arguments = vec![counts];
+    if entry.roles().len() == 2 {
+        arguments.push((0..count).map(|_| rng.pick(&[None, Some(0), Some(7)])).collect());
+    }
+    check_shown(checker, entry, &Shown { lists: vec![rows], arguments }, rng);
+}
+
+fn every_repeated_sum(checker: &mut Checker, entry: Entry, rng: &mut Rng) {
+    let letters: Vec<(i64, Element)> =
+        (-1..=3).flat_map(|length| TIMES.map(|times| (length, times))).collect();
+    let wrapping: Vec<(i64, Element)> = [-1, 1, 2, i64::MAX]
+        .into_iter()
+        .flat_map(|times| [(-1, Some(times)), (0, Some(times))])
+        .collect();
+    for word in [words(&letters, 1), words(&letters, 2), words(&wrapping, 3)].concat() {
+        check_repeated(checker, entry, &word, rng);
+    }
+    for lists in TIMES_AT_SIZE {
+        let word: Vec<_> = lists.iter().map(|(length, times)| (*length, Some(*times))).collect();
+        check_repeated(checker, entry, &word, rng);
+    }
+}
+
+fn check_repeated(checker: &mut Checker, entry: Entry, word: &[(i64, Element)], rng: &mut Rng) {
+    let row = |length: i64| usize::try_from(length).ok().map(|length| vec![Some(4); length]);
+    let shown = Shown {
+        lists: vec![word.iter().map(|(length, _)| row(*length)).collect()],
+        arguments: vec![word.iter().map(|(_, times)| *times).collect()],
+    };
+    check_shown(checker, entry, &shown, rng);
+}
+
+// Limit columns.
+
+/// Limit columns of every length beside no rows to nine: one value, or as many as rows, else 3.
+pub fn every_limit_length(checker: &mut Checker, entry: Entry, rng: &mut Rng, _calls: u64) {
+    let operation = entry.known_operation();
+    for rows in 0..=9 {
+        for limits in (0..=rows + 2).flat_map(|limits| [limits; 8]) {
+            let shape = RowShape { count: rows, longest: 3, ..small_shape(rng) };
+            let lists = vec![random_rows(shape, rng)];
+            let mut arguments = accepted_columns(operation, &lists, rng);
+            let null = rng.pick(&[0, 1, 8]);
+            let limit = |_| (!rng.chance(null, 8)).then(|| rng.pick(&[-1, 0, 1, 2, i64::MAX]));
+            *arguments.last_mut().expect("a limit column") = (0..limits).map(limit).collect();
+            let layouts = random_layouts(entry, rng);
+            let input = input_of(entry, &Shown { lists, arguments }, &layouts, rng);
+            let case = lend(&input, Room::Longer(1), rng);
+            checker.check(&case);
+            let accepted = limits == rows || limits == 1;
+            let number = if accepted { 0 } else { 3 };
+            checker.require(case.expected().number == number, &case, "a limit column misjudged");
+        }
+    }
 }

@@ -1,15 +1,12 @@
 //! Makes columns and cases: rows at random, rows laid out in many ways, damage, and outputs lent
 //! exactly long enough, longer, or one slot short.
 
-use crate::entry::{Case, Entry, Input, MOST_VALUES};
-use crate::model::{self, bitmap_bytes, ArgumentColumn, Element, ListColumn, Row};
+use crate::entry::{Case, Entry, Input, MOST_INNER_ROWS, MOST_VALUES};
+use crate::model::{self, bitmap_bytes, ArgumentColumn, Element, ListColumn, Made};
+use crate::model::{Operation, Role, Row, Shown};
 use crate::rng::Rng;
 
 pub const EXTREMES: [i64; 7] = [i64::MIN, i64::MIN + 1, -1, 0, 1, i64::MAX - 1, i64::MAX];
-
-/// Indexes just outside 32 signed bits and far outside, one of them 1 modulo 2 to the 32.
-pub const BEYOND_32_BITS: [i64; 6] =
-    [-2147483649, 2147483648, i64::MIN, i64::MAX, 4294967297, -4294967297];
 
 pub const ROW_COUNTS: [usize; 12] = [0, 1, 2, 3, 7, 8, 9, 15, 16, 17, 31, 40];
 
@@ -221,77 +218,353 @@ pub fn lay_out_argument(shown: &[Element], layout: Layout, rng: &mut Rng) -> Arg
 
 // Arguments.
 
-/// An index that fits 32 bits: about the ends of the row, or an extreme.
-fn random_index(length: usize, rng: &mut Rng) -> i64 {
-    let length = length as i64;
-    match rng.below(8) {
-        0 => rng.pick(&[0, -2147483648, 2147483647]),
-        1 => rng.pick(&[-length - 1, -length, length, length + 1]),
-        _ => rng.between(-length - 1, length + 1),
-    }
-}
+/// The ends of 32 signed bits from both sides, the ends of 64, and numbers that are 0 or 1 modulo 2
+/// to the 32.
+pub const FAR: [i64; 11] = [
+    2147483647,
+    -2147483647,
+    2147483648,
+    -2147483648,
+    2147483649,
+    -2147483649,
+    4294967296,
+    4294967297,
+    -4294967297,
+    i64::MAX,
+    i64::MIN,
+];
 
-fn random_indexes(rows: &[Row], null_eighths: usize, rng: &mut Rng) -> Vec<Element> {
-    let mut index = |row: &Row| {
-        let length = row.as_ref().map_or(2, Vec::len);
-        (!rng.chance(null_eighths, 8)).then(|| random_index(length, rng))
-    };
-    rows.iter().map(&mut index).collect()
-}
-
-/// The argument columns, as shown values, that an operation takes beside these rows.
-pub fn random_arguments(entry: Entry, rows: &[Row], rng: &mut Rng) -> Vec<Vec<Element>> {
-    let null_eighths = rng.pick(&[0, 1, 4]);
-    match entry {
-        Entry::Element => vec![random_indexes(rows, null_eighths, rng)],
-        _ => Vec::new(),
-    }
-}
-
-/// Gives one row an argument that is refused where its list is valid; false where the operation
-/// refuses no row.
-pub fn refuse_row(input: &mut Input, row: usize, rng: &mut Rng) -> bool {
-    match input.entry {
-        Entry::Element => {
-            let indexes = &mut input.arguments[0];
-            indexes.values[row] = rng.pick(&BEYOND_32_BITS);
-            if !indexes.bits.is_empty() {
-                indexes.bits[row / 8] |= 1 << (row % 8);
-            }
-            true
+/// The boundary numbers of an argument beside this row.
+pub fn boundaries(role: Role, row: &[Element]) -> Vec<i64> {
+    let length = row.len() as i64;
+    let mut numbers = match role {
+        Role::Index | Role::From | Role::To => (-length - 2..=length + 2).chain(FAR).collect(),
+        Role::Stride => {
+            let mut strides = vec![0, 1, -1, 2, -2, 3, -3, length, -length];
+            strides.extend(FAR);
+            strides
         }
-        _ => false,
+        Role::Count => {
+            let mut counts = vec![i64::MIN, -2147483649, -1, 0, 1, 2147483646];
+            counts.extend([2147483647, 2147483648, 4294967296, i64::MAX]);
+            counts.extend(length - 1..=length + 2);
+            counts
+        }
+        Role::Fill | Role::Old | Role::New => {
+            let mut values = vec![0, 7, i64::MIN, i64::MAX];
+            values.extend(row.iter().flatten());
+            values
+        }
+        Role::Limit => vec![i64::MIN, -1, 0, 1, 2, 3, length, 2147483648, 4294967296, i64::MAX],
+        Role::Times => {
+            let mut times = vec![i64::MIN, -1, 0, 1, 2, 3, 1073741823, 1073741824];
+            times.extend([2147483647, 2147483648, 4294967297, i64::MAX]);
+            times
+        }
+    };
+    numbers.sort();
+    numbers.dedup();
+    numbers
+}
+
+/// A number for an argument beside this row: one of its boundaries, or near the row's length.
+fn random_argument(role: Role, row: &[Element], rng: &mut Rng) -> i64 {
+    let length = row.len() as i64;
+    if rng.chance(1, 4) {
+        return rng.pick(&boundaries(role, row));
+    }
+    match role {
+        Role::Index | Role::From | Role::To => rng.between(-length - 1, length + 2),
+        Role::Stride => rng.between(-length - 1, length + 1),
+        Role::Count => rng.between((length - 2).max(0), length + 3),
+        Role::Fill | Role::New => random_value(rng),
+        Role::Old => match rng.below(length as usize + 1) {
+            0 => random_value(rng),
+            place => row[place - 1].unwrap_or(0),
+        },
+        Role::Limit => rng.between(-1, length + 1),
+        Role::Times => rng.between(-1, 3),
     }
 }
 
-/// The columns of a call that show these rows and arguments.
-pub fn input_of(
-    entry: Entry,
-    rows: &[Row],
-    arguments: &[Vec<Element>],
-    layout: Layout,
+/// A value for each argument column beside one row of the first list.
+fn random_arguments(
+    operation: Operation,
+    row: &Row,
+    null_eighths: usize,
     rng: &mut Rng,
-) -> Input {
-    Input {
-        entry,
-        lists: vec![lay_out(rows, layout, rng)],
-        arguments: arguments.iter().map(|shown| lay_out_argument(shown, layout, rng)).collect(),
+) -> Vec<Element> {
+    let row = row.as_deref().unwrap_or(&[Some(1), None]);
+    let roles = operation.roles().iter();
+    roles.map(|role| or_null(null_eighths, rng, |rng| random_argument(*role, row, rng))).collect()
+}
+
+fn or_null(null_eighths: usize, rng: &mut Rng, value: impl Fn(&mut Rng) -> i64) -> Element {
+    (!rng.chance(null_eighths, 8)).then(|| value(rng))
+}
+
+/// How large the result of a call may still become.
+struct Left {
+    inner_rows: u64,
+    elements: u64,
+}
+
+impl Left {
+    /// Takes a row away, if it is not too large.
+    fn take(&mut self, made: &Made) -> bool {
+        let slots = model::slots_needed(made);
+        let (inner_rows, elements) = match slots[..] {
+            [_, _, elements, _] => (0, elements),
+            [_, _, inner_offsets, _, elements, _] => (inner_offsets - 1, elements),
+            _ => (0, 0),
+        };
+        let fits = inner_rows <= self.inner_rows && elements <= self.elements;
+        if fits {
+            self.inner_rows -= inner_rows;
+            self.elements -= elements;
+        }
+        fits
     }
 }
 
-/// Random columns for an operation, in a random layout.
-pub fn random_input(entry: Entry, shape: RowShape, rng: &mut Rng) -> Input {
-    let rows = random_rows(shape, rng);
-    let arguments = random_arguments(entry, &rows, rng);
-    let layout = random_layout(rng);
-    let mut input = input_of(entry, &rows, &arguments, layout, rng);
-    if shape.count > 0 && rng.chance(1, 8) {
-        refuse_row(&mut input, rng.below(shape.count), rng);
+/// Arguments beside one row that the operation does not refuse and whose result is not too large;
+/// nulls where a few draws do not give them.
+fn accepted_arguments(
+    operation: Operation,
+    rows: &[&Row],
+    null_eighths: usize,
+    left: &mut Left,
+    rng: &mut Rng,
+) -> Vec<Element> {
+    for _ in 0..20 {
+        let arguments = random_arguments(operation, rows[0], null_eighths, rng);
+        let made = model::make_row(operation, rows, &arguments);
+        if made.is_ok_and(|made| left.take(&made)) {
+            return arguments;
+        }
     }
-    input
+    vec![None; operation.roles().len()]
+}
+
+/// Argument columns for these lists, none of them refused; now and then one limit for all rows.
+pub fn accepted_columns(
+    operation: Operation,
+    lists: &[Vec<Row>],
+    rng: &mut Rng,
+) -> Vec<Vec<Element>> {
+    let roles = operation.roles();
+    let null_eighths = rng.pick(&[0, 0, 1, 4]);
+    let mut left = Left { inner_rows: MOST_INNER_ROWS as u64, elements: MOST_VALUES as u64 };
+    let mut columns = vec![Vec::new(); roles.len()];
+    for row in 0..lists[0].len() {
+        let rows: Vec<&Row> = lists.iter().map(|list| &list[row]).collect();
+        let arguments = accepted_arguments(operation, &rows, null_eighths, &mut left, rng);
+        for (column, argument) in columns.iter_mut().zip(arguments) {
+            column.push(argument);
+        }
+    }
+    if roles.last() == Some(&Role::Limit) && rng.chance(1, 4) {
+        let limit = or_null(null_eighths, rng, |rng| random_argument(Role::Limit, &[], rng));
+        columns[roles.len() - 1] = vec![limit];
+    }
+    columns
+}
+
+/// Whether some arguments beside this row are refused.
+fn can_refuse(operation: Operation, row: &Row) -> bool {
+    match operation {
+        Operation::Union => false,
+        Operation::Slice | Operation::SliceWithoutStride => {
+            row.as_ref().is_some_and(|row| !row.is_empty())
+        }
+        Operation::ListRepeat => true,
+        _ => row.is_some(),
+    }
+}
+
+/// Gives one row arguments that the operation refuses with this number; false where it cannot.
+pub fn refuse_row(
+    operation: Operation,
+    shown: &mut Shown,
+    row: usize,
+    number: u32,
+    rng: &mut Rng,
+) -> bool {
+    let rows: Vec<&Row> = shown.lists.iter().map(|list| &list[row]).collect();
+    if !operation.refusals().contains(&number) || !can_refuse(operation, rows[0]) {
+        return false;
+    }
+    for _ in 0..2000 {
+        let arguments = random_arguments(operation, rows[0], 0, rng);
+        if model::make_row(operation, &rows, &arguments) == Err(number) {
+            for (column, argument) in shown.arguments.iter_mut().zip(arguments) {
+                column[row] = argument;
+            }
+            return true;
+        }
+    }
+    false
+}
+
+// Calls.
+
+/// A second list beside the first: rows of their own, the same elements in another order, some of
+/// them more than once, or a part of them.
+fn random_right(left: &[Row], shape: RowShape, rng: &mut Rng) -> Vec<Row> {
+    let own = random_rows(shape, rng);
+    let beside = |(left, own): (&Row, Row)| {
+        let (Some(left), Some(own)) = (left, &own) else {
+            return own;
+        };
+        let mut row = left.clone();
+        match rng.below(5) {
+            0 => return Some(own.clone()),
+            1 => row.extend(own.iter().take(2)),
+            2 => row.truncate(rng.below(left.len() + 1)),
+            3 => row.extend_from_within(..left.len().min(2)),
+            _ => (),
+        }
+        shuffle(&mut row, rng);
+        Some(row)
+    };
+    left.iter().zip(own).map(beside).collect()
+}
+
+pub fn shuffle<T>(items: &mut [T], rng: &mut Rng) {
+    for last in (1..items.len()).rev() {
+        items.swap(last, rng.below(last + 1));
+    }
+}
+
+/// Lists of this shape, as many as the entry takes.
+pub fn random_lists(entry: Entry, shape: RowShape, rng: &mut Rng) -> Vec<Vec<Row>> {
+    // With a row of the right list up to two longer than that of the left, both and their union
+    // still fit.
+    let parts = 2 * entry.lists() - 1;
+    let shape = RowShape { most_values: shape.most_values / parts, ..shape };
+    let left = random_rows(shape, rng);
+    let mut lists = vec![left];
+    if entry.lists() == 2 {
+        lists.push(random_right(&lists[0], shape, rng));
+    }
+    lists
+}
+
+/// Other lists and arguments beside these rows of one list, refused or not.
+pub fn random_beside(entry: Entry, place: usize, rows: &[Row], rng: &mut Rng) -> Shown {
+    let shape = RowShape { count: rows.len(), longest: 3, ..small_shape(rng) };
+    let mut lists = vec![rows.to_vec()];
+    if entry.lists() == 2 {
+        lists.insert(1 - place, random_right(rows, shape, rng));
+    }
+    let operation = entry.known_operation();
+    let mut shown = Shown { arguments: accepted_columns(operation, &lists, rng), lists };
+    if rng.chance(1, 2) {
+        for (role, column) in operation.roles().iter().zip(&mut shown.arguments) {
+            for (row, argument) in rows.iter().zip(column) {
+                let row = row.as_deref().unwrap_or(&[]);
+                *argument = or_null(1, rng, |rng| random_argument(*role, row, rng));
+            }
+        }
+    }
+    shown
+}
+
+/// Rows and arguments of this shape; no row is refused.
+pub fn random_shown(entry: Entry, shape: RowShape, rng: &mut Rng) -> Shown {
+    let lists = random_lists(entry, shape, rng);
+    let operation = entry.known_operation();
+    Shown { arguments: accepted_columns(operation, &lists, rng), lists }
+}
+
+/// The same, and now and then one row is refused.
+pub fn random_shown_or_refused(entry: Entry, shape: RowShape, rng: &mut Rng) -> Shown {
+    let mut shown = random_shown(entry, shape, rng);
+    let operation = entry.known_operation();
+    if shape.count > 0 && !operation.refusals().is_empty() && rng.chance(1, 8) {
+        let (row, number) = (rng.below(shape.count), rng.pick(operation.refusals()));
+        refuse_row(operation, &mut shown, row, number, rng);
+    }
+    shown
+}
+
+/// An argument column that the operation does not take: any content, any bitmap.
+fn untaken_column(rows: usize, rng: &mut Rng) -> ArgumentColumn {
+    let length = rng.pick(&[0, 0, rows, rows, rows + 1, 3, 40]).min(crate::entry::MOST_ROWS);
+    let bits = rng.pick(&[0, 1, bitmap_bytes(length), 7]);
+    ArgumentColumn {
+        values: (0..length).map(|_| random_value(rng)).collect(),
+        bits: rng.bytes(bits),
+    }
+}
+
+/// The columns of a call that show these rows and arguments; the layouts are used in turn.
+pub fn input_of(entry: Entry, shown: &Shown, layouts: &[Layout], rng: &mut Rng) -> Input {
+    let mut turns = layouts.iter().copied().cycle();
+    let mut next = || turns.next().expect("at least one layout");
+    let lists = shown.lists.iter().map(|rows| lay_out(rows, next(), rng)).collect();
+    let taken = shown.arguments.iter();
+    let mut arguments: Vec<ArgumentColumn> =
+        taken.map(|values| lay_out_argument(values, next(), rng)).collect();
+    while arguments.len() < entry.arguments() {
+        arguments.push(untaken_column(shown.lists[0].len(), rng));
+    }
+    Input { entry, lists, arguments }
+}
+
+/// A layout for each column.
+pub fn random_layouts(entry: Entry, rng: &mut Rng) -> Vec<Layout> {
+    (0..entry.lists() + entry.arguments()).map(|_| random_layout(rng)).collect()
+}
+
+/// Random columns for an operation, in random layouts.
+pub fn random_input(entry: Entry, shape: RowShape, rng: &mut Rng) -> Input {
+    let shown = random_shown_or_refused(entry, shape, rng);
+    let layouts = random_layouts(entry, rng);
+    input_of(entry, &shown, &layouts, rng)
 }
 
 // Damage.
+
+/// A column of a call, by its place among the lists or among the argument columns.
+#[derive(Clone, Copy, PartialEq, Debug)]
+pub enum Column {
+    List(usize),
+    Argument(usize),
+}
+
+impl Column {
+    pub fn name(self, entry: Entry) -> &'static str {
+        match self {
+            Column::List(0) => "list",
+            Column::List(_) => "right list",
+            Column::Argument(at) => entry.roles()[at].name(),
+        }
+    }
+
+    /// The columns that the operation takes.
+    fn all(entry: Entry) -> Vec<Column> {
+        let lists = (0..entry.lists()).map(Column::List);
+        lists.chain((0..entry.roles().len()).map(Column::Argument)).collect()
+    }
+}
+
+impl Role {
+    pub fn name(self) -> &'static str {
+        match self {
+            Role::Index => "index",
+            Role::From => "from",
+            Role::To => "to",
+            Role::Stride => "stride",
+            Role::Count => "count",
+            Role::Fill => "fill",
+            Role::Old => "old",
+            Role::New => "new",
+            Role::Limit => "limit",
+            Role::Times => "times",
+        }
+    }
+}
 
 #[derive(Clone, Copy, PartialEq, Debug)]
 pub enum Damage {
@@ -307,6 +580,9 @@ pub enum Damage {
     ElementBitsShort,
     ElementBitsForShownOnly,
     ElementBitsEmpty,
+    OneRowFewer,
+    OneRowMore,
+    NoRows,
     ArgumentBitsShort,
     ArgumentBitsEmpty,
     ArgumentOneFewer,
@@ -314,104 +590,105 @@ pub enum Damage {
     ArgumentEmpty,
 }
 
-impl Damage {
-    pub const OF_LISTS: [Damage; 12] = [
-        Damage::NoOffsets,
-        Damage::NegativeFirst,
-        Damage::FallingAtFirst,
-        Damage::FallingInside,
-        Damage::FallingAtLast,
-        Damage::LastBeyondByOne,
-        Damage::LastFarBeyond,
-        Damage::RowBitsShort,
-        Damage::RowBitsEmpty,
-        Damage::ElementBitsShort,
-        Damage::ElementBitsForShownOnly,
-        Damage::ElementBitsEmpty,
-    ];
-    pub const OF_ARGUMENTS: [Damage; 5] = [
-        Damage::ArgumentBitsShort,
-        Damage::ArgumentBitsEmpty,
-        Damage::ArgumentOneFewer,
-        Damage::ArgumentOneMore,
-        Damage::ArgumentEmpty,
-    ];
+/// Each damage with its name and the refusal that it alone brings; an emptied bitmap brings none.
+const DAMAGES: [(Damage, &str, Option<u32>); 20] = [
+    (Damage::NoOffsets, "no offsets", Some(1)),
+    (Damage::NegativeFirst, "first offset negative", Some(1)),
+    (Damage::FallingAtFirst, "offsets falling at the first row", Some(1)),
+    (Damage::FallingInside, "offsets falling inside", Some(1)),
+    (Damage::FallingAtLast, "offsets falling at the last row", Some(1)),
+    (Damage::LastBeyondByOne, "last offset one beyond the values", Some(1)),
+    (Damage::LastFarBeyond, "last offset far beyond the values", Some(1)),
+    (Damage::RowBitsShort, "row bitmap one byte short", Some(2)),
+    (Damage::RowBitsEmpty, "row bitmap emptied", None),
+    (Damage::ElementBitsShort, "element bitmap one byte short", Some(2)),
+    (Damage::ElementBitsForShownOnly, "element bitmap for shown values only", Some(2)),
+    (Damage::ElementBitsEmpty, "element bitmap emptied", None),
+    (Damage::OneRowFewer, "one row fewer", Some(3)),
+    (Damage::OneRowMore, "one row more", Some(3)),
+    (Damage::NoRows, "no rows", Some(3)),
+    (Damage::ArgumentBitsShort, "bitmap one byte short", Some(2)),
+    (Damage::ArgumentBitsEmpty, "bitmap emptied", None),
+    (Damage::ArgumentOneFewer, "one value fewer", Some(3)),
+    (Damage::ArgumentOneMore, "one value more", Some(3)),
+    (Damage::ArgumentEmpty, "no values", Some(3)),
+];
 
-    pub fn of(entry: Entry) -> Vec<Damage> {
-        let mut kinds = Damage::OF_LISTS.to_vec();
-        if entry.inputs().len() > 4 * entry.lists() {
-            kinds.extend(Damage::OF_ARGUMENTS);
-        }
-        kinds
+/// A damage and the column that it is done to.
+#[derive(Clone, Copy, PartialEq, Debug)]
+pub struct Harm {
+    pub column: Column,
+    pub damage: Damage,
+}
+
+impl Harm {
+    /// Every damage that can be done to a call of this entry.
+    pub fn of(entry: Entry) -> Vec<Harm> {
+        let columns = Column::all(entry).into_iter();
+        let harms = columns.flat_map(|column| {
+            DAMAGES.into_iter().map(move |(damage, _, _)| Harm { column, damage })
+        });
+        harms.filter(|harm| harm.suits()).collect()
     }
 
-    pub fn name(self) -> &'static str {
-        match self {
-            Damage::NoOffsets => "no offsets",
-            Damage::NegativeFirst => "first offset negative",
-            Damage::FallingAtFirst => "offsets falling at the first row",
-            Damage::FallingInside => "offsets falling inside",
-            Damage::FallingAtLast => "offsets falling at the last row",
-            Damage::LastBeyondByOne => "last offset one beyond the values",
-            Damage::LastFarBeyond => "last offset far beyond the values",
-            Damage::RowBitsShort => "row bitmap one byte short",
-            Damage::RowBitsEmpty => "row bitmap emptied",
-            Damage::ElementBitsShort => "element bitmap one byte short",
-            Damage::ElementBitsForShownOnly => "element bitmap for shown values only",
-            Damage::ElementBitsEmpty => "element bitmap emptied",
-            Damage::ArgumentBitsShort => "argument bitmap one byte short",
-            Damage::ArgumentBitsEmpty => "argument bitmap emptied",
-            Damage::ArgumentOneFewer => "one argument fewer than rows",
-            Damage::ArgumentOneMore => "one argument more than rows",
-            Damage::ArgumentEmpty => "no arguments",
+    /// Rows are counted by the first list, so that another has too many or too few.
+    fn suits(self) -> bool {
+        use Damage::*;
+        let of_argument = matches!(
+            self.damage,
+            ArgumentBitsShort
+                | ArgumentBitsEmpty
+                | ArgumentOneFewer
+                | ArgumentOneMore
+                | ArgumentEmpty
+        );
+        match self.column {
+            Column::List(0) => !of_argument && self.refusal() != Some(3),
+            Column::List(_) => !of_argument,
+            Column::Argument(_) => of_argument,
         }
     }
 
-    /// The refusal that this damage alone brings; an emptied bitmap brings none.
+    fn line(self) -> (Damage, &'static str, Option<u32>) {
+        let line = DAMAGES.into_iter().find(|(damage, _, _)| *damage == self.damage);
+        line.expect("every damage has a line")
+    }
+
+    pub fn name(self, entry: Entry) -> String {
+        format!("{}: {}", self.column.name(entry), self.line().1)
+    }
+
     pub fn refusal(self) -> Option<u32> {
-        match self {
-            Damage::NoOffsets
-            | Damage::NegativeFirst
-            | Damage::FallingAtFirst
-            | Damage::FallingInside
-            | Damage::FallingAtLast
-            | Damage::LastBeyondByOne
-            | Damage::LastFarBeyond => Some(1),
-            Damage::RowBitsShort
-            | Damage::ElementBitsShort
-            | Damage::ElementBitsForShownOnly
-            | Damage::ArgumentBitsShort => Some(2),
-            Damage::ArgumentOneFewer | Damage::ArgumentOneMore | Damage::ArgumentEmpty => Some(3),
-            Damage::RowBitsEmpty | Damage::ElementBitsEmpty | Damage::ArgumentBitsEmpty => None,
-        }
+        self.line().2
     }
 
-    /// A bitmap of one byte cannot be a byte short: without it, all is valid.
+    /// A bitmap of one byte cannot be a byte short, for without it all is valid; and another damage
+    /// may have left too few rows.
     pub fn is_possible(self, input: &Input) -> bool {
-        let all_long = input.arguments.iter().all(|argument| argument.values.len() > 8);
-        self != Damage::ArgumentBitsShort || all_long
-    }
-
-    /// Damages columns that `damageable_input` made.
-    pub fn apply(self, input: &mut Input, rng: &mut Rng) {
-        match self {
-            Damage::ArgumentBitsShort
-            | Damage::ArgumentBitsEmpty
-            | Damage::ArgumentOneFewer
-            | Damage::ArgumentOneMore
-            | Damage::ArgumentEmpty => {
-                let column = rng.below(input.arguments.len());
-                self.apply_to_argument(&mut input.arguments[column], rng);
+        match self.column {
+            Column::List(at) => {
+                let rows = input.lists[at].offsets.len().max(1) - 1;
+                rows > 8 || matches!(self.damage, Damage::NoOffsets | Damage::NegativeFirst)
             }
-            _ => {
-                let column = rng.below(input.lists.len());
-                self.apply_to_list(&mut input.lists[column], rng);
+            Column::Argument(at) => {
+                self.damage != Damage::ArgumentBitsShort || input.arguments[at].values.len() > 8
             }
         }
     }
 
+    /// Damages columns that `damageable_shown` and `damageable_layout` made.
+    pub fn apply(self, input: &mut Input, rng: &mut Rng) {
+        match self.column {
+            Column::List(at) => self.damage.apply_to_list(&mut input.lists[at], rng),
+            Column::Argument(at) => self.damage.apply_to_argument(&mut input.arguments[at], rng),
+        }
+    }
+}
+
+impl Damage {
     fn apply_to_list(self, list: &mut ListColumn, rng: &mut Rng) {
         let rows = list.offsets.len() - 1;
+        let last = list.offsets[rows];
         match self {
             Damage::NoOffsets => list.offsets.clear(),
             Damage::NegativeFirst => list.offsets[0] = rng.pick(&[-1, -2, i32::MIN]),
@@ -427,9 +704,15 @@ impl Damage {
             Damage::RowBitsEmpty => list.rows.clear(),
             Damage::ElementBitsShort => list.elements.truncate(bitmap_bytes(list.values.len()) - 1),
             Damage::ElementBitsForShownOnly => {
-                list.elements.truncate(bitmap_bytes(list.offsets[rows] as usize));
+                list.elements.truncate(bitmap_bytes(last as usize));
             }
             Damage::ElementBitsEmpty => list.elements.clear(),
+            Damage::OneRowFewer => list.offsets.truncate(rows),
+            Damage::OneRowMore => {
+                list.offsets.push(last);
+                list.rows.push(0xff);
+            }
+            Damage::NoRows => list.offsets.truncate(1),
             _ => unreachable!("damage of an argument column"),
         }
     }
@@ -456,28 +739,35 @@ fn fall_at(list: &mut ListColumn, place: usize) {
     list.offsets[place] = list.offsets[place - 1] - 1;
 }
 
-/// Well-formed columns that every damage can be done to: more than eight rows, values before the
-/// first offset, more than eight values behind the last, and bitmaps of just enough bytes.
-pub fn damageable_input(entry: Entry, rng: &mut Rng) -> Input {
+/// Rows and arguments that every damage can be done to: more than eight rows, of which the first
+/// is valid and not empty.
+pub fn damageable_shown(entry: Entry, rng: &mut Rng) -> Shown {
     let shape = RowShape {
         count: rng.pick(&[9, 10, 16, 17, 33]),
         longest: 3,
-        most_values: 200,
+        most_values: 400,
         null_rows: rng.pick(&[0, 1, 4]),
         null_elements: rng.pick(&[0, 1, 4]),
     };
-    let mut rows = random_rows(shape, rng);
-    rows[0] = Some(vec![Some(1), None, Some(3)]);
-    let arguments = random_arguments(entry, &rows, rng);
-    let layout = Layout {
+    let mut lists = random_lists(entry, shape, rng);
+    for list in &mut lists {
+        list[0] = Some(vec![Some(1), None, Some(3)]);
+    }
+    let operation = entry.known_operation();
+    Shown { arguments: accepted_columns(operation, &lists, rng), lists }
+}
+
+/// A layout that every damage can be done to: values before the first offset, more than eight
+/// values behind the last, and bitmaps of just enough bytes.
+pub fn damageable_layout(rng: &mut Rng) -> Layout {
+    Layout {
         lead: 1 + rng.below(9),
         behind: 9 + rng.below(9),
         under_null_rows: rng.below(3),
         numbers_under_nulls: true,
         spare_bits: rng.chance(1, 2),
         ..Layout::default()
-    };
-    input_of(entry, &rows, &arguments, layout, rng)
+    }
 }
 
 // Outputs.
@@ -494,19 +784,32 @@ pub enum Room {
     Any,
 }
 
+/// The longest bitmap that is lent for a result: enough for the most values, and some more.
+const MOST_BITMAP_BYTES: usize = 4096;
+
+/// Slots for a result that no slice has room for: few, or all that the entry takes.
+fn too_few(most: usize, rng: &mut Rng) -> usize {
+    if rng.chance(1, 32) {
+        most
+    } else {
+        rng.below(9)
+    }
+}
+
 /// The slots that the result takes in each output; where the columns are refused, slots that
 /// would be enough for a copy.
 pub fn needed_slots(input: &Input) -> Vec<usize> {
     let made = match input.entry.operation() {
-        Some(operation) => model::rows_made(operation, &input.lists, &input.arguments),
+        Some(operation) => model::rows_made(operation, &input.lists, input.taken()),
         None => Err(0),
     };
     if let Ok(made) = made {
-        return model::result_form(&made).slices.iter().map(|slice| slice.len()).collect();
+        return model::slots_needed(&made).iter().map(|slots| *slots as usize).collect();
     }
     let list = &input.lists[0];
-    let rows = list.offsets.len().max(1) - 1;
-    input.entry.written_slots(&[rows as u64, list.values.len() as u64])
+    let rows = list.offsets.len().max(1) as u64 - 1;
+    let counts = [rows, list.values.len() as u64, 0, 0, rows, 0];
+    input.entry.written_slots(&counts[..input.entry.outputs().len()])
 }
 
 fn room_for(needed: usize, slice: usize, room: Room, rng: &mut Rng) -> usize {
@@ -523,14 +826,19 @@ fn room_for(needed: usize, slice: usize, room: Room, rng: &mut Rng) -> usize {
     }
 }
 
-/// The call on these columns, with outputs of the given room that hold random bytes.
+/// The call on these columns, with outputs of the given room that hold random bytes; no output is
+/// larger than the entry takes.
 pub fn lend(input: &Input, room: Room, rng: &mut Rng) -> Case {
     let needed = needed_slots(input);
     let mut outputs = Vec::new();
     for (slice, kind) in input.entry.outputs().iter().enumerate() {
-        let slots = room_for(needed[slice], slice, room, rng);
-        let most = kind.most.unwrap_or(usize::MAX).max(needed[slice]);
-        outputs.push(rng.bytes(slots.min(most) * kind.width));
+        let most = kind.most.unwrap_or(MOST_BITMAP_BYTES);
+        let slots = if needed[slice] > most {
+            too_few(most, rng)
+        } else {
+            room_for(needed[slice], slice, room, rng).min(most)
+        };
+        outputs.push(rng.bytes(slots * kind.width));
     }
     let more_counts = rng.pick(&[0, 0, 1, 8, 9]);
     let counts = rng.bytes(input.entry.count_bytes() + more_counts);

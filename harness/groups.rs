@@ -1,51 +1,101 @@
 //! The named groups of checks. A group gets a generator of its own, so that it can be run alone
 //! from the seed.
 
-use crate::compare::Checker;
-use crate::coverage::ORDERS;
-use crate::entry::{Case, Entry, Input, SliceKind, MOST_ROWS, MOST_VALUES};
+use crate::compare::{Checker, Observed};
+use crate::entry::{Case, Content, Entry, Input, SliceKind, MOST_ROWS, MOST_VALUES};
+use crate::exhaustive::{every_argument, every_limit_length, every_sum};
 use crate::exhaustive::{short_columns, short_offsets};
 use crate::generate::*;
-use crate::model::{is_valid, Row};
+use crate::model::{Operation, Role, Row, Shown};
 use crate::rng::Rng;
 use crate::worked;
 
+type Applies = fn(Entry) -> bool;
+type Run = fn(&mut Checker, Entry, &mut Rng, u64);
+
 pub struct Group {
     pub name: String,
-    entry: Entry,
-    run: fn(&mut Checker, Entry, &mut Rng, u64),
+    pub entry: Entry,
+    run: Run,
     /// Its part of the random calls, in shares.
     shares: u64,
 }
 
-/// The groups that each operation has.
-const FOR_EACH: [(&str, fn(&mut Checker, Entry, &mut Rng, u64), u64); 9] = [
-    ("short columns, exhaustive", short_columns, 0),
-    ("short offsets, exhaustive", short_offsets, 0),
-    ("random columns", random_columns, 6),
-    ("layouts of the same rows", same_rows, 6),
-    ("damaged columns", damaged_columns, 4),
-    ("order of refusals", order_of_refusals, 4),
-    ("output lengths", output_lengths, 4),
-    ("answers of the entry", entry_answers, 1),
-    ("random bytes", random_bytes, 5),
+/// The groups that each operation has, if it is one for which they are meant; those that take long
+/// come last.
+const FOR_EACH: [(&str, Applies, Run, u64); 13] = [
+    ("random columns", always, random_columns, 6),
+    ("layouts of the same rows", always, same_rows, 6),
+    ("damaged columns", always, damaged_columns, 4),
+    ("order of refusals", always, order_of_refusals, 4),
+    ("first bad row", has_row_refusals, first_bad_row, 2),
+    ("output lengths", always, output_lengths, 4),
+    ("answers of the entry", always, entry_answers, 1),
+    ("random bytes", always, random_bytes, 5),
+    ("boundary arguments, exhaustive", has_others, every_argument, 0),
+    ("sums, exhaustive", has_sums, every_sum, 0),
+    ("limit columns, exhaustive", has_limit, every_limit_length, 0),
+    ("short columns, exhaustive", always, short_columns, 0),
+    ("short offsets, exhaustive", always, short_offsets, 0),
 ];
+
+fn always(_entry: Entry) -> bool {
+    true
+}
+
+fn has_others(entry: Entry) -> bool {
+    entry.lists() + entry.roles().len() > 1
+}
+
+fn has_sums(entry: Entry) -> bool {
+    entry.roles().iter().any(|role| matches!(role, Role::Count | Role::Times))
+}
+
+fn has_limit(entry: Entry) -> bool {
+    entry.roles().contains(&Role::Limit)
+}
+
+/// Refusals that one row gives, whatever the others hold.
+fn has_row_refusals(entry: Entry) -> bool {
+    refusals(entry).contains(&4)
+}
+
+fn refusals(entry: Entry) -> &'static [u32] {
+    entry.operation().map_or(&[], Operation::refusals)
+}
 
 pub fn all() -> Vec<Group> {
     let mut groups = Vec::new();
-    for entry in Entry::ALL {
-        for (name, run, shares) in FOR_EACH {
-            groups.push(Group { name: format!("{}: {name}", entry.name()), entry, run, shares });
+    for entry in Entry::all() {
+        for (name, applies, run, shares) in FOR_EACH {
+            if applies(entry) {
+                let name = format!("{}: {name}", entry.name());
+                groups.push(Group { name, entry, run, shares });
+            }
         }
     }
-    let unknown = "list entry: unknown operations".to_string();
-    groups.push(Group { name: unknown, entry: Entry::List(4), run: unknown_operations, shares: 1 });
-    let worked = "worked cases".to_string();
-    groups.push(Group { name: worked, entry: Entry::List(0), run: worked::cases, shares: 0 });
+    for (name, entry) in CODED {
+        let (name, run) = (format!("{name}: unknown operations"), unknown_operations as Run);
+        groups.push(Group { name, entry, run, shares: 1 });
+    }
+    let (name, entry) = ("worked cases".to_string(), Entry::List(0));
+    groups.push(Group { name, entry, run: worked::cases, shares: 0 });
     groups
 }
 
+/// The entries that take a code, each with one of its operations.
+const CODED: [(&str, Entry); 3] = [
+    ("list entry", Entry::List(0)),
+    ("lists entry", Entry::Lists(9)),
+    ("list with entry", Entry::ListWith(7)),
+];
+
 impl Group {
+    /// Whether the group is one of those that this operation has.
+    pub fn is_of(&self, operation: &str) -> bool {
+        self.name.strip_prefix(operation).is_some_and(|rest| rest.starts_with(": "))
+    }
+
     /// Runs the group with its part of the random calls; the checker then holds its record.
     pub fn run(&self, checker: &mut Checker, seed: u64, random_calls: u64) {
         let shares: u64 = all().iter().map(|group| group.shares).sum();
@@ -60,11 +110,10 @@ impl Group {
 fn random_columns(checker: &mut Checker, entry: Entry, rng: &mut Rng, calls: u64) {
     for rows in [0, 1, 7, 8, 9, 15, 16, 17, 4095, 4096] {
         let shape = RowShape { count: rows, most_values: MOST_VALUES, ..small_shape(rng) };
-        let rows = random_rows(RowShape { null_rows: 1, longest: 3, ..shape }, rng);
-        let arguments = random_arguments(entry, &rows, rng);
-        let layout = random_layout(rng);
-        let input = input_of(entry, &rows, &arguments, layout, rng);
-        checker.check(&lend(&input, Room::Exact, rng));
+        let shape = RowShape { null_rows: 1, longest: 3, ..shape };
+        let shown = random_shown(entry, shape, rng);
+        let layouts = random_layouts(entry, rng);
+        checker.check(&lend(&input_of(entry, &shown, &layouts, rng), Room::Exact, rng));
     }
     while checker.calls < calls {
         let shape = match rng.below(100) {
@@ -80,24 +129,18 @@ fn random_columns(checker: &mut Checker, entry: Entry, rng: &mut Rng, calls: u64
 // Layouts that show the same rows.
 
 fn same_rows(checker: &mut Checker, entry: Entry, rng: &mut Rng, calls: u64) {
-    let layouts = layouts();
-    while checker.calls < calls.max(layouts.len() as u64 * 20) {
+    let fixed: Vec<Vec<Layout>> = layouts().into_iter().map(|layout| vec![layout]).collect();
+    while checker.calls < calls.max(fixed.len() as u64 * 20) {
         let shape = match rng.below(200) {
             0 => large_shape(rng),
             _ => small_shape(rng),
         };
-        let rows = random_rows(shape, rng);
-        let arguments = random_arguments(entry, &rows, rng);
-        let refused = (shape.count > 0 && rng.chance(1, 8)).then(|| rng.below(shape.count));
-        let refused_with = rng.next();
+        let shown = random_shown_or_refused(entry, shape, rng);
         let room = rng.pick(&[Room::Exact, Room::Longer(3), Room::Any]);
-        let mut first: Option<(Case, crate::compare::Observed)> = None;
-        for layout in layouts.iter().copied().chain([random_layout(rng), random_layout(rng)]) {
-            let mut input = input_of(entry, &rows, &arguments, layout, rng);
-            if let Some(row) = refused {
-                refuse_row(&mut input, row, &mut Rng::new(refused_with, ""));
-            }
-            let mut case = lend(&input, room, rng);
+        let mut first: Option<(Case, Observed)> = None;
+        let random: Vec<Vec<Layout>> = (0..4).map(|_| random_layouts(entry, rng)).collect();
+        for layouts in fixed.iter().chain(&random) {
+            let mut case = lend(&input_of(entry, &shown, layouts, rng), room, rng);
             if let Some((first, _)) = &first {
                 lend_as_before(&mut case, first, rng);
             }
@@ -120,91 +163,168 @@ fn lend_as_before(case: &mut Case, first: &Case, rng: &mut Rng) {
 
 // Damage.
 
+fn damageable_input(entry: Entry, rng: &mut Rng) -> Input {
+    let shown = damageable_shown(entry, rng);
+    let layout = damageable_layout(rng);
+    input_of(entry, &shown, &[layout], rng)
+}
+
 fn damaged_columns(checker: &mut Checker, entry: Entry, rng: &mut Rng, calls: u64) {
-    let kinds = Damage::of(entry);
-    while checker.calls < calls.max(kinds.len() as u64 * 20) {
-        for damage in &kinds {
+    let harms = Harm::of(entry);
+    while checker.calls < calls.max(harms.len() as u64 * 20) {
+        for harm in &harms {
             let mut input = damageable_input(entry, rng);
-            damage.apply(&mut input, rng);
+            if !harm.is_possible(&input) {
+                continue;
+            }
+            harm.apply(&mut input, rng);
             let case = lend(&input, Room::Longer(2), rng);
             let number = case.expected().number;
-            let as_stated = match damage.refusal() {
+            let as_stated = match harm.refusal() {
                 Some(refusal) => number == refusal,
-                None => number == 0 || number == 4,
+                None => number == 0 || (4..=9).contains(&number),
             };
             checker.check(&case);
             checker.require(as_stated, &case, "the model does not see the damage that was done");
-            checker.covered(&case, "damage", damage.name());
+            checker.covered(&case, "damage", harm.name(entry));
         }
     }
 }
 
 // Order: one condition is added after another, from the last refusal to the first.
 
+/// A call, and the conditions of refusals that were made to hold in it, the last one the first to
+/// be answered; those of 1, 2 and 3 with the column in which they hold.
+struct Refused {
+    shown: Shown,
+    layout: Layout,
+    input: Input,
+    case: Case,
+    holding: Vec<(u32, Option<Column>)>,
+}
+
 fn order_of_refusals(checker: &mut Checker, entry: Entry, rng: &mut Rng, calls: u64) {
-    while checker.calls < calls.max(400) {
-        let mut input = damageable_input(entry, rng);
-        let mut holding: Vec<u32> = Vec::new();
-        let mut case = lend(&input, Room::Exact, rng);
+    while checker.calls < calls.max(1200) {
+        let shown = damageable_shown(entry, rng);
+        let layout = damageable_layout(rng);
+        let input = input_of(entry, &shown, &[layout], rng);
+        let case = lend(&input, Room::Exact, rng);
         checker.check(&case);
-        for number in [9, 4, 3, 2, 1, 101, 100, 102] {
-            if rng.chance(1, 3) || !add_condition(number, &mut input, &mut case, rng) {
-                continue;
+        let mut refused = Refused { shown, layout, input, case, holding: Vec::new() };
+        let of_rows = rng.pick(&[&[0][..], refusals(entry)].concat());
+        for number in [9, of_rows, 3, 2, 1, 101, 100, 102] {
+            if !rng.chance(1, 3) && refused.add(number, rng) {
+                check_first(checker, &refused, number);
             }
-            checker.check(&case);
-            let first = case.expected().number == number;
-            checker.require(first, &case, "the model does not give the refusal that comes first");
-            for (one, other, name) in ORDERS {
-                if one == number && holding.contains(&other) {
-                    checker.coverage.count(entry.name(), "order", name);
-                }
-            }
-            holding.push(number);
         }
     }
 }
 
-/// Makes the condition of a refusal hold; false where the operation does not give it.
-fn add_condition(number: u32, input: &mut Input, case: &mut Case, rng: &mut Rng) -> bool {
-    match number {
-        9 => shorten_an_output(case, rng),
-        4 => {
-            let valid = |row: &usize| is_valid(&input.lists[0].rows, *row);
-            let rows: Vec<usize> = (0..input.lists[0].offsets.len() - 1).filter(valid).collect();
-            if !refuse_row(input, rng.pick(&rows), rng) {
-                return false;
-            }
-        }
-        101 => over_size(case, rng),
-        100 => make_ragged(case, rng),
-        102 => {
-            let Entry::List(_) = case.entry else {
-                return false;
-            };
-            case.entry = Entry::List(rng.pick(&[4, 5, 10, 255, 256, u32::MAX]));
-        }
-        _ => {
-            let mut kinds = Damage::of(input.entry);
-            kinds.retain(|damage| damage.refusal() == Some(number) && damage.is_possible(input));
-            if kinds.is_empty() {
-                return false;
-            }
-            rng.pick(&kinds).apply(input, rng);
+fn check_first(checker: &mut Checker, refused: &Refused, number: u32) {
+    let (case, entry) = (&refused.case, refused.input.entry);
+    checker.check(case);
+    let first = case.expected().number == number;
+    checker.require(first, case, "the model does not give the refusal that comes first");
+    let Some(((_, column), others)) = refused.holding.split_last() else {
+        return;
+    };
+    for (other, other_column) in others {
+        checker.coverage.count(entry.name(), "order", format!("{number} before {other}"));
+        if let (Some(column), Some(other_column)) = (column, other_column) {
+            let (column, other_column) = (column.name(entry), other_column.name(entry));
+            let subject = format!("{number} of {column} before {other} of {other_column}");
+            checker.coverage.count(entry.name(), "order", subject);
         }
     }
-    if number < 9 {
-        case.inputs = input.encode();
+}
+
+impl Refused {
+    /// Makes the condition of a refusal hold; false where the operation does not give it.
+    fn add(&mut self, number: u32, rng: &mut Rng) -> bool {
+        let mut column = None;
+        let possible = match number {
+            1..=3 => {
+                column = self.damage(number, rng);
+                column.is_some()
+            }
+            4..=8 => self.refuse_some_row(number, rng),
+            9 => shorten_an_output(&mut self.case, rng),
+            100 => make_ragged(&mut self.case, rng),
+            101 => over_size(&mut self.case, rng),
+            102 => {
+                let code = unknown_code(self.case.entry, rng);
+                let unknown = self.case.entry.with_code(code);
+                self.case.entry = unknown.unwrap_or(self.case.entry);
+                unknown.is_some()
+            }
+            _ => false,
+        };
+        if possible {
+            self.holding.push((number, column));
+        }
+        possible
     }
-    true
+
+    fn damage(&mut self, number: u32, rng: &mut Rng) -> Option<Column> {
+        let mut harms = Harm::of(self.input.entry);
+        harms.retain(|harm| harm.refusal() == Some(number) && harm.is_possible(&self.input));
+        if harms.is_empty() {
+            return None;
+        }
+        // Columns have equal chances, whatever can be done to them.
+        let mut columns: Vec<Column> = harms.iter().map(|harm| harm.column).collect();
+        columns.dedup();
+        let column = rng.pick(&columns);
+        harms.retain(|harm| harm.column == column);
+        rng.pick(&harms).apply(&mut self.input, rng);
+        self.case.inputs = self.input.encode();
+        Some(column)
+    }
+
+    fn refuse_some_row(&mut self, number: u32, rng: &mut Rng) -> bool {
+        let entry = self.input.entry;
+        let operation = entry.known_operation();
+        let full = |row: &Row| row.as_ref().is_some_and(|row| !row.is_empty());
+        let mut rows: Vec<usize> = (0..self.shown.lists[0].len()).collect();
+        rows.retain(|row| full(&self.shown.lists[0][*row]));
+        let refused = refuse_row(operation, &mut self.shown, rng.pick(&rows), number, rng);
+        self.input = input_of(entry, &self.shown, &[self.layout], rng);
+        self.case.inputs = self.input.encode();
+        refused
+    }
 }
 
 /// Cuts one output, which was lent exactly, by one slot or to nothing.
-fn shorten_an_output(case: &mut Case, rng: &mut Rng) {
+fn shorten_an_output(case: &mut Case, rng: &mut Rng) -> bool {
     let mut slices: Vec<usize> = (0..case.outputs.len()).collect();
     slices.retain(|slice| !case.outputs[*slice].is_empty());
     let slice = rng.pick(&slices);
     let less = case.outputs[slice].len() - case.entry.outputs()[slice].width;
     case.outputs[slice].truncate(rng.pick(&[less, less, 0]));
+    true
+}
+
+/// Two rows are refused, each with a number of its own: the first decides.
+fn first_bad_row(checker: &mut Checker, entry: Entry, rng: &mut Rng, calls: u64) {
+    let operation = entry.known_operation();
+    while checker.calls < calls.max(300) {
+        let shape = RowShape { count: 2 + rng.below(8), longest: 4, ..small_shape(rng) };
+        let mut shown = random_shown(entry, RowShape { null_elements: 1, ..shape }, rng);
+        let mut rows: Vec<usize> = (0..shape.count).collect();
+        shuffle(&mut rows, rng);
+        let mut bad = [rows[0], rows[1]];
+        bad.sort();
+        let numbers = [rng.pick(operation.refusals()), rng.pick(operation.refusals())];
+        for (row, number) in bad.into_iter().zip(numbers) {
+            shown.lists[0][row] = Some(vec![Some(5); 1 + rng.below(3)]);
+            refuse_row(operation, &mut shown, row, number, rng);
+        }
+        let layouts = random_layouts(entry, rng);
+        let case = lend(&input_of(entry, &shown, &layouts, rng), Room::Exact, rng);
+        check_answer(checker, &case, numbers[0]);
+        let subject = format!("{} in a row before {}", numbers[0], numbers[1]);
+        checker.covered(&case, "order", subject);
+    }
 }
 
 // Output lengths.
@@ -212,11 +332,9 @@ fn shorten_an_output(case: &mut Case, rng: &mut Rng) {
 fn output_lengths(checker: &mut Checker, entry: Entry, rng: &mut Rng, calls: u64) {
     while checker.calls < calls.max(200) {
         let shape = if rng.chance(1, 200) { large_shape(rng) } else { small_shape(rng) };
-        let rows = random_rows(shape, rng);
-        let arguments = random_arguments(entry, &rows, rng);
-        let layout = random_layout(rng);
-        let input = input_of(entry, &rows, &arguments, layout, rng);
-        check_lengths(checker, &input, rng);
+        let shown = random_shown(entry, shape, rng);
+        let layouts = random_layouts(entry, rng);
+        check_lengths(checker, &input_of(entry, &shown, &layouts, rng), rng);
     }
 }
 
@@ -274,14 +392,15 @@ fn grow(bytes: &mut Vec<u8>, slots: usize, kind: SliceKind, rng: &mut Rng) {
 }
 
 /// Makes some slice of numbers larger than the entry takes.
-fn over_size(case: &mut Case, rng: &mut Rng) {
+fn over_size(case: &mut Case, rng: &mut Rng) -> bool {
     let (slice, kind) = rng.pick(&NumberSlice::all(case.entry));
     let slots = kind.most.unwrap_or(0) + rng.pick(&[1, 1, 2, 4096, 20000]);
     grow(slice.of(case), slots, kind, rng);
+    true
 }
 
 /// Makes some slice of numbers ragged, or the counts too short.
-fn make_ragged(case: &mut Case, rng: &mut Rng) {
+fn make_ragged(case: &mut Case, rng: &mut Rng) -> bool {
     let slices = NumberSlice::all(case.entry);
     let at = rng.below(slices.len() + 1);
     if at == slices.len() {
@@ -291,6 +410,7 @@ fn make_ragged(case: &mut Case, rng: &mut Rng) {
         let more = 1 + rng.below(kind.width - 1);
         slice.of(case).extend(rng.bytes(more));
     }
+    true
 }
 
 fn entry_answers(checker: &mut Checker, entry: Entry, rng: &mut Rng, calls: u64) {
@@ -319,12 +439,19 @@ fn sizes_met_exactly(checker: &mut Checker, entry: Entry, rng: &mut Rng) {
             null_rows,
             null_elements: 1,
         };
-        let mut rows = random_rows(shape, rng);
-        let shown: usize = rows.iter().flatten().map(Vec::len).sum();
-        rows[MOST_ROWS - 1] = last_row(&rows, MOST_VALUES - shown);
-        let arguments = random_arguments(entry, &rows, rng);
+        let mut lists = random_lists(entry, shape, rng);
+        for list in &mut lists {
+            let shown: usize = list.iter().flatten().map(Vec::len).sum();
+            list[MOST_ROWS - 1] = last_row(list, MOST_VALUES - shown);
+        }
+        let operation = entry.known_operation();
+        let mut shown = Shown { arguments: accepted_columns(operation, &lists, rng), lists };
+        for column in &mut shown.arguments {
+            // One limit for all rows, written out.
+            column.resize(MOST_ROWS, column[0]);
+        }
         let layout = Layout { behind: MOST_VALUES, numbers_under_nulls: true, ..Layout::default() };
-        let mut case = lend(&input_of(entry, &rows, &arguments, layout, rng), Room::Exact, rng);
+        let mut case = lend(&input_of(entry, &shown, &[layout], rng), Room::Exact, rng);
         for (slice, kind) in NumberSlice::all(entry) {
             grow(slice.of(&mut case), kind.most.unwrap_or(0), kind, rng);
         }
@@ -402,19 +529,36 @@ fn check_answer(checker: &mut Checker, case: &Case, number: u32) {
     checker.require(observed.number == number, case, &format!("{number} must be answered here"));
 }
 
-fn unknown_operations(checker: &mut Checker, _entry: Entry, rng: &mut Rng, calls: u64) {
-    let mut codes: Vec<u32> = (4..300).collect();
-    codes.extend((8..32).flat_map(|bit| [0, 1, 2, 3, 4].map(|code| (1u32 << bit) + code)));
+/// A code that the entry does not know, near those that it or another entry knows, or far away.
+fn unknown_code(entry: Entry, rng: &mut Rng) -> u32 {
+    loop {
+        let near = rng.below(13) as u32;
+        let code = match rng.below(4) {
+            0 => near,
+            1 => near + (1 << (4 + rng.below(28))),
+            2 => u32::MAX - near,
+            _ => rng.next() as u32,
+        };
+        if entry.with_code(code).is_none_or(|entry| entry.operation().is_none()) {
+            return code;
+        }
+    }
+}
+
+fn unknown_operations(checker: &mut Checker, entry: Entry, rng: &mut Rng, calls: u64) {
+    let mut codes: Vec<u32> = (0..300).collect();
+    codes.extend((8..32).flat_map(|bit| (0..12).map(move |code| (1u32 << bit) + code)));
     codes.extend(u32::MAX - 4..=u32::MAX);
-    for code in codes {
-        let mut case =
-            lend(&random_input(Entry::List(0), small_shape(rng), rng), Room::Longer(1), rng);
-        case.entry = Entry::List(code);
-        check_answer(checker, &case, 102);
+    for unknown in codes.into_iter().filter_map(|code| entry.with_code(code)) {
+        if unknown.operation().is_none() {
+            let mut case = lend(&random_input(entry, small_shape(rng), rng), Room::Longer(1), rng);
+            case.entry = unknown;
+            check_answer(checker, &case, 102);
+        }
     }
     while checker.calls < calls {
-        let mut case = random_case(Entry::List(0), rng);
-        case.entry = Entry::List(4 + rng.below(u32::MAX as usize - 4) as u32);
+        let mut case = random_case(entry, rng);
+        case.entry = entry.with_code(unknown_code(entry, rng)).unwrap_or(entry);
         check_answer(checker, &case, 102);
     }
 }
@@ -436,7 +580,8 @@ fn random_case(entry: Entry, rng: &mut Rng) -> Case {
         rng.bytes(bytes)
     });
     let outputs = outputs.collect();
-    let counts = if rng.chance(1, 64) { rng.below(40) } else { 32 + rng.below(9) };
+    let needed = entry.count_bytes();
+    let counts = if rng.chance(1, 64) { rng.below(needed + 8) } else { needed + rng.below(9) };
     Case { entry, inputs, outputs, counts: rng.bytes(counts) }
 }
 
@@ -450,19 +595,19 @@ fn ragged_end(kind: SliceKind, rng: &mut Rng) -> usize {
 }
 
 fn random_slice(kind: SliceKind, rows: usize, rng: &mut Rng) -> Vec<u8> {
-    let mut bytes = match kind.name {
-        "offsets" => random_offsets(rows, rng),
-        "values" => {
+    let mut bytes = match kind.content {
+        Content::Offsets => random_offsets(rows, rng),
+        Content::Values => {
             let slots = rng.below(9);
             rng.bytes(8 * slots)
         }
-        "indexes" => {
+        Content::RowValues => {
             let slots = if rng.chance(1, 16) { rng.below(5) } else { rows };
             (0..slots)
                 .flat_map(|_| rng.pick(&[-2i64, -1, 0, 1, 2, 3, 1 << 31]).to_le_bytes())
                 .collect()
         }
-        _ => {
+        Content::Bits => {
             let slots = rng.below(3);
             rng.bytes(slots)
         }

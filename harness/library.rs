@@ -1,68 +1,91 @@
 //! A library under test: the entries as safe functions on byte slices. The port, the plain Rust
-//! and the mock each give one of these.
+//! and the mock each give one of these. A function takes the code, if there is one, then the input
+//! slices and the output slices in the order in which `entry.rs` lists them, then the counts. A
+//! library may lack entries.
 
 use crate::entry::Entry;
 
-pub type ListEntry = fn(
-    u32,
-    &[u8],
-    &[u8],
-    &[u8],
-    &[u8],
-    &mut [u8],
-    &mut [u8],
-    &mut [u8],
-    &mut [u8],
-    &mut [u8],
-) -> u32;
-pub type AnyValueEntry = fn(&[u8], &[u8], &[u8], &[u8], &mut [u8], &mut [u8], &mut [u8]) -> u32;
-pub type ElementEntry =
-    fn(&[u8], &[u8], &[u8], &[u8], &[u8], &[u8], &mut [u8], &mut [u8], &mut [u8]) -> u32;
+/// An entry of so many input and output slices.
+type Plain<const I: usize, const O: usize> = fn([&[u8]; I], [&mut [u8]; O], &mut [u8]) -> u32;
+type Coded<const I: usize, const O: usize> = fn(u32, [&[u8]; I], [&mut [u8]; O], &mut [u8]) -> u32;
 
 #[derive(Clone, Copy)]
 pub struct Library {
-    pub list: ListEntry,
-    pub any_value: AnyValueEntry,
-    pub element: ElementEntry,
+    pub list: Option<Coded<4, 4>>,
+    pub any_value: Option<Plain<4, 2>>,
+    pub element: Option<Plain<6, 2>>,
+    pub lists: Option<Coded<8, 4>>,
+    pub list_with: Option<Coded<10, 4>>,
+    pub list_repeat: Option<Plain<6, 6>>,
+}
+
+fn inputs<'a, const N: usize>(slices: &[&'a [u8]]) -> [&'a [u8]; N] {
+    slices.try_into().expect("the call has the input slices of its entry")
+}
+
+fn outputs<'a, const N: usize>(slices: &'a mut [&mut [u8]]) -> [&'a mut [u8]; N] {
+    assert_eq!(slices.len(), N, "the call has the output slices of its entry");
+    let mut slices = slices.iter_mut();
+    std::array::from_fn(|_| &mut **slices.next().expect("as many as were counted"))
+}
+
+/// The function of an entry that the library must have.
+fn present<F>(function: Option<F>) -> F {
+    function.expect("only entries that the library has are called")
 }
 
 impl Library {
-    /// Calls an entry with its slices in the order in which `entry.rs` lists them.
+    pub const EMPTY: Library = Library {
+        list: None,
+        any_value: None,
+        element: None,
+        lists: None,
+        list_with: None,
+        list_repeat: None,
+    };
+
+    pub fn has(&self, entry: Entry) -> bool {
+        match entry {
+            Entry::List(_) => self.list.is_some(),
+            Entry::AnyValue => self.any_value.is_some(),
+            Entry::Element => self.element.is_some(),
+            Entry::Lists(_) => self.lists.is_some(),
+            Entry::ListWith(_) => self.list_with.is_some(),
+            Entry::ListRepeat => self.list_repeat.is_some(),
+        }
+    }
+
+    /// The operations that the library has an entry for.
+    pub fn operations(&self) -> impl Iterator<Item = Entry> + use<'_> {
+        Entry::all().filter(|entry| self.has(*entry))
+    }
+
+    /// Names the operations that the library has no entry for, if there are any.
+    pub fn print_absent(&self) {
+        let absent = Entry::all().filter(|entry| !self.has(*entry)).map(Entry::name);
+        let absent: Vec<&str> = absent.collect();
+        if !absent.is_empty() {
+            println!("not run, no entry in the archive: {}", absent.join(", "));
+        }
+    }
+
+    /// Calls an entry.
     pub fn call(
         &self,
         entry: Entry,
-        inputs: &[&[u8]],
-        outputs: &mut [&mut [u8]],
+        lent: &[&[u8]],
+        results: &mut [&mut [u8]],
         counts: &mut [u8],
     ) -> u32 {
-        match (entry, inputs, outputs) {
-            (
-                Entry::List(code),
-                [offsets, rows, values, elements],
-                [out_offsets, out_rows, out_values, out_elements],
-            ) => (self.list)(
-                code,
-                offsets,
-                rows,
-                values,
-                elements,
-                out_offsets,
-                out_rows,
-                out_values,
-                out_elements,
-                counts,
-            ),
-            (Entry::AnyValue, [offsets, rows, values, elements], [out_values, out_rows]) => {
-                (self.any_value)(offsets, rows, values, elements, out_values, out_rows, counts)
+        match entry {
+            Entry::List(code) => present(self.list)(code, inputs(lent), outputs(results), counts),
+            Entry::AnyValue => present(self.any_value)(inputs(lent), outputs(results), counts),
+            Entry::Element => present(self.element)(inputs(lent), outputs(results), counts),
+            Entry::Lists(code) => present(self.lists)(code, inputs(lent), outputs(results), counts),
+            Entry::ListWith(code) => {
+                present(self.list_with)(code, inputs(lent), outputs(results), counts)
             }
-            (
-                Entry::Element,
-                [offsets, rows, values, elements, indexes, index_bits],
-                [out_values, out_rows],
-            ) => (self.element)(
-                offsets, rows, values, elements, indexes, index_bits, out_values, out_rows, counts,
-            ),
-            _ => panic!("the call does not have the slices of its entry"),
+            Entry::ListRepeat => present(self.list_repeat)(inputs(lent), outputs(results), counts),
         }
     }
 }

@@ -4,18 +4,24 @@
 //!     harness                        the gate's amount
 //!     harness --calls N --seed S     N random calls beside the exhaustive ones
 //!     harness --group NAME           one group alone, with its calls of the whole run
+//!     harness --operation NAME       the groups of one operation
 //!     harness --plain                the plain Rust instead of the port
-//!     harness --stop                 ends at the first group that fails
+//!     harness --stop                 ends at the first difference
 //!     harness --trace                names each call before it is made
 //!     harness groups | bench | example
 //!
-//! An operation is added in model.rs (what a row becomes), entry.rs (its slices), library.rs,
-//! port.rs and plain.rs (a new entry), generate.rs and exhaustive.rs (its arguments), coverage.rs
-//! (its answers) and worked.rs; the groups then run over it as they stand.
+//! An operation is added in model.rs (its argument columns, its refusals, what a row becomes),
+//! entry.rs (its line), plain.rs, coverage.rs (what its rows must meet), worked.rs and defects.rs
+//! (wrong versions); the groups then run over it as they stand. A new kind of argument has its
+//! boundary numbers in generate.rs; a new entry its slices in entry.rs, library.rs and port.rs. The
+//! entries that the archive has are listed at the end of port.rs: the groups of the others are not
+//! run, but for the plain Rust.
 
 mod bench;
 mod compare;
 mod coverage;
+#[cfg(mock)]
+mod defects;
 mod entry;
 mod example;
 mod exhaustive;
@@ -24,6 +30,8 @@ mod groups;
 mod library;
 #[cfg(mock)]
 mod mock;
+#[cfg(mock)]
+mod mock_rows;
 mod model;
 mod plain;
 mod port;
@@ -32,15 +40,18 @@ mod worked;
 
 use compare::Checker;
 use coverage::Coverage;
+use groups::Group;
+use library::Library;
 use std::process::ExitCode;
 
-const DEFAULT_CALLS: u64 = 200_000;
+const DEFAULT_CALLS: u64 = 400_000;
 const DEFAULT_SEED: u64 = 1;
 
 struct Options {
     calls: u64,
     seed: u64,
     group: Option<String>,
+    operation: Option<String>,
     plain: bool,
     stop: bool,
     trace: bool,
@@ -53,12 +64,17 @@ fn number(text: Option<String>, option: &str) -> Result<u64, String> {
 
 fn parse(mut words: impl Iterator<Item = String>) -> Result<Options, String> {
     let (calls, seed) = (DEFAULT_CALLS, DEFAULT_SEED);
-    let mut options = Options { calls, seed, group: None, plain: false, stop: false, trace: false };
+    let (group, operation) = (None, None);
+    let mut options =
+        Options { calls, seed, group, operation, plain: false, stop: false, trace: false };
     while let Some(word) = words.next() {
         match word.as_str() {
             "--calls" => options.calls = number(words.next(), "--calls")?,
             "--seed" => options.seed = number(words.next(), "--seed")?,
             "--group" => options.group = Some(words.next().ok_or("--group wants a name")?),
+            "--operation" => {
+                options.operation = Some(words.next().ok_or("--operation wants a name")?);
+            }
             "--plain" => options.plain = true,
             "--stop" => options.stop = true,
             "--trace" => options.trace = true,
@@ -66,6 +82,18 @@ fn parse(mut words: impl Iterator<Item = String>) -> Result<Options, String> {
         }
     }
     Ok(options)
+}
+
+impl Options {
+    /// Whether only some groups are to be run.
+    fn is_part(&self) -> bool {
+        self.group.is_some() || self.operation.is_some()
+    }
+
+    fn wants(&self, group: &Group) -> bool {
+        self.group.as_ref().is_none_or(|name| *name == group.name)
+            && self.operation.as_ref().is_none_or(|name| group.is_of(name))
+    }
 }
 
 /// Groups passed and failed.
@@ -87,13 +115,14 @@ impl Tally {
 }
 
 fn run_groups(checker: &mut Checker, options: &Options, tally: &mut Tally) {
-    for group in groups::all() {
-        if options.group.as_ref().is_some_and(|name| *name != group.name) {
-            continue;
-        }
-        if options.stop && tally.failed > 0 {
-            return;
-        }
+    let wanted = groups::all().into_iter().filter(|group| options.wants(group));
+    let (present, absent): (Vec<Group>, Vec<Group>) =
+        wanted.partition(|group| checker.library.has(group.entry));
+    if let ([], [group, ..]) = (&present[..], &absent[..]) {
+        let name = options.operation.as_ref().unwrap_or(&group.name);
+        tally.add(name, false, "not run, no entry in the archive".to_string());
+    }
+    for group in present {
         group.run(checker, options.seed, options.calls);
         let (calls, differences) = (checker.calls, checker.differences);
         let detail = format!("{calls} calls, {differences} differences");
@@ -105,7 +134,7 @@ fn run_groups(checker: &mut Checker, options: &Options, tally: &mut Tally) {
 fn check_plain(options: &Options, tally: &mut Tally) {
     let (seed, random_calls) = (options.seed, options.calls / 10);
     let replay = format!("--plain --seed {seed} --calls {random_calls}");
-    let mut checker = Checker::new(&plain::LIBRARY, replay, options.trace);
+    let mut checker = Checker::new(&plain::LIBRARY, replay, options.trace, options.stop);
     let (mut calls, mut differences) = (0, 0);
     for group in groups::all() {
         group.run(&mut checker, seed, random_calls);
@@ -116,9 +145,9 @@ fn check_plain(options: &Options, tally: &mut Tally) {
     tally.add("plain Rust: all groups", differences == 0, detail);
 }
 
-fn check_coverage(coverage: &Coverage, tally: &mut Tally) {
+fn check_coverage(coverage: &Coverage, library: &Library, tally: &mut Tally) {
     coverage.print();
-    let missing = coverage.missing();
+    let missing = coverage.missing(library);
     for what in &missing {
         println!("  never reached: {what}");
     }
@@ -130,11 +159,12 @@ fn run(options: &Options) -> ExitCode {
     let mut tally = Tally::default();
     let library = if options.plain { &plain::LIBRARY } else { &port::LIBRARY };
     let replay = format!("--seed {} --calls {}", options.seed, options.calls);
-    let mut checker = Checker::new(library, replay, options.trace);
+    let mut checker = Checker::new(library, replay, options.trace, options.stop);
     run_groups(&mut checker, options, &mut tally);
-    if options.group.is_none() && !(options.stop && tally.failed > 0) {
+    if !options.is_part() {
         check_plain(options, &mut tally);
-        check_coverage(&checker.coverage, &mut tally);
+        check_coverage(&checker.coverage, library, &mut tally);
+        library.print_absent();
     }
     println!("harness: {} passed, {} failed", tally.passed, tally.failed);
     if tally.failed == 0 && tally.passed > 0 {
@@ -151,7 +181,7 @@ fn main() -> ExitCode {
         Some("example") => example::print(&port::LIBRARY),
         Some("groups") => groups::all().iter().for_each(|group| println!("{}", group.name)),
         #[cfg(mock)]
-        Some("defects") => mock::DEFECTS.iter().for_each(|name| println!("{name}")),
+        Some("defects") => defects::print(),
         _ => match parse(words) {
             Ok(options) => return run(&options),
             Err(message) => {

@@ -1,258 +1,197 @@
 //! Stands in for the archive when the harness is built with `--cfg mock`, to test the harness
-//! itself. With no HARNESS_DEFECT in the environment it is the plain Rust; with one of `DEFECTS`
-//! it is a second, simple version that is wrong in that one way, and with "none" that version
-//! without a fault. The harness must pass the first and the last and report every other.
+//! itself. With no HARNESS_DEFECT in the environment it is the plain Rust; with one of the names in
+//! defects.rs it is a second, simple version that is wrong in that one way, and with "none" that
+//! version without a fault. The harness must pass the first and the last and report every other.
 
-#![allow(clippy::too_many_arguments)]
-
+use crate::defects::{defect, is, NULL_ROWS};
+use crate::library::Library;
+use crate::mock_rows::{
+    distinct, intersect, is_beyond, place_of, pop, remove, replace, resize, reverse, slice, union,
+};
 use crate::plain;
 use std::ops::Range;
-use std::sync::OnceLock;
 
-pub const DEFECTS: &[&str] = &[
-    // What a column shows.
-    "null-row-values-kept",
-    "null-row-values-counted",
-    "first-offset-taken-as-0",
-    "bits-highest-first",
-    "first-bitmap-byte-for-all",
-    "empty-bitmap-all-null",
-    "last-row-forgotten-at-4096",
-    "element-validity-ignored",
-    // Refusals of columns.
-    "no-offsets-accepted",
-    "negative-first-accepted",
-    "last-fall-missed",
-    "fall-at-null-row-missed",
-    "last-beyond-by-one-accepted",
-    "last-equal-to-values-refused",
-    "row-bitmap-not-tested",
-    "row-bitmap-for-one-more-row",
-    "element-bitmap-to-last-offset",
-    "index-bitmap-not-tested",
-    "longer-bitmap-refused",
-    "fewer-indexes-only",
-    "more-indexes-only",
-    "2-before-1",
-    "3-before-2",
-    "4-before-3",
-    "9-before-4",
-    "9-before-2",
-    // Operations.
-    "reverse-leaves-bits",
-    "reverse-of-two-unchanged",
-    "distinct-compares-hidden-numbers",
-    "distinct-null-equals-0",
-    "distinct-over-all-rows",
-    "distinct-keeps-last",
-    "distinct-drops-nulls",
-    "distinct-neighbours-only",
-    "pops-swapped",
-    "pop-keeps-single-element",
-    "pop-of-empty-is-null",
-    "any-value-takes-first",
-    "any-value-skips-0",
-    "index-0-is-first",
-    "index-minus-1-is-last-but-one",
-    "index-below-minus-length-is-first",
-    "index-wraps-to-32-bits",
-    "index-smallest-refused",
-    "index-largest-refused",
-    "4-not-over-empty-row",
-    "4-for-null-row",
-    "4-for-null-index",
-    "4-only-in-first-row",
-    // Result form.
-    "number-under-null-kept",
-    "null-slot-keeps-content",
-    "spare-bits-kept",
-    "spare-bits-set",
-    "bits-added-to-content",
-    "bitmaps-not-written-when-absent",
-    "tail-cleared",
-    "tail-bitmap-byte-cleared",
-    "null-count-with-spare-bits",
-    "null-elements-not-counted",
-    "null-rows-counted-by-offsets",
-    "counts-big-endian",
-    "count-tail-cleared",
-    // Room.
-    "exact-room-refused",
-    "short-row-bitmap-accepted",
-    "short-element-bitmap-accepted",
-    "short-values-accepted",
-    "room-for-input-demanded",
-    "no-offset-for-no-rows",
-    "9-writes-offsets",
-    "refusal-writes-counts",
-    "refusal-clears-outputs",
-    // Answers of the entry.
-    "ragged-accepted",
-    "ragged-output-accepted",
-    "short-counts-accepted",
-    "size-one-over-accepted",
-    "at-size-refused",
-    "101-before-100",
-    "100-before-102",
-    "unknown-operation-reverses",
-    "operation-code-cut-to-a-byte",
-    // Outside the lent slices.
-    "writes-behind-an-output",
-    "writes-behind-the-counts",
-    "writes-an-input",
-    "state-between-calls",
-];
+// Entries.
 
-fn defect() -> &'static str {
-    static NAME: OnceLock<String> = OnceLock::new();
-    let name = NAME.get_or_init(|| {
-        let name = std::env::var("HARNESS_DEFECT").unwrap_or_default();
-        let known = name.is_empty() || name == "none" || DEFECTS.contains(&name.as_str());
-        assert!(known, "no such defect: {name}");
-        name
-    });
-    name.as_str()
+pub const LIBRARY: Library = Library {
+    list: Some(list),
+    any_value: Some(any_value),
+    element: Some(element),
+    lists: Some(lists),
+    list_with: Some(list_with),
+    list_repeat: Some(list_repeat),
+};
+
+/// How many lists an entry takes, with argument columns behind them, and the kind of its answer.
+struct Shape {
+    lists: usize,
+    answer: Answer,
 }
 
-fn is(name: &str) -> bool {
-    debug_assert!(DEFECTS.contains(&name));
-    defect() == name
+#[derive(Clone, Copy, PartialEq)]
+enum Answer {
+    Values,
+    Lists,
+    Nested,
 }
 
-pub fn list(
+const SLICE: u32 = 4;
+const SLICE_WITHOUT_STRIDE: u32 = 5;
+const RESIZE: u32 = 6;
+const REPLACE: u32 = 7;
+const REMOVE: u32 = 8;
+const UNION: u32 = 9;
+const INTERSECT: u32 = 10;
+const RESIZE_WITHOUT_FILL: u32 = 11;
+/// Operations that have an entry of their own, and no code.
+const ANY_VALUE: u32 = 1000;
+const ELEMENT: u32 = 1001;
+const LIST_REPEAT: u32 = 1002;
+
+pub fn list(op: u32, inputs: [&[u8]; 4], mut outputs: [&mut [u8]; 4], counts: &mut [u8]) -> u32 {
+    if defect().is_empty() {
+        return plain::list(op, inputs, outputs, counts);
+    }
+    let shape = Shape { lists: 1, answer: Answer::Lists };
+    answer(op, 0..=3, shape, &inputs, &mut outputs, counts)
+}
+
+pub fn lists(op: u32, inputs: [&[u8]; 8], mut outputs: [&mut [u8]; 4], counts: &mut [u8]) -> u32 {
+    if defect().is_empty() {
+        return plain::lists(op, inputs, outputs, counts);
+    }
+    let shape = Shape { lists: 2, answer: Answer::Lists };
+    answer(op, 9..=10, shape, &inputs, &mut outputs, counts)
+}
+
+pub fn list_with(
     op: u32,
-    offsets: &[u8],
-    rows: &[u8],
-    values: &[u8],
-    elements: &[u8],
-    out_offsets: &mut [u8],
-    out_rows: &mut [u8],
-    out_values: &mut [u8],
-    out_elements: &mut [u8],
+    inputs: [&[u8]; 10],
+    mut outputs: [&mut [u8]; 4],
     counts: &mut [u8],
 ) -> u32 {
     if defect().is_empty() {
-        return plain::list(
-            op,
-            offsets,
-            rows,
-            values,
-            elements,
-            out_offsets,
-            out_rows,
-            out_values,
-            out_elements,
-            counts,
-        );
+        return plain::list_with(op, inputs, outputs, counts);
     }
-    let column =
-        Column { offsets: numbers(offsets, 4), rows, values: numbers(values, 8), elements };
-    let numbers = [
-        (offsets.len(), 4, 4097),
-        (values.len(), 8, 16384),
-        (out_offsets.len(), 4, 4097),
-        (out_values.len(), 8, 16384),
-    ];
-    let mut output = Output {
-        offsets: Some(out_offsets),
-        rows: out_rows,
-        values: out_values,
-        elements: Some(out_elements),
-        counts,
+    let shape = Shape { lists: 1, answer: Answer::Lists };
+    let codes = if op == RESIZE_WITHOUT_FILL { 11..=11 } else { 4..=8 };
+    answer(op, codes, shape, &inputs, &mut outputs, counts)
+}
+
+pub fn any_value(inputs: [&[u8]; 4], mut outputs: [&mut [u8]; 2], counts: &mut [u8]) -> u32 {
+    if defect().is_empty() {
+        return plain::any_value(inputs, outputs, counts);
+    }
+    let shape = Shape { lists: 1, answer: Answer::Values };
+    answer(ANY_VALUE, ANY_VALUE..=ANY_VALUE, shape, &inputs, &mut outputs, counts)
+}
+
+pub fn element(inputs: [&[u8]; 6], mut outputs: [&mut [u8]; 2], counts: &mut [u8]) -> u32 {
+    if defect().is_empty() {
+        return plain::element(inputs, outputs, counts);
+    }
+    let shape = Shape { lists: 1, answer: Answer::Values };
+    answer(ELEMENT, ELEMENT..=ELEMENT, shape, &inputs, &mut outputs, counts)
+}
+
+pub fn list_repeat(inputs: [&[u8]; 6], mut outputs: [&mut [u8]; 6], counts: &mut [u8]) -> u32 {
+    if defect().is_empty() {
+        return plain::list_repeat(inputs, outputs, counts);
+    }
+    let shape = Shape { lists: 1, answer: Answer::Nested };
+    answer(LIST_REPEAT, LIST_REPEAT..=LIST_REPEAT, shape, &inputs, &mut outputs, counts)
+}
+
+/// The whole call: its own answers, the refusals, and the result if it fits.
+fn answer(
+    op: u32,
+    codes: std::ops::RangeInclusive<u32>,
+    shape: Shape,
+    inputs: &[&[u8]],
+    outputs: &mut [&mut [u8]],
+    counts: &mut [u8],
+) -> u32 {
+    let op = if is("operation-code-cut-to-a-byte") && op < ANY_VALUE { op % 256 } else { op };
+    let mut op = op;
+    let mut unknown = !codes.contains(&op);
+    if unknown && is("unknown-operation-done") {
+        (op, unknown) = (*codes.start(), false);
+    }
+    if is("operations-of-other-entries-done") && op <= 3 {
+        unknown = false;
+    }
+    let own = own_answer(&shape, inputs, outputs, counts.len(), taken(op));
+    let number = if unknown && !(is("100-before-102") && own == Some(100)) {
+        Err(102)
+    } else {
+        own.map_or(Ok(()), Err)
     };
-    output.answer(&column, |output| {
-        let op = if is("operation-code-cut-to-a-byte") { op % 256 } else { op };
-        let unknown = op > 3 && !is("unknown-operation-reverses");
-        let own = own_answer(&numbers, 2, output.counts.len(), 32);
-        if unknown && !(is("100-before-102") && own == Some(100)) {
-            return Err(102);
-        }
-        own.map_or(Ok(()), Err)?;
-        column.check(None, output)?;
-        Ok(Made::Lists(column.lists(op)))
-    })
-}
-
-pub fn any_value(
-    offsets: &[u8],
-    rows: &[u8],
-    values: &[u8],
-    elements: &[u8],
-    out_values: &mut [u8],
-    out_rows: &mut [u8],
-    counts: &mut [u8],
-) -> u32 {
-    if defect().is_empty() {
-        return plain::any_value(offsets, rows, values, elements, out_values, out_rows, counts);
-    }
-    let column =
-        Column { offsets: numbers(offsets, 4), rows, values: numbers(values, 8), elements };
-    let numbers = [(offsets.len(), 4, 4097), (values.len(), 8, 16384), (out_values.len(), 8, 4096)];
-    let mut output =
-        Output { offsets: None, rows: out_rows, values: out_values, elements: None, counts };
-    output.answer(&column, |output| {
-        own_answer(&numbers, 2, output.counts.len(), 16).map_or(Ok(()), Err)?;
-        column.check(None, output)?;
-        Ok(Made::Values(column.any_values()))
-    })
-}
-
-pub fn element(
-    offsets: &[u8],
-    rows: &[u8],
-    values: &[u8],
-    elements: &[u8],
-    indexes: &[u8],
-    index_bits: &[u8],
-    out_values: &mut [u8],
-    out_rows: &mut [u8],
-    counts: &mut [u8],
-) -> u32 {
-    if defect().is_empty() {
-        return plain::element(
-            offsets, rows, values, elements, indexes, index_bits, out_values, out_rows, counts,
-        );
-    }
-    let column =
-        Column { offsets: numbers(offsets, 4), rows, values: numbers(values, 8), elements };
-    let numbers = [
-        (offsets.len(), 4, 4097),
-        (values.len(), 8, 16384),
-        (indexes.len(), 8, 4096),
-        (out_values.len(), 8, 4096),
-    ];
-    let indexes = Indexes { values: self::numbers(indexes, 8), bits: index_bits };
-    let mut output =
-        Output { offsets: None, rows: out_rows, values: out_values, elements: None, counts };
-    output.answer(&column, |output| {
-        own_answer(&numbers, 3, output.counts.len(), 16).map_or(Ok(()), Err)?;
-        column.check(Some(&indexes), output)?;
-        Ok(Made::Values(column.elements_at(&indexes)))
-    })
-}
-
-fn numbers(bytes: &[u8], width: usize) -> Vec<i64> {
-    let number = |chunk: &[u8]| {
-        let sign = if chunk[width - 1] >= 128 { 0xff } else { 0 };
-        let mut eight = [sign; 8];
-        eight[..width].copy_from_slice(chunk);
-        i64::from_le_bytes(eight)
+    let (lists, arguments) = inputs.split_at(4 * shape.lists);
+    let lists: Vec<Column> =
+        lists.chunks(4).enumerate().map(|(at, part)| Column::new(at, part)).collect();
+    let arguments: Vec<Argument> = arguments.chunks(2).map(Argument::new).collect();
+    let call = Call { op, lists, arguments };
+    let mut output = Output::new(shape.answer, outputs, counts);
+    let number = match number.and_then(|()| call.made(&output)) {
+        Ok(made) => output.write(&call, made),
+        Err(number) => number,
     };
-    bytes.chunks_exact(width).map(number).collect()
+    if number != 0 {
+        output.refused(number);
+    }
+    output.stray(&call);
+    number
 }
 
-/// Each slice of numbers as bytes, bytes a slot and most slots, the first `inputs` of them lent in.
+/// How many argument columns an operation takes.
+fn taken(op: u32) -> usize {
+    match op {
+        SLICE | REPLACE => 3,
+        SLICE_WITHOUT_STRIDE | RESIZE | REMOVE => 2,
+        RESIZE_WITHOUT_FILL | ELEMENT | LIST_REPEAT => 1,
+        _ => 0,
+    }
+}
+
 fn own_answer(
-    numbers: &[(usize, usize, usize)],
-    inputs: usize,
+    shape: &Shape,
+    inputs: &[&[u8]],
+    outputs: &[&mut [u8]],
     counts: usize,
-    needed: usize,
+    taken: usize,
 ) -> Option<u32> {
-    let tested = if is("ragged-output-accepted") { &numbers[..inputs] } else { numbers };
-    let ragged = tested.iter().any(|(bytes, width, _)| bytes % width != 0);
+    // Each slice of numbers as bytes, bytes a slot and most slots.
+    let mut numbers = Vec::new();
+    let (lists, arguments) = inputs.split_at(4 * shape.lists);
+    for list in lists.chunks(4) {
+        numbers.extend([(list[0].len(), 4, 4097), (list[2].len(), 8, 16384)]);
+    }
+    let mut arguments: Vec<_> =
+        arguments.chunks(2).map(|argument| (argument[0].len(), 8, 4096)).collect();
+    let mut over_numbers = [&numbers[..], &arguments].concat();
+    if is("untaken-size-not-tested") {
+        over_numbers = [&numbers[..], &arguments[..taken]].concat();
+    }
+    if is("untaken-ragged-accepted") {
+        arguments.truncate(taken);
+    }
+    numbers.extend(arguments);
+    let lengths: Vec<usize> = outputs.iter().map(|output| output.len()).collect();
+    let results = match shape.answer {
+        Answer::Values => vec![(lengths[0], 8, 4096)],
+        Answer::Lists => vec![(lengths[0], 4, 4097), (lengths[2], 8, 16384)],
+        Answer::Nested => {
+            vec![(lengths[0], 4, 4097), (lengths[2], 4, 16385), (lengths[4], 8, 16384)]
+        }
+    };
+    if !is("ragged-output-accepted") {
+        numbers.extend(&results);
+    }
+    over_numbers.extend(&results);
+    let ragged = numbers.iter().any(|(bytes, width, _)| bytes % width != 0);
     let ragged = ragged && !is("ragged-accepted");
-    let ragged = ragged || counts < needed && !is("short-counts-accepted");
-    let over = numbers.iter().any(|(bytes, width, most)| {
+    let ragged = ragged || counts < 8 * outputs.len() && !is("short-counts-accepted");
+    let over = over_numbers.iter().any(|(bytes, width, most)| {
         let slots = bytes / width;
         match defect() {
             "size-one-over-accepted" => slots > most + 1,
@@ -268,30 +207,16 @@ fn own_answer(
     }
 }
 
-type Element = Option<i64>;
+// Columns.
 
-/// A row that was made; a null row may wrongly hold elements.
-struct MadeRow {
-    valid: bool,
-    elements: Vec<Element>,
-    hidden: Vec<i64>,
-}
-
-enum Made {
-    Lists(Vec<MadeRow>),
-    Values(Vec<Element>),
-}
-
-struct Indexes<'a> {
-    values: Vec<i64>,
-    bits: &'a [u8],
-}
-
-struct Column<'a> {
-    offsets: Vec<i64>,
-    rows: &'a [u8],
-    values: Vec<i64>,
-    elements: &'a [u8],
+fn numbers(bytes: &[u8], width: usize) -> Vec<i64> {
+    let number = |chunk: &[u8]| {
+        let sign = if chunk[width - 1] >= 128 { 0xff } else { 0 };
+        let mut eight = [sign; 8];
+        eight[..width].copy_from_slice(chunk);
+        i64::from_le_bytes(eight)
+    };
+    bytes.chunks_exact(width).map(number).collect()
 }
 
 fn bit(bitmap: &[u8], position: usize) -> bool {
@@ -309,7 +234,75 @@ fn too_short(bitmap: &[u8], positions: usize) -> bool {
         && (bitmap.len() < needed || bitmap.len() > needed && is("longer-bitmap-refused"))
 }
 
-impl Column<'_> {
+/// An element or an argument, with the number that is stored, also under a null.
+#[derive(Clone, Copy)]
+pub struct Item {
+    pub valid: bool,
+    pub number: i64,
+}
+
+pub const NULL: Item = Item { valid: false, number: 77 };
+
+impl Item {
+    pub fn given(self) -> Option<i64> {
+        self.valid.then_some(self.number)
+    }
+
+    /// Equal in everything, which for nulls takes no number into account.
+    pub fn same(self, other: Item) -> bool {
+        match defect() {
+            "distinct-compares-hidden-numbers"
+            | "union-compares-hidden-numbers"
+            | "intersect-compares-hidden-numbers" => {
+                self.valid == other.valid && self.number == other.number
+            }
+            "distinct-null-equals-0" | "union-null-equals-0" | "matches-null-as-0" => {
+                self.given().unwrap_or(0) == other.given().unwrap_or(0)
+            }
+            "matches-hidden-numbers" => self.number == other.number,
+            _ => self.given() == other.given(),
+        }
+    }
+}
+
+struct Argument<'a> {
+    values: Vec<i64>,
+    bits: &'a [u8],
+}
+
+impl<'a> Argument<'a> {
+    fn new(part: &[&'a [u8]]) -> Self {
+        Argument { values: numbers(part[0], 8), bits: part[1] }
+    }
+
+    fn item(&self, row: usize) -> Item {
+        let number = self.values.get(row).copied().unwrap_or(0);
+        Item { valid: bit(self.bits, row), number }
+    }
+
+    fn short_bitmap(&self) -> bool {
+        too_short(self.bits, self.values.len())
+    }
+}
+
+struct Column<'a> {
+    is_right: bool,
+    offsets: Vec<i64>,
+    rows: &'a [u8],
+    values: Vec<i64>,
+    elements: &'a [u8],
+}
+
+impl<'a> Column<'a> {
+    fn new(at: usize, part: &[&'a [u8]]) -> Self {
+        let (offsets, values) = (numbers(part[0], 4), numbers(part[2], 8));
+        Column { is_right: at == 1, offsets, rows: part[1], values, elements: part[3] }
+    }
+
+    fn is_right_with(&self, name: &str) -> bool {
+        self.is_right && is(name)
+    }
+
     fn row_count(&self) -> usize {
         let rows = self.offsets.len().max(1) - 1;
         if rows == 4096 && is("last-row-forgotten-at-4096") {
@@ -326,6 +319,9 @@ impl Column<'_> {
     }
 
     fn bad_offsets(&self) -> bool {
+        if self.is_right_with("right-offsets-not-tested") {
+            return false;
+        }
         let (Some(first), Some(last)) = (self.offsets.first(), self.offsets.last()) else {
             return !is("no-offsets-accepted");
         };
@@ -339,208 +335,500 @@ impl Column<'_> {
             || *last > most
     }
 
-    fn short_bitmap(&self, indexes: Option<&Indexes>) -> bool {
+    fn short_bitmap(&self) -> bool {
         let rows = self.row_count() + usize::from(is("row-bitmap-for-one-more-row"));
         let last = self.offsets.last().map_or(0, |last| *last as usize);
         let values = if is("element-bitmap-to-last-offset") { last } else { self.values.len() };
-        let index_short = indexes.is_some_and(|one| too_short(one.bits, one.values.len()));
-        too_short(self.rows, rows) && !is("row-bitmap-not-tested")
-            || too_short(self.elements, values)
-            || index_short && !is("index-bitmap-not-tested")
+        let short = too_short(self.rows, rows) && !is("row-bitmap-not-tested")
+            || too_short(self.elements, values);
+        short && !self.is_right_with("right-bitmaps-not-tested")
     }
 
-    fn unequal(&self, indexes: &Indexes) -> bool {
-        let (rows, lent) = (self.offsets.len().max(1) - 1, indexes.values.len());
+    fn is_valid(&self, row: usize) -> bool {
+        bit(self.rows, row) || is(NULL_ROWS) || self.is_right_with("right-null-rows-shown")
+    }
+
+    fn range(&self, row: usize) -> Range<usize> {
+        let from_0 =
+            is("first-offset-taken-as-0") || self.is_right_with("right-first-offset-taken-as-0");
+        let shift = if from_0 { self.offsets[0] } else { 0 };
+        let offset = |row: usize| self.offsets.get(row).map_or(0, |offset| (offset - shift).max(0));
+        let (start, end) = (offset(row) as usize, offset(row + 1) as usize);
+        start..end.max(start).min(start + 20_000)
+    }
+
+    fn item(&self, place: usize) -> Item {
+        let valid = bit(self.elements, place)
+            || is("element-validity-ignored")
+            || self.is_right_with("right-element-validity-ignored");
+        Item { valid, number: self.values.get(place).copied().unwrap_or(0) }
+    }
+
+    /// The elements of a row, valid or not.
+    fn items(&self, row: usize) -> Vec<Item> {
+        let mut items: Vec<Item> = self.range(row).map(|place| self.item(place)).collect();
+        if self.is_right_with("right-numbers-under-nulls-shown") {
+            items.iter_mut().for_each(|item| item.valid |= item.number % 2 != 0);
+        }
+        items
+    }
+}
+
+// Calls.
+
+/// A row that was made; a null row may wrongly hold elements.
+struct MadeRow {
+    valid: bool,
+    items: Vec<Item>,
+}
+
+enum Made {
+    Lists(Vec<MadeRow>),
+    Values(Vec<Item>),
+    Nested(Vec<(bool, Vec<MadeRow>)>),
+}
+
+/// What a row becomes: None for a null.
+type Outcome = Result<Option<Vec<Item>>, u32>;
+
+struct Call<'a> {
+    op: u32,
+    lists: Vec<Column<'a>>,
+    /// All that are lent.
+    arguments: Vec<Argument<'a>>,
+}
+
+impl Call<'_> {
+    fn row_count(&self) -> usize {
+        self.lists[0].row_count()
+    }
+
+    fn is_limit(&self, at: usize) -> bool {
+        self.op == REPLACE && at == 2 || self.op == REMOVE && at == 1
+    }
+
+    // Refusals of the columns.
+
+    fn short_argument(&self, at: usize) -> bool {
+        let last = at + 1 == taken(self.op);
+        self.arguments[at].short_bitmap()
+            && !is("argument-bitmap-not-tested")
+            && !(at == 1 && is("second-bitmap-not-tested"))
+            && !(last && is("last-column-not-tested"))
+            && (at < taken(self.op) || is("untaken-bitmap-tested"))
+    }
+
+    fn unequal_argument(&self, at: usize) -> bool {
+        let (rows, lent) =
+            (self.lists[0].offsets.len().max(1) - 1, self.arguments[at].values.len());
+        let last = at + 1 == taken(self.op);
+        if at >= taken(self.op) {
+            return is("untaken-rows-counted") && lent != rows;
+        }
+        if at == 1 && is("second-rows-not-counted") || last && is("last-column-not-tested") {
+            return false;
+        }
+        if lent == 1 && is("one-argument-for-all-rows") {
+            return false;
+        }
+        if self.is_limit(at) {
+            return match defect() {
+                "one-limit-refused" => lent != rows,
+                "limits-not-counted" => false,
+                "one-limit-for-no-rows-refused" if rows == 0 => lent != 0,
+                "two-limits-for-no-rows-accepted" if rows == 0 => lent > 2,
+                _ => lent != rows && lent != 1,
+            };
+        }
         match defect() {
-            "fewer-indexes-only" => lent < rows,
-            "more-indexes-only" => lent > rows,
+            "fewer-arguments-only" => lent < rows,
+            "more-arguments-only" => lent > rows,
             _ => lent != rows,
         }
     }
 
-    fn refuses(&self, row: usize, indexes: &Indexes) -> bool {
-        let Some(index) = indexes.values.get(row) else {
-            return false;
-        };
-        let valid = bit(self.rows, row) || is("4-for-null-row");
-        let index_valid = bit(indexes.bits, row) || is("4-for-null-index");
-        let beyond = match defect() {
-            "index-wraps-to-32-bits" => false,
-            "index-smallest-refused" => *index <= -2147483648 || *index > 2147483647,
-            "index-largest-refused" => *index < -2147483648 || *index >= 2147483647,
-            _ => i32::try_from(*index).is_err(),
-        };
-        let skipped = is("4-not-over-empty-row") && self.range(row).is_empty()
-            || is("4-only-in-first-row") && row > 0;
-        valid && index_valid && beyond && !skipped
+    fn unequal_lists(&self) -> bool {
+        let rows = self.lists[0].row_count();
+        self.lists.iter().any(|list| match defect() {
+            "right-rows-not-counted" => false,
+            "right-more-rows-accepted" => list.row_count() < rows,
+            "right-fewer-rows-accepted" => list.row_count() > rows,
+            _ => list.row_count() != rows,
+        })
     }
 
-    /// Refusals 1 to 4 in order, or in a wrong order.
-    fn check(&self, indexes: Option<&Indexes>, output: &Output) -> Result<(), u32> {
-        let four =
-            indexes.is_some_and(|one| (0..self.row_count()).any(|row| self.refuses(row, one)));
-        let mut conditions = vec![
-            (1, self.bad_offsets()),
-            (2, self.short_bitmap(indexes)),
-            (3, indexes.is_some_and(|one| self.unequal(one))),
-            (4, four),
-        ];
-        let no_room = output.values.is_empty() && !self.values.is_empty();
+    /// Refusals 1, 2, 3 in order, or in a wrong order.
+    fn check(&self, output: &Output) -> Result<(), u32> {
+        let all = 0..self.arguments.len();
+        let bad_offsets = self.lists.iter().any(Column::bad_offsets);
+        let short_list = self.lists.iter().any(Column::short_bitmap);
+        let short_left = self.lists[0].short_bitmap() && !self.lists[0].bad_offsets();
+        let short = short_list || all.clone().any(|at| self.short_argument(at));
+        let unequal = self.unequal_lists() || all.clone().any(|at| self.unequal_argument(at));
+        let mut conditions = vec![(1, bad_offsets), (2, short), (3, unequal)];
+        let no_room = output.values.is_empty() && !self.lists[0].values.is_empty();
         match defect() {
             "2-before-1" => conditions.swap(0, 1),
             "3-before-2" => conditions.swap(1, 2),
-            "4-before-3" => conditions.swap(2, 3),
-            "9-before-4" => conditions.insert(
-                3,
-                (9, output.values.len() / 8 < self.row_count() && output.offsets.is_none()),
-            ),
+            "4-before-3" if self.op == ELEMENT => {
+                let four = (0..self.row_count()).any(|row| self.refuses_index(row));
+                conditions.insert(2, (4, four));
+            }
             "9-before-2" => conditions.insert(1, (9, no_room)),
+            "2-of-left-before-1-of-right" => conditions.insert(0, (2, short_left)),
+            "2-and-3-column-by-column" => {
+                conditions.truncate(1);
+                conditions.push((2, short_list));
+                let each = |at| [(2, self.short_argument(at)), (3, self.unequal_argument(at))];
+                conditions.extend(all.flat_map(each));
+            }
             _ => (),
         }
         conditions.iter().find(|(_, holds)| *holds).map_or(Ok(()), |(number, _)| Err(*number))
     }
 
-    fn range(&self, row: usize) -> Range<usize> {
-        let shift = if is("first-offset-taken-as-0") { self.offsets[0] } else { 0 };
-        let start = (self.offsets[row] - shift).max(0) as usize;
-        let end = (self.offsets[row + 1] - shift).max(0) as usize;
-        start..end.max(start).min(start + 20_000)
+    /// The rows that are made, or the refusal before 9.
+    fn made(&self, output: &Output) -> Result<Made, u32> {
+        self.check(output)?;
+        if is("9-before-row-refusals") && !output.has_room_for_rows(self.row_count()) {
+            return Err(9);
+        }
+        match self.op {
+            ANY_VALUE | ELEMENT => self.values().map(Made::Values),
+            LIST_REPEAT => self.nested().map(Made::Nested),
+            _ => self.made_lists().map(Made::Lists),
+        }
     }
 
-    fn value(&self, place: usize) -> i64 {
-        self.values.get(place).copied().unwrap_or(0)
+    // Rows.
+
+    fn argument(&self, at: usize, row: usize) -> Item {
+        let column = &self.arguments[at];
+        let one = column.values.len() == 1
+            && (self.is_limit(at) || is("one-argument-for-all-rows"))
+            && !is("one-limit-for-first-row-only");
+        column.item(if one { 0 } else { row })
     }
 
-    fn element(&self, place: usize) -> Element {
-        let valid = bit(self.elements, place) || is("element-validity-ignored");
-        valid.then(|| self.value(place))
-    }
-
-    fn lists(&self, op: u32) -> Vec<MadeRow> {
-        let mut seen: Vec<Element> = Vec::new();
-        let mut made = Vec::new();
+    fn made_lists(&self) -> Result<Vec<MadeRow>, u32> {
+        if matches!(self.op, RESIZE | RESIZE_WITHOUT_FILL) {
+            self.resize_refusal()?;
+        }
+        let mut seen: Vec<Item> = Vec::new();
+        let mut used = 0;
+        let mut rows = Vec::new();
+        let mut refusals = Vec::new();
         for row in 0..self.row_count() {
-            let valid = bit(self.rows, row);
-            let shown = valid || is("null-row-values-kept");
-            let places: Vec<usize> = if shown { self.range(row).collect() } else { Vec::new() };
-            let empty_pop = is("pop-of-empty-is-null") && op >= 2 && places.is_empty();
-            let places = match op {
-                1 => self.distinct(places, &mut seen),
-                2 | 3 => pop(places, (op == 2) != is("pops-swapped")),
-                _ => reverse(places),
+            match self.list_row(row, &mut seen, &mut used) {
+                Ok(made) => rows.push(made),
+                Err(number) => refusals.push(number),
+            }
+        }
+        let decides = match defect() {
+            "lowest-number-decides" => refusals.iter().min(),
+            "last-bad-row-decides" => refusals.last(),
+            _ => refusals.first(),
+        };
+        decides.map_or(Ok(rows), |number| Err(*number))
+    }
+
+    fn list_row(&self, row: usize, seen: &mut Vec<Item>, used: &mut i64) -> Result<MadeRow, u32> {
+        let valid: Vec<bool> = self.lists.iter().map(|list| list.is_valid(row)).collect();
+        let items = self.lists[0].items(row);
+        let untaken_null = is("untaken-null-gives-null")
+            && self.arguments[taken(self.op)..].iter().any(|one| !one.item(row).valid);
+        if valid.iter().all(|valid| *valid) && !untaken_null {
+            let made = self.valid_row(row, items, seen, used)?;
+            let (valid, items) = (made.is_some(), made.unwrap_or_default());
+            return Ok(MadeRow { valid, items });
+        }
+        let right = || self.lists[1].items(row);
+        let (valid, items) = match (self.op, defect()) {
+            (UNION, "union-null-is-other-side") if valid[0] => (true, distinct(items, &mut vec![])),
+            (UNION, "union-null-is-other-side") if valid[1] => {
+                (true, distinct(right(), &mut vec![]))
+            }
+            (UNION, "union-null-row-is-empty") | (INTERSECT, "intersect-null-row-is-empty") => {
+                (true, Vec::new())
+            }
+            (INTERSECT, "intersect-null-right-keeps-left") if valid[0] => (true, items),
+            (_, "null-row-values-kept") => (false, items),
+            (_, "resize-null-list-is-filled") => {
+                (true, vec![NULL; self.argument(0, row).number.clamp(0, 20) as usize])
+            }
+            (SLICE | SLICE_WITHOUT_STRIDE, "4-for-null-row") => {
+                let arguments: Vec<Item> =
+                    (0..taken(self.op)).map(|at| self.argument(at, row)).collect();
+                let bound = |item: &Item| item.valid && i32::try_from(item.number).is_err();
+                if arguments[..2].iter().any(bound) && arguments.iter().all(|item| item.valid) {
+                    return Err(4);
+                }
+                (false, Vec::new())
+            }
+            _ => (false, Vec::new()),
+        };
+        Ok(MadeRow { valid, items })
+    }
+
+    fn valid_row(
+        &self,
+        row: usize,
+        items: Vec<Item>,
+        seen: &mut Vec<Item>,
+        used: &mut i64,
+    ) -> Outcome {
+        let argument = |at| self.argument(at, row);
+        match self.op {
+            0 => Ok(Some(reverse(items))),
+            1 => Ok(Some(distinct(items, seen))),
+            2 | 3 if items.is_empty() && is("pop-of-empty-is-null") => Ok(None),
+            2 | 3 => Ok(Some(pop(items, (self.op == 2) != is("pops-swapped")))),
+            SLICE => self.slice_row(row, items, Some(argument(2))),
+            SLICE_WITHOUT_STRIDE => self.slice_row(row, items, None),
+            RESIZE if is("resize-fill-of-first-row") => {
+                Ok(resize(items, argument(0), Some(self.argument(1, 0))))
+            }
+            RESIZE => Ok(resize(items, argument(0), Some(argument(1)))),
+            RESIZE_WITHOUT_FILL if is("absent-fill-read-from-second") => {
+                Ok(resize(items, argument(0), Some(argument(1))))
+            }
+            RESIZE_WITHOUT_FILL => Ok(resize(items, argument(0), None)),
+            REPLACE => Ok(replace(items, argument(0), argument(1), argument(2), used)),
+            REMOVE => Ok(remove(items, argument(0), argument(1), used)),
+            UNION => Ok(Some(union(items, self.lists[1].items(row)))),
+            INTERSECT => Ok(Some(intersect(items, self.lists[1].items(row)))),
+            _ => Ok(Some(items)),
+        }
+    }
+
+    // Values.
+
+    fn values(&self) -> Result<Vec<Item>, u32> {
+        let rows = 0..self.row_count();
+        if self.op == ANY_VALUE {
+            return Ok(rows.map(|row| self.any_value(row).unwrap_or(NULL)).collect());
+        }
+        if rows.clone().any(|row| self.refuses_index(row)) {
+            return Err(4);
+        }
+        Ok(rows.map(|row| self.element_at(row).unwrap_or(NULL)).collect())
+    }
+
+    fn any_value(&self, row: usize) -> Option<Item> {
+        let items = self.lists[0].items(row);
+        let mut valid = items.iter().filter(|item| item.valid);
+        let found = match defect() {
+            "any-value-takes-first" => items.first(),
+            "any-value-skips-0" => valid.find(|item| item.number != 0),
+            _ => valid.next(),
+        };
+        found.copied().filter(|_| self.lists[0].is_valid(row))
+    }
+
+    fn refuses_index(&self, row: usize) -> bool {
+        let index = self.arguments[0].item(row);
+        let valid = self.lists[0].is_valid(row) || is("4-for-null-row");
+        let beyond = match defect() {
+            "index-wraps-to-32-bits" => false,
+            "index-smallest-refused" => index.number <= -2147483648 || index.number > 2147483647,
+            "index-largest-refused" => index.number < -2147483648 || index.number >= 2147483647,
+            _ => i32::try_from(index.number).is_err(),
+        };
+        let skipped = is("4-not-over-empty-row") && self.lists[0].range(row).is_empty()
+            || is("4-only-in-first-row") && row > 0;
+        valid && (index.valid || is("4-for-null-argument")) && beyond && !skipped
+    }
+
+    fn element_at(&self, row: usize) -> Option<Item> {
+        let index = self.arguments[0].item(row);
+        if !self.lists[0].is_valid(row) || !index.valid {
+            return None;
+        }
+        let items = self.lists[0].items(row);
+        let place = place_of(items.len() as i64, i64::from(index.number as i32))?;
+        Some(items[place])
+    }
+
+    // Slices.
+
+    fn slice_row(&self, row: usize, items: Vec<Item>, stride: Option<Item>) -> Outcome {
+        let (from, to) = (self.argument(0, row), self.argument(1, row));
+        let length = items.len() as i64;
+        let from = match from.given() {
+            None if is("null-from-is-first") => Some(1),
+            given => given,
+        };
+        let to = match to.given() {
+            None if is("null-to-is-last") => Some(length),
+            given => given,
+        };
+        let stride = match stride {
+            None if is("absent-stride-read-from-third") => self.argument(2, row).given(),
+            None if is("absent-stride-follows-bounds") && from > to => Some(-1),
+            None => Some(1),
+            Some(stride) => match stride.given() {
+                None if is("null-stride-is-1") => Some(1),
+                given => given,
+            },
+        };
+        let (Some(from), Some(to), Some(stride)) = (from, to, stride) else {
+            let beyond = |bound: Option<i64>| bound.is_some_and(is_beyond);
+            return match defect() {
+                "null-argument-of-empty-row-is-empty" if items.is_empty() => Ok(Some(items)),
+                "null-argument-gives-empty" => Ok(Some(Vec::new())),
+                "4-beside-a-null" if beyond(from) || beyond(to) => Err(4),
+                "5-beside-a-null" if stride == Some(0) => Err(5),
+                _ => Ok(None),
             };
-            let elements = self.elements_of(&places, op);
-            let hidden = places.iter().map(|place| self.value(*place)).collect();
-            made.push(MadeRow { valid: valid && !empty_pop, elements, hidden });
+        };
+        if is("slice-of-empty-is-null") && items.is_empty() {
+            return Ok(None);
         }
-        made
-    }
-
-    fn elements_of(&self, places: &[usize], op: u32) -> Vec<Element> {
-        let mut elements: Vec<Element> = places.iter().map(|place| self.element(*place)).collect();
-        if op == 0 && is("reverse-leaves-bits") {
-            let valid: Vec<bool> =
-                places.iter().rev().map(|place| bit(self.elements, *place)).collect();
-            for ((element, valid), place) in elements.iter_mut().zip(valid).zip(places) {
-                *element = valid.then(|| self.value(*place));
+        let mut made = slice(&items, from, to, stride, row)?;
+        if is("slice-bits-from-the-start") {
+            for (item, first) in made.iter_mut().zip(&items) {
+                item.valid = first.valid;
             }
         }
-        elements
+        Ok(Some(made))
     }
 
-    fn same(&self, one: usize, other: usize) -> bool {
-        let (left, right) = (self.element(one), self.element(other));
-        match defect() {
-            "distinct-compares-hidden-numbers" => {
-                left.is_some() == right.is_some() && self.value(one) == self.value(other)
+    // Sums.
+
+    fn resize_refusal(&self) -> Result<(), u32> {
+        let mut sum = 0i128;
+        let mut negative = false;
+        for row in 0..self.row_count() {
+            let count = self.argument(0, row);
+            if !self.lists[0].is_valid(row) && !is("resize-null-lists-counted")
+                || !count.valid && !is("resize-null-counts-counted")
+            {
+                continue;
             }
-            "distinct-null-equals-0" => left.unwrap_or(0) == right.unwrap_or(0),
-            _ => left == right,
-        }
-    }
-
-    fn distinct(&self, mut places: Vec<usize>, seen: &mut Vec<Element>) -> Vec<usize> {
-        if is("distinct-keeps-last") {
-            places.reverse();
-        }
-        let mut kept: Vec<usize> = Vec::new();
-        for place in places {
-            let earlier = if is("distinct-neighbours-only") { kept.len().max(1) - 1 } else { 0 };
-            let known = kept[earlier..].iter().any(|other| self.same(*other, place))
-                || is("distinct-drops-nulls") && self.element(place).is_none()
-                || is("distinct-over-all-rows") && seen.contains(&self.element(place));
-            if !known {
-                kept.push(place);
+            let bad = count.number < 0 || count.number == 0 && is("resize-0-refused");
+            negative |= bad;
+            if bad
+                && !matches!(
+                    defect(),
+                    "resize-negative-is-0" | "resize-8-before-7" | "resize-7-only-at-the-end"
+                )
+            {
+                return Err(7);
             }
-        }
-        if is("distinct-over-all-rows") {
-            seen.extend(kept.iter().map(|place| self.element(*place)));
-        }
-        if is("distinct-keeps-last") {
-            kept.reverse();
-        }
-        kept
-    }
-
-    fn any_values(&self) -> Vec<Element> {
-        let first = |row: usize| {
-            let mut elements = self.range(row).map(|place| self.element(place));
+            sum += i128::from(count.number.max(0));
+            let (past, largest) = (i128::from(u64::MAX), i128::from(i64::MAX));
             match defect() {
-                "any-value-takes-first" => elements.next().flatten(),
-                "any-value-skips-0" => elements.flatten().find(|value| *value != 0),
-                _ => elements.flatten().next(),
+                "resize-running-sum-not-tested" => (),
+                "resize-running-sum-wraps" => sum %= past + 1,
+                "resize-running-sum-to-2-to-the-63" if sum > largest => return Err(8),
+                "resize-running-sum-largest-refused" if sum >= past => return Err(8),
+                "resize-8-at-the-row-past-2147483647" if sum > 2147483647 => return Err(8),
+                _ if sum > past => return Err(8),
+                _ => (),
+            }
+        }
+        let most = match defect() {
+            "resize-8-one-early" => 2147483646,
+            "resize-8-one-late" => 2147483648,
+            _ => 2147483647,
+        };
+        let sum = if is("resize-sum-in-32-bits") { sum % (1 << 32) } else { sum };
+        if negative && is("resize-7-only-at-the-end") {
+            return Err(7);
+        }
+        if sum > most && !is("resize-8-missing") {
+            return Err(8);
+        }
+        if negative && is("resize-8-before-7") {
+            return Err(7);
+        }
+        // No output has room for so many.
+        if sum > 50_000 {
+            return Err(9);
+        }
+        Ok(())
+    }
+
+    /// How often a list is repeated; None for a null count.
+    fn times(&self, row: usize) -> Option<i128> {
+        let times = self.argument(0, row);
+        match times.given() {
+            None if is("repeat-null-count-is-empty") => Some(0),
+            Some(0) if is("repeat-0-is-null") => None,
+            Some(..0) if is("repeat-negative-is-once") => Some(1),
+            Some(1..) if is("repeat-one-list") => Some(1),
+            Some(1..) if is("repeat-one-more") => Some(i128::from(times.number) + 1),
+            given => given.map(|times| i128::from(times.max(0))),
+        }
+    }
+
+    fn repeat_refusal(&self) -> Result<(), u32> {
+        let (mut lists, mut values) = (0i128, 0i128);
+        for row in 0..self.row_count() {
+            let times = self.times(row).unwrap_or(0);
+            let valid = self.lists[0].is_valid(row);
+            if valid || !is("repeat-null-lists-not-in-8") {
+                lists += times;
+            }
+            if valid || is("repeat-8-by-values-of-null-lists") {
+                values += times * self.lists[0].range(row).len() as i128;
+            }
+            match defect() {
+                "repeat-sum-wraps-at-32-bits" => lists %= 1 << 32,
+                "repeat-sum-wraps-at-64-bits" => lists %= 1 << 64,
+                _ => (),
+            }
+        }
+        let most = match defect() {
+            "repeat-8-one-early" => 2147483646,
+            "repeat-8-one-late" => 2147483648,
+            _ => 2147483647,
+        };
+        if lists > most && !is("repeat-8-by-lists-missing")
+            || values > most && !is("repeat-8-by-values-missing")
+        {
+            return Err(8);
+        }
+        // No output has room for so many.
+        if lists > 50_000 || values > 50_000 {
+            return Err(9);
+        }
+        Ok(())
+    }
+
+    fn nested(&self) -> Result<Vec<(bool, Vec<MadeRow>)>, u32> {
+        self.repeat_refusal()?;
+        let outer = |row: usize| {
+            let Some(times) = self.times(row) else {
+                return (false, Vec::new());
+            };
+            let valid = self.lists[0].is_valid(row);
+            let inner = || {
+                let shown = valid || is("repeat-null-list-over-values");
+                let items = if shown { self.lists[0].items(row) } else { Vec::new() };
+                MadeRow { valid: valid || is("repeat-null-list-is-empty"), items }
+            };
+            match defect() {
+                "repeat-null-list-is-null-outer" if !valid => (false, Vec::new()),
+                "repeat-null-list-once" if !valid && times > 0 => (true, vec![inner()]),
+                _ => (true, (0..times.min(50_000)).map(|_| inner()).collect()),
             }
         };
-        (0..self.row_count()).map(|row| bit(self.rows, row).then(|| first(row)).flatten()).collect()
-    }
-
-    fn elements_at(&self, indexes: &Indexes) -> Vec<Element> {
-        let at = |row: usize| {
-            let index = *indexes.values.get(row)?;
-            if !bit(self.rows, row) || !bit(indexes.bits, row) {
-                return None;
-            }
-            let range = self.range(row);
-            let place = place_of(range.len() as i64, i64::from(index as i32))?;
-            self.element(range.start + place)
-        };
-        (0..self.row_count()).map(at).collect()
+        Ok((0..self.row_count()).map(outer).collect())
     }
 }
 
-fn place_of(length: i64, index: i64) -> Option<usize> {
-    let place = match index {
-        0 if is("index-0-is-first") => 0,
-        0 => -1,
-        -1 if is("index-minus-1-is-last-but-one") => length - 2,
-        _ if index > 0 => index - 1,
-        _ if index < -length && is("index-below-minus-length-is-first") => 0,
-        _ => length + index,
-    };
-    usize::try_from(place).ok().filter(|_| place < length)
-}
+// Results.
 
-fn reverse(mut places: Vec<usize>) -> Vec<usize> {
-    if !(places.len() == 2 && is("reverse-of-two-unchanged")) {
-        places.reverse();
-    }
-    places
-}
-
-fn pop(mut places: Vec<usize>, front: bool) -> Vec<usize> {
-    if places.is_empty() || places.len() == 1 && is("pop-keeps-single-element") {
-        return places;
-    }
-    places.remove(if front { 0 } else { places.len() - 1 });
-    places
-}
-
-/// The outputs of a call; a value answer has no offsets and no element bitmap.
+/// The outputs of a call; a value answer has only values and row bits.
 struct Output<'a> {
-    offsets: Option<&'a mut [u8]>,
+    answer: Answer,
+    offsets: &'a mut [u8],
     rows: &'a mut [u8],
+    inner_offsets: &'a mut [u8],
+    inner_rows: &'a mut [u8],
     values: &'a mut [u8],
-    elements: Option<&'a mut [u8]>,
+    elements: &'a mut [u8],
     counts: &'a mut [u8],
 }
 
@@ -574,28 +862,35 @@ fn put_bits(slice: &mut [u8], bits: &[bool], absent: bool) {
     }
 }
 
-fn put_value(slice: &mut [u8], at: usize, element: Element, hidden: i64) {
-    let value = match element {
+fn put_item(slice: &mut [u8], at: usize, item: Item) {
+    let value = match item.given() {
         Some(value) => value,
-        None if is("number-under-null-kept") => hidden,
+        None if is("number-under-null-kept") => item.number,
         None if is("null-slot-keeps-content") => return,
         None => 0,
     };
     put(slice, 8 * at, &value.to_le_bytes());
 }
 
-impl Output<'_> {
-    /// Makes the answer, and writes it if it is accepted and fits.
-    fn answer(&mut self, column: &Column, make: impl Fn(&Output) -> Result<Made, u32>) -> u32 {
-        let number = match make(self) {
-            Ok(made) => self.write(column, made),
-            Err(number) => number,
+fn nulls(valid: &[bool]) -> u64 {
+    let spare = if is("null-count-with-spare-bits") { (8 - valid.len() % 8) % 8 } else { 0 };
+    (valid.iter().filter(|valid| !**valid).count() + spare) as u64
+}
+
+impl<'a> Output<'a> {
+    fn new(answer: Answer, outputs: &'a mut [&mut [u8]], counts: &'a mut [u8]) -> Self {
+        let mut slices: Vec<&mut [u8]> = outputs.iter_mut().map(|slice| &mut **slice).collect();
+        let order: &[usize] = match answer {
+            Answer::Values => &[4, 1],
+            Answer::Lists => &[0, 1, 4, 5],
+            Answer::Nested => &[0, 1, 2, 3, 4, 5],
         };
-        if number != 0 {
-            self.refused(number);
+        let mut all: [&mut [u8]; 6] = Default::default();
+        for (at, slice) in order.iter().zip(slices.drain(..)) {
+            all[*at] = slice;
         }
-        self.stray(column);
-        number
+        let [offsets, rows, inner_offsets, inner_rows, values, elements] = all;
+        Output { answer, offsets, rows, inner_offsets, inner_rows, values, elements, counts }
     }
 
     fn refused(&mut self, number: u32) {
@@ -603,9 +898,7 @@ impl Output<'_> {
             ("refusal-writes-counts", 1..=9) => put(self.counts, 0, &[0; 8]),
             ("refusal-clears-outputs", 1..=9) => self.values.fill(0),
             ("9-writes-offsets", 9) => {
-                if let Some(offsets) = &mut self.offsets {
-                    put(offsets, 0, &[0; 4]);
-                }
+                put(self.offsets, 0, &[0; 4]);
                 put(self.values, 0, &[0; 8]);
             }
             _ => (),
@@ -613,13 +906,14 @@ impl Output<'_> {
     }
 
     /// Writes where nothing was lent for writing; the harness has its own bytes there.
-    fn stray(&mut self, column: &Column) {
+    fn stray(&mut self, call: &Call) {
         static CALLS: std::sync::atomic::AtomicU64 = std::sync::atomic::AtomicU64::new(0);
         let calls = CALLS.fetch_add(1, std::sync::atomic::Ordering::Relaxed);
+        let rows = call.lists[0].rows;
         let target = match defect() {
             "writes-behind-an-output" => self.values.as_mut_ptr_range().end,
             "writes-behind-the-counts" => self.counts.as_mut_ptr_range().end,
-            "writes-an-input" if !column.rows.is_empty() => column.rows.as_ptr().cast_mut(),
+            "writes-an-input" if !rows.is_empty() => rows.as_ptr().cast_mut(),
             "state-between-calls" if calls % 1000 == 999 => {
                 put(self.counts, 0, &[9]);
                 return;
@@ -631,81 +925,149 @@ impl Output<'_> {
         unsafe { *target = (*target).wrapping_add(1) };
     }
 
-    fn write(&mut self, column: &Column, made: Made) -> u32 {
-        match made {
-            Made::Lists(rows) => self.write_lists(column, &rows),
-            Made::Values(values) => self.write_values(&values),
+    fn has_room_for_rows(&self, rows: usize) -> bool {
+        match self.answer {
+            Answer::Values => self.values.len() / 8 >= rows,
+            _ => self.offsets.len() / 4 > rows,
         }
     }
 
-    fn fits(&self, rows: usize, elements: usize, values: usize) -> bool {
-        let more = usize::from(is("exact-room-refused"));
-        let offsets = self.offsets.as_ref().map_or(usize::MAX, |offsets| offsets.len() / 4);
-        let element_bytes = self.elements.as_ref().map_or(usize::MAX, |bytes| bytes.len());
-        let no_rows = rows == 0 && is("no-offset-for-no-rows");
-        (offsets >= rows + 1 + more || no_rows)
-            && (self.rows.len() >= rows.div_ceil(8) || is("short-row-bitmap-accepted"))
-            && (self.values.len() / 8 >= values || is("short-values-accepted"))
-            && (element_bytes >= elements.div_ceil(8) || is("short-element-bitmap-accepted"))
-            && (self.offsets.is_some() || self.values.len() / 8 >= values + more)
+    fn write(&mut self, call: &Call, made: Made) -> u32 {
+        match made {
+            Made::Lists(rows) => self.write_lists(call, &rows),
+            Made::Values(values) => self.write_values(&values),
+            Made::Nested(rows) => self.write_nested(call, &rows),
+        }
     }
 
-    fn write_lists(&mut self, column: &Column, rows: &[MadeRow]) -> u32 {
-        let elements: usize = rows.iter().map(|row| row.elements.len()).sum();
-        let demanded = if is("room-for-input-demanded") { column.values.len() } else { elements };
-        if !self.fits(rows.len(), elements, demanded.max(elements)) {
+    fn rows_fit(&self, rows: usize) -> bool {
+        let more = usize::from(is("exact-room-refused"));
+        let no_rows = rows == 0 && is("no-offset-for-no-rows");
+        (self.offsets.len() / 4 >= rows + 1 + more || no_rows)
+            && (self.rows.len() >= rows.div_ceil(8) || is("short-row-bitmap-accepted"))
+    }
+
+    fn elements_fit(&self, call: &Call, elements: usize) -> bool {
+        let input = call.lists[0].values.len();
+        let values = if is("room-for-input-demanded") { input.max(elements) } else { elements };
+        (self.values.len() / 8 >= values || is("short-values-accepted"))
+            && (self.elements.len() >= elements.div_ceil(8) || is("short-element-bitmap-accepted"))
+    }
+
+    fn inner_rows_fit(&self, rows: usize) -> bool {
+        (self.inner_offsets.len() / 4 > rows || is("short-inner-offsets-accepted"))
+            && (self.inner_rows.len() >= rows.div_ceil(8) || is("short-inner-bitmap-accepted"))
+    }
+
+    /// Writes the elements, and gives how many there are and how many nulls.
+    fn write_items(&mut self, call: &Call, items: &[Item]) -> (u64, u64) {
+        for (at, item) in items.iter().enumerate() {
+            put_item(self.values, at, *item);
+        }
+        let valid: Vec<bool> = items.iter().map(|item| item.valid).collect();
+        put_bits(self.elements, &valid, call.lists[0].elements.is_empty());
+        self.clear_tail(items.len());
+        let nulls = if is("null-elements-not-counted") { 0 } else { nulls(&valid) };
+        (items.len() as u64, nulls)
+    }
+
+    fn write_lists(&mut self, call: &Call, rows: &[MadeRow]) -> u32 {
+        let items: Vec<Item> = rows.iter().flat_map(|row| row.items.iter().copied()).collect();
+        if !self.rows_fit(rows.len()) || !self.elements_fit(call, items.len()) {
             return 9;
         }
-        let mut end = 0;
-        let mut valid_elements = Vec::new();
-        let offsets = self.offsets.take().expect("a list answer has offsets");
-        put(offsets, 0, &[0; 4]);
-        for (at, row) in rows.iter().enumerate() {
-            for (element, hidden) in row.elements.iter().zip(&row.hidden) {
-                put_value(self.values, end, *element, *hidden);
-                valid_elements.push(element.is_some());
-                end += 1;
-            }
-            put(offsets, 4 * (at + 1), &(end as i32).to_le_bytes());
-        }
-        let valid_rows: Vec<bool> = rows.iter().map(|row| row.valid).collect();
-        put_bits(self.rows, &valid_rows, column.rows.is_empty());
-        let out_elements = self.elements.take().expect("a list answer has element bits");
-        put_bits(out_elements, &valid_elements, column.elements.is_empty());
-        self.clear_tail(end);
-        let mut elements = end;
+        put_offsets(self.offsets, rows.iter().map(|row| row.items.len()));
+        let valid: Vec<bool> = rows.iter().map(|row| row.valid).collect();
+        put_bits(self.rows, &valid, call.lists[0].rows.is_empty());
+        let (mut elements, null_elements) = self.write_items(call, &items);
         if is("null-row-values-counted") {
-            let null = |row: &usize| !bit(column.rows, *row);
-            elements +=
-                (0..rows.len()).filter(null).map(|row| column.range(row).len()).sum::<usize>();
+            let null = |row: &usize| !bit(call.lists[0].rows, *row);
+            let hidden = (0..rows.len()).filter(null).map(|row| call.lists[0].range(row).len());
+            elements += hidden.sum::<usize>() as u64;
         }
-        let mut null_rows = nulls(&valid_rows);
+        let mut null_rows = nulls(&valid);
         if is("null-rows-counted-by-offsets") {
-            null_rows = rows.iter().filter(|row| row.elements.is_empty()).count() as u64;
+            null_rows = rows.iter().filter(|row| row.items.is_empty()).count() as u64;
         }
-        let null_elements = nulls(&valid_elements);
-        let null_elements = if is("null-elements-not-counted") { 0 } else { null_elements };
-        self.write_counts(&[rows.len() as u64, elements as u64, null_rows, null_elements]);
+        self.write_counts(&[rows.len() as u64, elements, null_rows, null_elements]);
         0
     }
 
-    fn write_values(&mut self, values: &[Element]) -> u32 {
-        if !self.fits(values.len(), 0, values.len()) {
+    fn write_nested(&mut self, call: &Call, rows: &[(bool, Vec<MadeRow>)]) -> u32 {
+        let inner: Vec<&MadeRow> = rows.iter().flat_map(|(_, lists)| lists).collect();
+        let items: Vec<Item> = inner.iter().flat_map(|row| row.items.iter().copied()).collect();
+        if !self.rows_fit(rows.len())
+            || !self.inner_rows_fit(inner.len())
+            || !self.elements_fit(call, items.len())
+        {
             return 9;
         }
-        for (at, value) in values.iter().enumerate() {
-            put_value(self.values, at, *value, 77);
+        put_offsets(
+            self.offsets,
+            rows.iter().map(|(_, lists)| match defect() {
+                "repeat-outer-offsets-of-values" => lists.iter().map(|row| row.items.len()).sum(),
+                _ => lists.len(),
+            }),
+        );
+        if is("repeat-inner-offsets-start-again") {
+            let mut at = 0;
+            for (_, lists) in rows {
+                put_offsets(
+                    &mut self.inner_offsets[4 * at..],
+                    lists.iter().map(|row| row.items.len()),
+                );
+                at += lists.len();
+            }
+        } else {
+            put_offsets(self.inner_offsets, inner.iter().map(|row| row.items.len()));
         }
-        let valid: Vec<bool> = values.iter().map(Option::is_some).collect();
+        if is("tail-inner-offset-cleared") {
+            put(self.inner_offsets, 4 * (inner.len() + 1), &[0; 4]);
+        }
+        let valid: Vec<bool> = rows.iter().map(|(valid, _)| *valid).collect();
+        let inner_valid: Vec<bool> = inner.iter().map(|row| row.valid).collect();
+        put_bits(self.rows, &valid, call.lists[0].rows.is_empty());
+        if !is("repeat-inner-bits-not-written") {
+            put_bits(self.inner_rows, &inner_valid, call.lists[0].rows.is_empty());
+        }
+        if is("repeat-inner-spare-bits-set") && inner.len() % 8 != 0 {
+            self.inner_rows[inner.len() / 8] |= 0xff << (inner.len() % 8);
+        }
+        let (elements, null_elements) = self.write_items(call, &items);
+        let (null_rows, mut null_inner) = (nulls(&valid), nulls(&inner_valid));
+        if is("repeat-inner-nulls-not-counted") {
+            null_inner = 0;
+        }
+        let null_rows =
+            null_rows + if is("repeat-outer-nulls-with-inner") { null_inner } else { 0 };
+        let (rows, inner) = (rows.len() as u64, inner.len() as u64);
+        let counts = [rows, elements, null_rows, null_elements, inner, null_inner];
+        let swapped = [rows, inner, null_rows, null_inner, elements, null_elements];
+        self.write_counts(if is("repeat-counts-swapped") { &swapped } else { &counts });
+        0
+    }
+
+    fn write_values(&mut self, items: &[Item]) -> u32 {
+        let more = usize::from(is("exact-room-refused"));
+        if self.values.len() / 8 < items.len() + more && !is("short-values-accepted")
+            || self.rows.len() < items.len().div_ceil(8) && !is("short-row-bitmap-accepted")
+        {
+            return 9;
+        }
+        for (at, item) in items.iter().enumerate() {
+            put_item(self.values, at, *item);
+        }
+        let valid: Vec<bool> = items.iter().map(|item| item.valid).collect();
         put_bits(self.rows, &valid, false);
-        self.clear_tail(values.len());
-        self.write_counts(&[values.len() as u64, nulls(&valid)]);
+        self.clear_tail(items.len());
+        self.write_counts(&[items.len() as u64, nulls(&valid)]);
         0
     }
 
     fn clear_tail(&mut self, written: usize) {
         if is("tail-cleared") {
-            self.values[8 * written..].fill(0);
+            let start = self.values.len().min(8 * written);
+            self.values[start..].fill(0);
         }
     }
 
@@ -716,12 +1078,18 @@ impl Output<'_> {
             put(self.counts, 8 * at, &bytes);
         }
         if is("count-tail-cleared") {
-            self.counts[8 * numbers.len()..].fill(0);
+            let start = self.counts.len().min(8 * numbers.len());
+            self.counts[start..].fill(0);
         }
     }
 }
 
-fn nulls(valid: &[bool]) -> u64 {
-    let spare = if is("null-count-with-spare-bits") { (8 - valid.len() % 8) % 8 } else { 0 };
-    (valid.iter().filter(|valid| !**valid).count() + spare) as u64
+/// Offsets from 0 for rows of these lengths.
+fn put_offsets(slice: &mut [u8], lengths: impl Iterator<Item = usize>) {
+    let mut end = 0;
+    put(slice, 0, &[0; 4]);
+    for (at, length) in lengths.enumerate() {
+        end += length as i32;
+        put(slice, 4 * (at + 1), &end.to_le_bytes());
+    }
 }

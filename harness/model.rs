@@ -1,8 +1,9 @@
 //! An independent reading of document 01, row by row: which rows a column shows, when a call is
-//! refused, what each row becomes, and the form of the result. Plain and slow on purpose.
+//! refused, what each row becomes, and the form of the result. Plain and slow on purpose; sums are
+//! taken in 128 bits.
 //!
-//! An operation is added by a variant of `Operation`, an arm of `rows_made` and the function that
-//! says what one row becomes.
+//! An operation is added by a variant of `Operation`, its columns and refusals, an arm of `make`
+//! or of the row functions, and the function that says what one row becomes.
 
 /// A value, or None for a null.
 pub type Element = Option<i64>;
@@ -21,6 +22,59 @@ pub enum Operation {
     PopBack,
     AnyValue,
     Element,
+    Union,
+    Intersect,
+    Slice,
+    SliceWithoutStride,
+    Resize,
+    ResizeWithoutFill,
+    Replace,
+    Remove,
+    ListRepeat,
+}
+
+/// What an argument column is to its operation; `Old` is the element that replace and remove look
+/// for, `New` the one that replace puts in its place.
+#[derive(Clone, Copy, PartialEq, Eq, Debug)]
+pub enum Role {
+    Index,
+    From,
+    To,
+    Stride,
+    Count,
+    Fill,
+    Old,
+    New,
+    Limit,
+    Times,
+}
+
+impl Operation {
+    /// The argument columns, in their order.
+    pub fn roles(self) -> &'static [Role] {
+        match self {
+            Operation::Element => &[Role::Index],
+            Operation::Slice => &[Role::From, Role::To, Role::Stride],
+            Operation::SliceWithoutStride => &[Role::From, Role::To],
+            Operation::Resize => &[Role::Count, Role::Fill],
+            Operation::ResizeWithoutFill => &[Role::Count],
+            Operation::Replace => &[Role::Old, Role::New, Role::Limit],
+            Operation::Remove => &[Role::Old, Role::Limit],
+            Operation::ListRepeat => &[Role::Times],
+            _ => &[],
+        }
+    }
+
+    /// The refusals that the operation gives after 3 and before 9.
+    pub fn refusals(self) -> &'static [Refusal] {
+        match self {
+            Operation::Element | Operation::SliceWithoutStride => &[4],
+            Operation::Slice => &[4, 5, 6],
+            Operation::Union | Operation::ListRepeat => &[8],
+            Operation::Resize | Operation::ResizeWithoutFill => &[7, 8],
+            _ => &[],
+        }
+    }
 }
 
 /// A list column as it is lent.
@@ -39,11 +93,21 @@ pub struct ArgumentColumn {
     pub bits: Vec<u8>,
 }
 
+/// What the columns of a call show: the rows of each list, the values of each argument column.
+#[derive(Clone, Debug, Default)]
+pub struct Shown {
+    pub lists: Vec<Vec<Row>>,
+    pub arguments: Vec<Vec<Element>>,
+}
+
 /// The rows that an operation makes.
 #[derive(Clone, Debug, PartialEq)]
 pub enum Made {
     Lists(Vec<Row>),
     Values(Vec<Element>),
+    ListsOfLists(Vec<Option<Vec<Row>>>),
+    /// Rows too long to be held here: the slots that each slice of the result takes.
+    TooLong(Vec<u64>),
 }
 
 /// One slice of a result, as slots.
@@ -61,15 +125,14 @@ pub struct ResultForm {
     pub counts: Vec<u64>,
 }
 
-impl Slots {
-    pub fn len(&self) -> usize {
-        match self {
-            Slots::Offsets(slots) => slots.len(),
-            Slots::Bits(slots) => slots.len(),
-            Slots::Values(slots) => slots.len(),
-        }
-    }
-}
+/// The most elements of a list answer, and the most lists inside one.
+const MOST_ELEMENTS: u128 = 2147483647;
+
+/// The largest running sum of resize's counts.
+const MOST_RUNNING_SUM: u128 = 18446744073709551615;
+
+/// Results of more elements than this are measured, and not made.
+const MOST_HELD: u128 = 100_000;
 
 // What a column shows.
 
@@ -111,6 +174,13 @@ pub fn shown_arguments(column: &ArgumentColumn) -> Vec<Element> {
     (0..column.values.len()).map(|row| shown_value(&column.values, &column.bits, row)).collect()
 }
 
+pub fn shown(lists: &[ListColumn], arguments: &[ArgumentColumn]) -> Shown {
+    Shown {
+        lists: lists.iter().map(shown_rows).collect(),
+        arguments: arguments.iter().map(shown_arguments).collect(),
+    }
+}
+
 // Refusals 1, 2, 3, which every operation gives first.
 
 /// Condition of 1: offsets empty, first negative, any falling, or last beyond the values.
@@ -124,7 +194,7 @@ fn has_bad_offsets(column: &ListColumn) -> bool {
 }
 
 /// A non-empty bitmap with fewer bits than positions.
-fn is_too_short(bitmap: &[u8], positions: usize) -> bool {
+pub fn is_too_short(bitmap: &[u8], positions: usize) -> bool {
     !bitmap.is_empty() && bitmap.len() < bitmap_bytes(positions)
 }
 
@@ -134,8 +204,20 @@ fn has_short_bitmap(column: &ListColumn) -> bool {
         || is_too_short(&column.elements, column.values.len())
 }
 
+/// Whether an argument column of this many values goes with this many rows: a limit column may
+/// have one, used for all.
+fn suits(role: Role, values: usize, rows: usize) -> bool {
+    values == rows || role == Role::Limit && values == 1
+}
+
 /// The refusal that the columns alone give: 1 over all lists, then 2 over all columns, then 3.
-fn column_refusal(lists: &[ListColumn], arguments: &[ArgumentColumn]) -> Option<Refusal> {
+pub fn column_refusal(
+    operation: Operation,
+    lists: &[ListColumn],
+    arguments: &[ArgumentColumn],
+) -> Option<Refusal> {
+    let roles = operation.roles();
+    assert_eq!(roles.len(), arguments.len(), "the columns that the operation takes");
     if lists.iter().any(has_bad_offsets) {
         return Some(1);
     }
@@ -146,8 +228,8 @@ fn column_refusal(lists: &[ListColumn], arguments: &[ArgumentColumn]) -> Option<
     }
     let rows = lists[0].offsets.len() - 1;
     let unequal_list = lists.iter().any(|one| one.offsets.len() - 1 != rows);
-    let unequal_argument = arguments.iter().any(|one| one.values.len() != rows);
-    if unequal_list || unequal_argument {
+    let mut arguments = roles.iter().zip(arguments);
+    if unequal_list || arguments.any(|(role, one)| !suits(*role, one.values.len(), rows)) {
         return Some(3);
     }
     None
@@ -183,42 +265,275 @@ fn any_value(row: &[Element]) -> Element {
     row.iter().copied().find(|element| element.is_some()).flatten()
 }
 
-/// 1 is first, -1 last; 0 or outside gives null.
-fn element(row: &[Element], index: i32) -> Element {
+fn fits_32_bits(number: i64) -> bool {
+    (-2147483648..=2147483647).contains(&number)
+}
+
+/// 1 is first, -1 last; 0 or outside gives null; 4 for an index that does not fit 32 signed bits,
+/// even over an empty row.
+fn element(row: &[Element], index: i64) -> Result<Element, Refusal> {
     let length = row.len() as i64;
-    let index = i64::from(index);
+    if !fits_32_bits(index) {
+        return Err(4);
+    }
     if 1 <= index && index <= length {
-        row[(index - 1) as usize]
+        Ok(row[(index - 1) as usize])
     } else if -length <= index && index <= -1 {
-        row[(length + index) as usize]
+        Ok(row[(length + index) as usize])
     } else {
-        None
+        Ok(None)
     }
 }
 
-fn each_list(rows: &[Row], becomes: fn(&[Element]) -> Vec<Element>) -> Made {
-    Made::Lists(rows.iter().map(|row| row.as_deref().map(becomes)).collect())
+/// Distinct of left then right.
+fn union(left: &[Element], right: &[Element]) -> Vec<Element> {
+    distinct(&[left, right].concat())
 }
 
-fn each_value(rows: &[Row], becomes: fn(&[Element]) -> Element) -> Made {
-    Made::Values(rows.iter().map(|row| row.as_deref().and_then(becomes)).collect())
+/// The longer row is walked, the left one on equal lengths; each common value once.
+fn intersect(left: &[Element], right: &[Element]) -> Vec<Element> {
+    let (walked, other) = if right.len() > left.len() { (right, left) } else { (left, right) };
+    let common: Vec<Element> = walked.iter().copied().filter(|one| other.contains(one)).collect();
+    distinct(&common)
 }
 
-/// A null list or index gives null; 4 if both are valid and the index does not fit 32 signed bits,
-/// even over an empty row.
-fn element_of_each(rows: &[Row], indexes: &[Element]) -> Result<Made, Refusal> {
+/// The places of a from and a to, counted from 1 and perhaps outside the row: from 0 is the first
+/// place, and so is a from below minus the length; a to past the end is the last place; other
+/// negative bounds count from the end.
+fn bound_places(length: i64, from: i64, to: i64) -> (i64, i64) {
+    let first = if from == 0 || from < -length {
+        1
+    } else if from < 0 {
+        length + 1 + from
+    } else {
+        from
+    };
+    let last = if to > length {
+        length
+    } else if to < 0 {
+        length + 1 + to
+    } else {
+        to
+    };
+    (first, last)
+}
+
+/// The elements from one bound to the other, both included.
+fn slice(row: &[Element], from: i64, to: i64, stride: i64) -> Result<Vec<Element>, Refusal> {
+    if row.is_empty() {
+        return Ok(Vec::new());
+    }
+    if !fits_32_bits(from) {
+        return Err(4);
+    }
+    if !fits_32_bits(to) {
+        return Err(4);
+    }
+    let length = row.len() as i64;
+    let (first, last) = bound_places(length, from, to);
+    let is_outside = |place: i64| place < 1 || length < place;
+    if is_outside(first) || is_outside(last) {
+        return Ok(Vec::new());
+    }
+    if stride == 0 {
+        return Err(5);
+    }
+    if stride > 0 && first > last || stride < 0 && first < last {
+        return Ok(Vec::new());
+    }
+    if !fits_32_bits(stride) {
+        return Err(6);
+    }
     let mut made = Vec::new();
-    for (row, index) in rows.iter().zip(indexes) {
-        let (Some(row), Some(index)) = (row, index) else {
-            made.push(None);
+    let mut place = first;
+    while first.min(last) <= place && place <= first.max(last) {
+        made.push(row[place as usize - 1]);
+        place += stride;
+    }
+    assert_eq!(made.len() as i64, (last - first).abs() / stride.abs() + 1, "places of a slice");
+    Ok(made)
+}
+
+/// Cut, or filled.
+fn resize(row: &[Element], count: i64, fill: Element) -> Vec<Element> {
+    (0..count as usize).map(|place| row.get(place).copied().unwrap_or(fill)).collect()
+}
+
+/// The first matches become another; null matches null.
+fn replace(row: &[Element], old: Element, new: Element, limit: i64) -> Vec<Element> {
+    let mut left = limit;
+    let mut made = Vec::new();
+    for element in row {
+        if left > 0 && *element == old {
+            made.push(new);
+            left -= 1;
+        } else {
+            made.push(*element);
+        }
+    }
+    made
+}
+
+/// The row without the first matches.
+fn remove(row: &[Element], old: i64, limit: i64) -> Vec<Element> {
+    let mut left = limit;
+    let mut made = Vec::new();
+    for element in row {
+        if left > 0 && *element == Some(old) {
+            left -= 1;
+        } else {
+            made.push(*element);
+        }
+    }
+    made
+}
+
+/// What the rows of the lists become beside one value of each argument column. A null list gives
+/// null, and so does a null argument, but for a fill and for old and new of replace.
+fn list_row(operation: Operation, rows: &[&Row], arguments: &[Element]) -> Result<Row, Refusal> {
+    let Some(row) = rows[0] else {
+        return Ok(None);
+    };
+    let made = match (operation, arguments) {
+        (Operation::Reverse, []) => reverse(row),
+        (Operation::Distinct, []) => distinct(row),
+        (Operation::PopFront, []) => pop_front(row),
+        (Operation::PopBack, []) => pop_back(row),
+        (Operation::Union, []) => return Ok(rows[1].as_ref().map(|right| union(row, right))),
+        (Operation::Intersect, []) => {
+            return Ok(rows[1].as_ref().map(|right| intersect(row, right)));
+        }
+        (Operation::Slice, [Some(from), Some(to), Some(stride)]) => {
+            slice(row, *from, *to, *stride)?
+        }
+        (Operation::SliceWithoutStride, [Some(from), Some(to)]) => slice(row, *from, *to, 1)?,
+        (Operation::Resize, [Some(count), fill]) => resize(row, *count, *fill),
+        (Operation::ResizeWithoutFill, [Some(count)]) => resize(row, *count, None),
+        (Operation::Replace, [old, new, Some(limit)]) => replace(row, *old, *new, *limit),
+        (Operation::Remove, [Some(old), Some(limit)]) => remove(row, *old, *limit),
+        _ => return Ok(None),
+    };
+    Ok(Some(made))
+}
+
+fn value_row(operation: Operation, row: &Row, arguments: &[Element]) -> Result<Element, Refusal> {
+    match (operation, row, arguments) {
+        (Operation::AnyValue, Some(row), []) => Ok(any_value(row)),
+        (Operation::Element, Some(row), [Some(index)]) => element(row, *index),
+        _ => Ok(None),
+    }
+}
+
+/// The arguments of one row; a column of one value holds for every row.
+fn row_arguments(shown: &Shown, row: usize) -> Vec<Element> {
+    let value = |column: &Vec<Element>| if column.len() == 1 { column[0] } else { column[row] };
+    shown.arguments.iter().map(value).collect()
+}
+
+/// Every row in turn: the first bad one decides.
+fn each_list(operation: Operation, shown: &Shown) -> Result<Vec<Row>, Refusal> {
+    let rows = 0..shown.lists[0].len();
+    rows.map(|row| {
+        let rows: Vec<&Row> = shown.lists.iter().map(|list| &list[row]).collect();
+        list_row(operation, &rows, &row_arguments(shown, row))
+    })
+    .collect()
+}
+
+fn each_value(operation: Operation, shown: &Shown) -> Result<Vec<Element>, Refusal> {
+    let rows = shown.lists[0].iter().enumerate();
+    rows.map(|(at, row)| value_row(operation, row, &row_arguments(shown, at))).collect()
+}
+
+fn elements_in(rows: &[Row]) -> u128 {
+    rows.iter().flatten().map(|row| row.len() as u128).sum()
+}
+
+/// 8 if the result exceeds 2147483647 elements.
+fn union_of_each(shown: &Shown) -> Result<Made, Refusal> {
+    let rows = each_list(Operation::Union, shown)?;
+    if elements_in(&rows) > MOST_ELEMENTS {
+        return Err(8);
+    }
+    Ok(Made::Lists(rows))
+}
+
+/// The sum of the counts over rows with list and count valid: 7 at a negative count, or 8 where
+/// the running sum passes its largest, whichever row comes first; then 8 if the sum is too large.
+fn resized_elements(shown: &Shown) -> Result<u128, Refusal> {
+    let mut sum = 0;
+    for (row, count) in shown.lists[0].iter().zip(&shown.arguments[0]) {
+        let (Some(_), Some(count)) = (row, count) else {
             continue;
         };
-        let Ok(index) = i32::try_from(*index) else {
-            return Err(4);
+        let Ok(count) = u128::try_from(*count) else {
+            return Err(7);
         };
-        made.push(element(row, index));
+        sum += count;
+        if sum > MOST_RUNNING_SUM {
+            return Err(8);
+        }
     }
-    Ok(Made::Values(made))
+    if sum > MOST_ELEMENTS {
+        return Err(8);
+    }
+    Ok(sum)
+}
+
+fn resize_of_each(operation: Operation, shown: &Shown) -> Result<Made, Refusal> {
+    let elements = resized_elements(shown)?;
+    if elements > MOST_HELD {
+        return Ok(Made::TooLong(list_slots(shown.lists[0].len() as u128, elements)));
+    }
+    each_list(operation, shown).map(Made::Lists)
+}
+
+/// A null count gives null, 0 or less an empty outer row; a null list repeats as null lists of no
+/// values. 8 if the lists in all outer rows, or the values they repeat, are too many.
+fn list_repeat(shown: &Shown) -> Result<Made, Refusal> {
+    let (rows, times) = (&shown.lists[0], &shown.arguments[0]);
+    let (mut inner_rows, mut elements) = (0, 0);
+    for (row, times) in rows.iter().zip(times) {
+        let times = times.unwrap_or(0).max(0) as u128;
+        inner_rows += times;
+        elements += times * row.as_ref().map_or(0, |row| row.len() as u128);
+    }
+    if inner_rows > MOST_ELEMENTS || elements > MOST_ELEMENTS {
+        return Err(8);
+    }
+    if inner_rows > MOST_HELD || elements > MOST_HELD {
+        let outer = &list_slots(rows.len() as u128, 0)[..2];
+        return Ok(Made::TooLong([outer, &list_slots(inner_rows, elements)].concat()));
+    }
+    let repeat = |(row, times): (&Row, &Element)| {
+        times.map(|times| vec![row.clone(); times.max(0) as usize])
+    };
+    Ok(Made::ListsOfLists(rows.iter().zip(times).map(repeat).collect()))
+}
+
+/// The rows that an operation makes of well-formed columns of equally many rows, or the refusal
+/// that comes after 3 and before 9.
+pub fn make(operation: Operation, shown: &Shown) -> Result<Made, Refusal> {
+    match operation {
+        Operation::AnyValue | Operation::Element => each_value(operation, shown).map(Made::Values),
+        Operation::Union => union_of_each(shown),
+        Operation::Resize | Operation::ResizeWithoutFill => resize_of_each(operation, shown),
+        Operation::ListRepeat => list_repeat(shown),
+        _ => each_list(operation, shown).map(Made::Lists),
+    }
+}
+
+/// The same for columns of one row.
+pub fn make_row(
+    operation: Operation,
+    rows: &[&Row],
+    arguments: &[Element],
+) -> Result<Made, Refusal> {
+    let shown = Shown {
+        lists: rows.iter().map(|row| vec![(*row).clone()]).collect(),
+        arguments: arguments.iter().map(|argument| vec![*argument]).collect(),
+    };
+    make(operation, &shown)
 }
 
 /// The rows that a call makes, or the refusal that comes before 9.
@@ -227,17 +542,9 @@ pub fn rows_made(
     lists: &[ListColumn],
     arguments: &[ArgumentColumn],
 ) -> Result<Made, Refusal> {
-    if let Some(number) = column_refusal(lists, arguments) {
-        return Err(number);
-    }
-    let rows = shown_rows(&lists[0]);
-    match operation {
-        Operation::Reverse => Ok(each_list(&rows, reverse)),
-        Operation::Distinct => Ok(each_list(&rows, distinct)),
-        Operation::PopFront => Ok(each_list(&rows, pop_front)),
-        Operation::PopBack => Ok(each_list(&rows, pop_back)),
-        Operation::AnyValue => Ok(each_value(&rows, any_value)),
-        Operation::Element => element_of_each(&rows, &shown_arguments(&arguments[0])),
+    match column_refusal(operation, lists, arguments) {
+        Some(number) => Err(number),
+        None => make(operation, &shown(lists, arguments)),
     }
 }
 
@@ -261,46 +568,86 @@ fn nulls<T>(items: &[Option<T>]) -> u64 {
     items.iter().filter(|item| item.is_none()).count() as u64
 }
 
-/// Offsets from 0, null rows empty, 0 under null elements; the counts are those of the rows.
-fn list_form(rows: &[Row]) -> ResultForm {
+/// Offsets from 0, null rows empty, and all that the rows hold, one after another.
+fn laid_out<T: Clone>(rows: &[Option<Vec<T>>]) -> ([Slots; 2], Vec<T>) {
     let mut offsets = vec![0];
-    let mut elements: Vec<Element> = Vec::new();
+    let mut items: Vec<T> = Vec::new();
     for row in rows {
-        elements.extend(row.iter().flatten());
-        offsets.push(elements.len() as i32);
+        items.extend(row.iter().flatten().cloned());
+        offsets.push(items.len() as i32);
     }
+    let bits = bitmap_of(rows.iter().map(Option::is_some));
+    ([Slots::Offsets(offsets), Slots::Bits(bits)], items)
+}
+
+/// 0 under nulls.
+fn elements_laid_out(elements: &[Element]) -> [Slots; 2] {
+    let values = elements.iter().map(|element| element.unwrap_or(0)).collect();
+    [Slots::Values(values), Slots::Bits(bitmap_of(elements.iter().map(Option::is_some)))]
+}
+
+/// The counts are those of the rows.
+fn list_form(rows: &[Row]) -> ResultForm {
+    let (row_slices, elements) = laid_out(rows);
     ResultForm {
         counts: vec![rows.len() as u64, elements.len() as u64, nulls(rows), nulls(&elements)],
-        slices: vec![
-            Slots::Offsets(offsets),
-            Slots::Bits(bitmap_of(rows.iter().map(Option::is_some))),
-            Slots::Values(elements.iter().map(|element| element.unwrap_or(0)).collect()),
-            Slots::Bits(bitmap_of(elements.iter().map(Option::is_some))),
-        ],
+        slices: row_slices.into_iter().chain(elements_laid_out(&elements)).collect(),
     }
 }
 
-/// 0 in null slots; the counts are those of the slots.
+/// The counts are those of the slots.
 fn value_form(values: &[Element]) -> ResultForm {
     ResultForm {
         counts: vec![values.len() as u64, nulls(values)],
-        slices: vec![
-            Slots::Values(values.iter().map(|value| value.unwrap_or(0)).collect()),
-            Slots::Bits(bitmap_of(values.iter().map(Option::is_some))),
-        ],
+        slices: elements_laid_out(values).to_vec(),
     }
 }
 
-pub fn result_form(made: &Made) -> ResultForm {
+/// The outer rows before the lists in them; the counts of a list answer, then those of the lists.
+fn list_of_lists_form(rows: &[Option<Vec<Row>>]) -> ResultForm {
+    let (row_slices, inner_rows) = laid_out(rows);
+    let inner = list_form(&inner_rows);
+    let [inner_count, elements, null_inner_rows, null_elements] = inner.counts[..] else {
+        panic!("a list answer has four counts");
+    };
+    let outer = [rows.len() as u64, elements, nulls(rows), null_elements];
+    ResultForm {
+        counts: [&outer[..], &[inner_count, null_inner_rows]].concat(),
+        slices: row_slices.into_iter().chain(inner.slices).collect(),
+    }
+}
+
+fn result_form(made: &Made) -> ResultForm {
     match made {
         Made::Lists(rows) => list_form(rows),
         Made::Values(values) => value_form(values),
+        Made::ListsOfLists(rows) => list_of_lists_form(rows),
+        Made::TooLong(_) => panic!("no slice that is lent is long enough for this result"),
     }
 }
 
-/// Whether each output slice, of the given slots, is long enough for the result.
-fn fits(form: &ResultForm, lengths: &[usize]) -> bool {
-    form.slices.iter().zip(lengths).all(|(slice, length)| slice.len() <= *length)
+fn bitmap_slots(positions: u128) -> u128 {
+    positions / 8 + u128::from(positions % 8 != 0)
+}
+
+fn list_slots(rows: u128, elements: u128) -> Vec<u64> {
+    let slots = [rows + 1, bitmap_slots(rows), elements, bitmap_slots(elements)];
+    slots.map(|slots| slots as u64).to_vec()
+}
+
+/// The slots that each slice of the result takes.
+pub fn slots_needed(made: &Made) -> Vec<u64> {
+    match made {
+        Made::Lists(rows) => list_slots(rows.len() as u128, elements_in(rows)),
+        Made::Values(values) => list_slots(0, values.len() as u128)[2..].to_vec(),
+        Made::ListsOfLists(rows) => {
+            let inner_rows: Vec<Row> = rows.iter().flatten().flatten().cloned().collect();
+            let outer = &list_slots(rows.len() as u128, 0)[..2];
+            let inner = list_slots(inner_rows.len() as u128, elements_in(&inner_rows));
+            [outer, &inner].concat()
+        }
+        Made::TooLong(slots) => slots.clone(),
+    }
 }
 
 /// The whole call: the result that is written, or the refusal; 9 comes last.
@@ -310,9 +657,10 @@ pub fn outcome(
     arguments: &[ArgumentColumn],
     lengths: &[usize],
 ) -> Result<ResultForm, Refusal> {
-    let form = result_form(&rows_made(operation, lists, arguments)?);
-    if fits(&form, lengths) {
-        Ok(form)
+    let made = rows_made(operation, lists, arguments)?;
+    let mut slices = slots_needed(&made).into_iter().zip(lengths);
+    if slices.all(|(needed, lent)| needed <= *lent as u64) {
+        Ok(result_form(&made))
     } else {
         Err(9)
     }

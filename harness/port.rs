@@ -4,184 +4,93 @@
 //! but that each pointer may be read, or written, for its length and that no output overlaps
 //! another slice. Rust's borrow rules give both: a `&mut [u8]` overlaps no other borrow.
 
-#![allow(clippy::too_many_arguments)]
+#[cfg(mock)]
+pub use crate::mock::LIBRARY;
 
+#[cfg(not(mock))]
 use crate::library::Library;
 
-pub const LIBRARY: Library = Library { list, any_value, element };
-
+/// The safe function of an entry: the code, if it takes one, then the names of its input slices,
+/// then those of its output slices; the counts come last.
 #[cfg(not(mock))]
-mod archive {
-    #[link(name = "duthlan", kind = "static")]
-    extern "C" {
-        pub fn duthlan_list(
-            op: u32,
-            offsets: *const u8,
-            offsets_length: usize,
-            rows: *const u8,
-            rows_length: usize,
-            values: *const u8,
-            values_length: usize,
-            elements: *const u8,
-            elements_length: usize,
-            out_offsets: *mut u8,
-            out_offsets_length: usize,
-            out_rows: *mut u8,
-            out_rows_length: usize,
-            out_values: *mut u8,
-            out_values_length: usize,
-            out_elements: *mut u8,
-            out_elements_length: usize,
-            counts: *mut u8,
-            counts_length: usize,
-        ) -> u32;
-
-        pub fn duthlan_any_value(
-            offsets: *const u8,
-            offsets_length: usize,
-            rows: *const u8,
-            rows_length: usize,
-            values: *const u8,
-            values_length: usize,
-            elements: *const u8,
-            elements_length: usize,
-            out_values: *mut u8,
-            out_values_length: usize,
-            out_rows: *mut u8,
-            out_rows_length: usize,
-            counts: *mut u8,
-            counts_length: usize,
-        ) -> u32;
-
-        pub fn duthlan_element(
-            offsets: *const u8,
-            offsets_length: usize,
-            rows: *const u8,
-            rows_length: usize,
-            values: *const u8,
-            values_length: usize,
-            elements: *const u8,
-            elements_length: usize,
-            indexes: *const u8,
-            indexes_length: usize,
-            index_bits: *const u8,
-            index_bits_length: usize,
-            out_values: *mut u8,
-            out_values_length: usize,
-            out_rows: *mut u8,
-            out_rows_length: usize,
-            counts: *mut u8,
-            counts_length: usize,
-        ) -> u32;
-    }
+macro_rules! entry {
+    (list) => {
+        entry! { list = duthlan_list (op)
+            [offsets rows values elements]
+            [out_offsets out_rows out_values out_elements] }
+    };
+    (any_value) => {
+        entry! { any_value = duthlan_any_value ()
+            [offsets rows values elements]
+            [out_values out_rows] }
+    };
+    (element) => {
+        entry! { element = duthlan_element ()
+            [offsets rows values elements indexes index_bits]
+            [out_values out_rows] }
+    };
+    (lists) => {
+        entry! { lists = duthlan_lists (op)
+            [offsets rows values elements right_offsets right_rows right_values right_elements]
+            [out_offsets out_rows out_values out_elements] }
+    };
+    (list_with) => {
+        entry! { list_with = duthlan_list_with (op)
+            [offsets rows values elements first first_bits second second_bits third third_bits]
+            [out_offsets out_rows out_values out_elements] }
+    };
+    (list_repeat) => {
+        entry! { list_repeat = duthlan_list_repeat ()
+            [offsets rows values elements times times_bits]
+            [out_offsets out_rows inner_offsets inner_rows out_values out_elements] }
+    };
+    ($name:ident = $symbol:ident ($($code:ident)?) [$($input:ident)+] [$($output:ident)+]) => {
+        fn $name(
+            $($code: u32,)?
+            [$($input),+]: [&[u8]; [$(stringify!($input)),+].len()],
+            [$($output),+]: [&mut [u8]; [$(stringify!($output)),+].len()],
+            counts: &mut [u8],
+        ) -> u32 {
+            extern "C" {
+                fn $symbol(
+                    $($code: u32,)?
+                    $($input: *const u8, _: usize,)+
+                    $($output: *mut u8, _: usize,)+
+                    counts: *mut u8, _: usize,
+                ) -> u32;
+            }
+            // Sound: each pointer and length come from one slice, and no mutable slice overlaps
+            // another.
+            unsafe {
+                $symbol(
+                    $($code,)?
+                    $($input.as_ptr(), $input.len(),)+
+                    $($output.as_mut_ptr(), $output.len(),)+
+                    counts.as_mut_ptr(), counts.len(),
+                )
+            }
+        }
+    };
 }
 
-#[cfg(mock)]
-use crate::mock::{any_value, element, list};
-
+/// Declares the entries and makes a library of them.
 #[cfg(not(mock))]
-fn list(
-    op: u32,
-    offsets: &[u8],
-    rows: &[u8],
-    values: &[u8],
-    elements: &[u8],
-    out_offsets: &mut [u8],
-    out_rows: &mut [u8],
-    out_values: &mut [u8],
-    out_elements: &mut [u8],
-    counts: &mut [u8],
-) -> u32 {
-    // Sound: each pointer and length come from one slice, and no mutable slice overlaps another.
-    unsafe {
-        archive::duthlan_list(
-            op,
-            offsets.as_ptr(),
-            offsets.len(),
-            rows.as_ptr(),
-            rows.len(),
-            values.as_ptr(),
-            values.len(),
-            elements.as_ptr(),
-            elements.len(),
-            out_offsets.as_mut_ptr(),
-            out_offsets.len(),
-            out_rows.as_mut_ptr(),
-            out_rows.len(),
-            out_values.as_mut_ptr(),
-            out_values.len(),
-            out_elements.as_mut_ptr(),
-            out_elements.len(),
-            counts.as_mut_ptr(),
-            counts.len(),
-        )
-    }
+macro_rules! archive {
+    ($($name:ident)+) => {
+        #[link(name = "duthlan", kind = "static")]
+        extern "C" {}
+
+        $(entry! { $name })+
+
+        pub const LIBRARY: Library = Library { $($name: Some($name),)+ ..Library::EMPTY };
+    };
 }
 
+// The entries that the archive has. Only these are declared and linked; the groups of the others
+// are not run.
 #[cfg(not(mock))]
-fn any_value(
-    offsets: &[u8],
-    rows: &[u8],
-    values: &[u8],
-    elements: &[u8],
-    out_values: &mut [u8],
-    out_rows: &mut [u8],
-    counts: &mut [u8],
-) -> u32 {
-    // Sound: as in `list`.
-    unsafe {
-        archive::duthlan_any_value(
-            offsets.as_ptr(),
-            offsets.len(),
-            rows.as_ptr(),
-            rows.len(),
-            values.as_ptr(),
-            values.len(),
-            elements.as_ptr(),
-            elements.len(),
-            out_values.as_mut_ptr(),
-            out_values.len(),
-            out_rows.as_mut_ptr(),
-            out_rows.len(),
-            counts.as_mut_ptr(),
-            counts.len(),
-        )
-    }
-}
-
-#[cfg(not(mock))]
-fn element(
-    offsets: &[u8],
-    rows: &[u8],
-    values: &[u8],
-    elements: &[u8],
-    indexes: &[u8],
-    index_bits: &[u8],
-    out_values: &mut [u8],
-    out_rows: &mut [u8],
-    counts: &mut [u8],
-) -> u32 {
-    // Sound: as in `list`.
-    unsafe {
-        archive::duthlan_element(
-            offsets.as_ptr(),
-            offsets.len(),
-            rows.as_ptr(),
-            rows.len(),
-            values.as_ptr(),
-            values.len(),
-            elements.as_ptr(),
-            elements.len(),
-            indexes.as_ptr(),
-            indexes.len(),
-            index_bits.as_ptr(),
-            index_bits.len(),
-            out_values.as_mut_ptr(),
-            out_values.len(),
-            out_rows.as_mut_ptr(),
-            out_rows.len(),
-            counts.as_mut_ptr(),
-            counts.len(),
-        )
-    }
+archive! {
+    list
+    any_value
+    element
 }

@@ -1,16 +1,427 @@
-//! Worked cases with their results written out by hand: the cases of document 01 for these
-//! operations, and boundary inputs. They check the model as well as the library.
+//! Worked cases with their results written out by hand: the cases of document 01, and boundary
+//! inputs. They check the model as well as the library.
+//!
+//! Rows are written as document 01 writes them: `-` or `null` is a null, and `null(8,8)` is a null
+//! row that lies over values.
 
 use crate::compare::{Checker, Observed};
 use crate::entry::{encode_i32, encode_i64, Entry, Input};
 use crate::generate::{lend, Room};
-use crate::model::{ArgumentColumn, ListColumn};
+use crate::model::{ArgumentColumn, ListColumn, Operation};
 use crate::rng::Rng;
 
-const REVERSE: Entry = Entry::List(0);
-const DISTINCT: Entry = Entry::List(1);
-const POP_FRONT: Entry = Entry::List(2);
-const POP_BACK: Entry = Entry::List(3);
+// The notation.
+
+#[derive(Clone, Debug)]
+enum Item {
+    Null(Vec<Item>),
+    Number(i64),
+    List(Vec<Item>),
+}
+
+/// The items that the text begins with, up to its end or to a closing bracket.
+fn parse_items(text: &mut &str) -> Vec<Item> {
+    let mut items = Vec::new();
+    loop {
+        *text = text.trim_start_matches([' ', ',']);
+        if text.is_empty() || text.starts_with([']', ')']) {
+            return items;
+        }
+        items.push(parse_item(text));
+    }
+}
+
+fn parse_item(text: &mut &str) -> Item {
+    if take(text, "[") {
+        return Item::List(parse_enclosed(text, "]"));
+    }
+    if take(text, "null(") {
+        return Item::Null(parse_enclosed(text, ")"));
+    }
+    if take(text, "null")
+        || !text[1..].starts_with(|one: char| one.is_ascii_digit()) && take(text, "-")
+    {
+        return Item::Null(Vec::new());
+    }
+    let end = text.find([',', ' ', ']', ')']).unwrap_or(text.len());
+    let number = text[..end].parse().expect("a number in a worked case");
+    *text = &text[end..];
+    Item::Number(number)
+}
+
+fn parse_enclosed(text: &mut &str, end: &str) -> Vec<Item> {
+    let items = parse_items(text);
+    assert!(take(text, end), "an unclosed bracket in a worked case");
+    items
+}
+
+fn take(text: &mut &str, start: &str) -> bool {
+    let rest = text.strip_prefix(start);
+    *text = rest.unwrap_or(text);
+    rest.is_some()
+}
+
+fn parse(mut text: &str) -> Vec<Item> {
+    let items = parse_items(&mut text);
+    assert!(text.is_empty(), "a worked case that ends early: {text}");
+    items
+}
+
+// Columns and results from it.
+
+fn bitmap(items: &[Item]) -> Vec<u8> {
+    let mut bytes = vec![0; items.len().div_ceil(8)];
+    for (at, item) in items.iter().enumerate() {
+        bytes[at / 8] |= u8::from(!matches!(item, Item::Null(_))) << (at % 8);
+    }
+    bytes
+}
+
+fn null_count(items: &[Item]) -> u64 {
+    items.iter().filter(|item| matches!(item, Item::Null(_))).count() as u64
+}
+
+/// No bitmap where nothing is null.
+fn lent_bitmap(items: &[Item]) -> Vec<u8> {
+    if null_count(items) == 0 {
+        Vec::new()
+    } else {
+        bitmap(items)
+    }
+}
+
+/// The numbers, with this one for nulls.
+fn numbers(items: &[Item], under_nulls: i64) -> Vec<i64> {
+    let number = |item: &Item| match item {
+        Item::Number(number) => *number,
+        Item::Null(_) => under_nulls,
+        Item::List(_) => panic!("a list among the elements of a worked case"),
+    };
+    items.iter().map(number).collect()
+}
+
+/// Offsets of the rows and all that they hold; what lies under null rows is left out or kept.
+fn rows_of(items: &[Item], keep_hidden: bool) -> (Vec<i32>, Vec<Item>) {
+    let mut offsets = vec![0];
+    let mut inside = Vec::new();
+    for item in items {
+        match item {
+            Item::List(items) => inside.extend(items.iter().cloned()),
+            Item::Null(items) if keep_hidden => inside.extend(items.iter().cloned()),
+            Item::Null(_) => (),
+            Item::Number(_) => panic!("a number among the rows of a worked case"),
+        }
+        offsets.push(inside.len() as i32);
+    }
+    (offsets, inside)
+}
+
+fn list_column(text: &str) -> ListColumn {
+    let rows = parse(text);
+    let (offsets, elements) = rows_of(&rows, true);
+    ListColumn {
+        offsets,
+        rows: lent_bitmap(&rows),
+        values: numbers(&elements, 77),
+        elements: lent_bitmap(&elements),
+    }
+}
+
+fn argument_column(text: &str) -> ArgumentColumn {
+    let items = parse(text);
+    ArgumentColumn { values: numbers(&items, i64::MIN), bits: lent_bitmap(&items) }
+}
+
+fn refused(number: u32) -> Observed {
+    Observed { number, counts: Vec::new(), written: Vec::new() }
+}
+
+/// The answer that an entry with so many outputs gives for these rows, or `refusal n`.
+fn result(text: &str, outputs: usize) -> Observed {
+    if let Some(number) = text.strip_prefix("refusal ") {
+        return refused(number.parse().expect("the number of a refusal"));
+    }
+    let rows = parse(text);
+    let mut written = Vec::new();
+    let mut items = rows.clone();
+    let mut nulls = Vec::new();
+    let mut lengths = Vec::new();
+    for _ in 0..outputs / 2 - 1 {
+        let (offsets, inside) = rows_of(&items, false);
+        written.extend([encode_i32(&offsets), bitmap(&items)]);
+        nulls.push(null_count(&items));
+        lengths.push(items.len() as u64);
+        items = inside;
+    }
+    written.extend([encode_i64(&numbers(&items, 0)), bitmap(&items)]);
+    let (elements, null_elements) = (items.len() as u64, null_count(&items));
+    let counts = match (&lengths[..], &nulls[..]) {
+        ([], []) => vec![elements, null_elements],
+        ([rows], [null_rows]) => vec![*rows, elements, *null_rows, null_elements],
+        ([rows, inner], [null_rows, null_inner]) => {
+            vec![*rows, elements, *null_rows, null_elements, *inner, *null_inner]
+        }
+        _ => panic!("an entry has two, four or six outputs"),
+    };
+    Observed { number: 0, counts, written }
+}
+
+// The cases.
+
+/// What it is; the operation; its lists; its arguments; the result.
+type Case =
+    (&'static str, Operation, &'static [&'static str], &'static [&'static str], &'static str);
+
+use Operation::{
+    AnyValue, Distinct, Element, Intersect, ListRepeat, PopBack, PopFront, Remove, Replace, Resize,
+    ResizeWithoutFill, Reverse, Slice, SliceWithoutStride, Union,
+};
+
+const S: &[&str] = &["[10,20,30,40]"];
+
+/// Document 01's own.
+const OF_DOCUMENT_01: &[Case] = &[
+    ("A", Reverse, &["[1,2,-], null, []"], &[], "[-,2,1], null, []"),
+    ("B", Distinct, &["[3,-,3,-,1]"], &[], "[3,-,1]"),
+    ("C", Union, &["[2,1,2]", "[1,5,-]"], &[], "[2,1,5,-]"),
+    ("D", Intersect, &["[1,2]", "[2,1]"], &[], "[1,2]"),
+    ("E", Intersect, &["[1,2]", "[2,9,1]"], &[], "[2,1]"),
+    ("F", SliceWithoutStride, S, &["0", "5"], "[10,20,30,40]"),
+    ("F, stride 1", Slice, S, &["0", "5", "1"], "[10,20,30,40]"),
+    ("G", SliceWithoutStride, S, &["-9", "-1"], "[10,20,30,40]"),
+    ("G, stride 1", Slice, S, &["-9", "-1", "1"], "[10,20,30,40]"),
+    ("H", Slice, S, &["4", "1", "-2"], "[40,20]"),
+    ("I", Slice, S, &["1", "0", "0"], "[]"),
+    ("J", Slice, S, &["1", "2", "0"], "refusal 5"),
+    ("K, -4", Element, S, &["-4"], "10"),
+    ("K, 0", Element, S, &["0"], "-"),
+    ("K, 2147483647 of []", Element, &["[]"], &["2147483647"], "-"),
+    ("K, 2147483648 of []", Element, &["[]"], &["2147483648"], "refusal 4"),
+    ("L", Resize, &["[1,2]"], &["4", "-"], "[1,2,-,-]"),
+    ("L, no fill", ResizeWithoutFill, &["[1,2]"], &["4"], "[1,2,-,-]"),
+    ("M", Replace, &["[-,7,-]"], &["-", "5", "1"], "[5,7,-]"),
+    ("N, 2", Remove, &["[7,-,7,7]"], &["7", "2"], "[-,7]"),
+    ("N, -1", Remove, &["[7,-,7,7]"], &["7", "-1"], "[7,-,7,7]"),
+    ("O", ListRepeat, &["null(8,8), [4]"], &["1, 2"], "[null], [[4],[4]]"),
+    ("P", Slice, &["[10,20,30]"], &["2", "3", "2147483647"], "[20]"),
+];
+
+/// One list: null rows over values, nulls, short rows.
+const OF_ONE_LIST: &[Case] = &[
+    ("null is not 0", Distinct, &["[0,-,0]"], &[], "[0,-]"),
+    ("rows are apart", Distinct, &["[7], [7]"], &[], "[7], [7]"),
+    ("over 8,8", Reverse, &["null(8,8), [4]"], &[], "null, [4]"),
+    ("over 8,8", PopBack, &["null(8,8), [4]"], &[], "null, []"),
+    ("one element", PopFront, &["[5], [6,7], []"], &[], "[], [7], []"),
+    ("one element", PopBack, &["[5], [6,7], []"], &[], "[], [6], []"),
+    ("first valid", AnyValue, &["[-,-,7], [], [-], null(8)"], &[], "7, -, -, -"),
+    ("-2147483649 of []", Element, &["[]"], &["-2147483649"], "refusal 4"),
+    ("first", Element, S, &["1"], "10"),
+    ("last", Element, S, &["4"], "40"),
+    ("past the end", Element, S, &["5"], "-"),
+    ("last from the end", Element, S, &["-1"], "40"),
+    ("before the first", Element, S, &["-5"], "-"),
+    ("smallest", Element, S, &["-2147483648"], "-"),
+    ("largest", Element, S, &["2147483647"], "-"),
+    ("null index", Element, S, &["-"], "-"),
+    ("null row", Element, &["null(8,8)"], &["2147483648"], "-"),
+    ("null element", Element, &["[-]"], &["1"], "-"),
+    ("two indexes for one row", Element, S, &["1, 1"], "refusal 3"),
+];
+
+/// Two lists.
+const OF_TWO_LISTS: &[Case] = &[
+    ("left null", Union, &["null(8), [1]", "[1], null(9)"], &[], "null, null"),
+    ("both null", Union, &["null", "null"], &[], "null"),
+    ("null once", Union, &["[-,1,-]", "[-,2]"], &[], "[-,1,2]"),
+    ("null is not 0", Union, &["[0]", "[-]"], &[], "[0,-]"),
+    ("repeats in the right", Union, &["[]", "[3,3]"], &[], "[3]"),
+    ("all rows empty", Union, &["[], []", "[], []"], &[], "[], []"),
+    ("all rows empty", Intersect, &["[], []", "[], []"], &[], "[], []"),
+    ("no rows", Union, &["", ""], &[], ""),
+    ("no rows", Intersect, &["", ""], &[], ""),
+    ("no rows beside one", Union, &["", "[7]"], &[], "refusal 3"),
+    ("null is common", Intersect, &["[-]", "[-]"], &[], "[-]"),
+    ("null is common, walk right", Intersect, &["[1,-]", "[-,-,2]"], &[], "[-]"),
+    ("null and order", Intersect, &["[-,1]", "[1,-]"], &[], "[-,1]"),
+    ("repeats make the left longer", Intersect, &["[2,2,1]", "[1,2]"], &[], "[2,1]"),
+    ("left null", Intersect, &["null(1)", "[1]"], &[], "null"),
+    ("right null", Intersect, &["[1]", "null(1)"], &[], "null"),
+    ("left empty", Intersect, &["[]", "[1]"], &[], "[]"),
+    ("one row more", Intersect, &["[1]", "[1], []"], &[], "refusal 3"),
+];
+
+/// Slices at the ends of 32 bits.
+const OF_SLICES: &[Case] = &[
+    ("stride past the end", Slice, &["[10,20]"], &["2", "2", "2147483647"], "[20]"),
+    ("stride from the first", Slice, &["[10,20]"], &["1", "2", "2147483647"], "[10]"),
+    ("from smallest", SliceWithoutStride, &["[7]"], &["-2147483648", "1"], "[7]"),
+    ("to smallest", SliceWithoutStride, &["[7]"], &["1", "-2147483648"], "[]"),
+    ("0 to 0", SliceWithoutStride, &["[7]"], &["0", "0"], "[]"),
+    ("to beyond, from outside", Slice, &["[7]"], &["5", "2147483648", "1"], "refusal 4"),
+    ("to below, from outside", SliceWithoutStride, &["[7]"], &["5", "-2147483649"], "refusal 4"),
+    ("from beyond, stride 0", Slice, &["[7]"], &["2147483648", "1", "0"], "refusal 4"),
+    ("stride 0, from outside", Slice, &["[7]"], &["5", "1", "0"], "[]"),
+    ("stride 0, bounds clamped", Slice, S, &["-9", "9", "0"], "refusal 5"),
+    ("huge stride, equal bounds", Slice, &["[7]"], &["1", "1", "2147483648"], "refusal 6"),
+    ("huge negative, equal bounds", Slice, &["[7]"], &["1", "1", "-2147483649"], "refusal 6"),
+    ("huge stride against", Slice, &["[7,8]"], &["2", "1", "2147483648"], "[]"),
+    ("huge negative against", Slice, &["[7,8]"], &["1", "2", "-2147483649"], "[]"),
+    ("huge negative along", Slice, &["[7,8]"], &["2", "1", "-2147483649"], "refusal 6"),
+    ("smallest stride", Slice, &["[7,8]"], &["2", "1", "-2147483648"], "[8]"),
+    ("smallest stride, equal", Slice, &["[7,8]"], &["1", "1", "-2147483648"], "[7]"),
+    ("equal bounds, -1", Slice, S, &["2", "-3", "-1"], "[20]"),
+    ("equal bounds, 1", Slice, S, &["2", "-3", "1"], "[20]"),
+    ("to not reached", Slice, S, &["1", "4", "2"], "[10,30]"),
+    ("to past the end, back", Slice, S, &["4", "9", "-1"], "[40]"),
+    ("from past the end", SliceWithoutStride, S, &["5", "9"], "[]"),
+    ("to below minus length", SliceWithoutStride, S, &["1", "-5"], "[]"),
+    ("nulls go along", Slice, &["[-,2,-]"], &["3", "1", "-2"], "[-,-]"),
+    ("empty row, beyond", Slice, &["[]"], &["2147483648", "2147483648", "0"], "[]"),
+    ("empty row, null stride", Slice, &["[]"], &["1", "1", "-"], "null"),
+    ("null stride, from beyond", Slice, S, &["2147483648", "1", "-"], "null"),
+    ("null row, from beyond", Slice, &["null(8,8)"], &["2147483648", "1", "0"], "null"),
+    (
+        "first bad row",
+        Slice,
+        &["[1], [1]"],
+        &["1, 9223372036854775807", "1, 1", "0, 1"],
+        "refusal 5",
+    ),
+    (
+        "first bad row",
+        Slice,
+        &["[1], [1]"],
+        &["9223372036854775807, 1", "1, 1", "1, 0"],
+        "refusal 4",
+    ),
+    ("two strides for one row", Slice, S, &["1", "1", "1, 1"], "refusal 3"),
+];
+
+/// Resize: fills, and the order of 7 and the two ways to 8.
+const OF_RESIZE: &[Case] = &[
+    ("fill of its row", Resize, &["[], []"], &["1, 1", "5, -"], "[5], [-]"),
+    ("fill not needed", Resize, &["[1,2]"], &["1", "-"], "[1]"),
+    ("cut to nothing", Resize, &["[1,2]"], &["0", "3"], "[]"),
+    ("null list, null count", Resize, &["null(8), [1]"], &["2, -", "3, 3"], "null, null"),
+    ("null list, count -1", Resize, &["null(8), [1]"], &["-1, 1", "3, 3"], "null, [1]"),
+    (
+        "null list, huge count",
+        Resize,
+        &["null, [1]"],
+        &["9223372036854775807, 1", "3, 3"],
+        "null, [1]",
+    ),
+    ("-1", Resize, &["[1]"], &["-1", "3"], "refusal 7"),
+    ("total, then -1", Resize, &["[1], [1]"], &["2147483648, -1", "3, 3"], "refusal 7"),
+    ("-1, then total", Resize, &["[1], [1]"], &["-1, 2147483648", "3, 3"], "refusal 7"),
+    (
+        "running sum at its largest, then -1",
+        ResizeWithoutFill,
+        &["[], [], [], []"],
+        &["9223372036854775807, 9223372036854775807, 1, -1"],
+        "refusal 7",
+    ),
+    (
+        "running sum past its largest, then -1",
+        ResizeWithoutFill,
+        &["[], [], [], []"],
+        &["9223372036854775807, 9223372036854775807, 2, -1"],
+        "refusal 8",
+    ),
+    (
+        "-1, then running sum past its largest",
+        ResizeWithoutFill,
+        &["[], [], [], []"],
+        &["-1, 9223372036854775807, 9223372036854775807, 2"],
+        "refusal 7",
+    ),
+    ("largest total", ResizeWithoutFill, &["[]"], &["2147483647"], "refusal 9"),
+    ("total past it", ResizeWithoutFill, &["[]"], &["2147483648"], "refusal 8"),
+    ("total of two rows", ResizeWithoutFill, &["[], []"], &["2147483647, 1"], "refusal 8"),
+    ("two counts for one row", ResizeWithoutFill, &["[1]"], &["1, 1"], "refusal 3"),
+    ("two fills for one row", Resize, &["[1]"], &["1", "3, 3"], "refusal 3"),
+];
+
+/// Replace and remove.
+const OF_MATCHES: &[Case] = &[
+    ("largest n", Replace, &["[7,7]"], &["7", "5", "9223372036854775807"], "[5,5]"),
+    ("smallest n", Replace, &["[7,7]"], &["7", "5", "-9223372036854775808"], "[7,7]"),
+    ("n 0", Replace, &["[7]"], &["7", "5", "0"], "[7]"),
+    ("null n", Replace, &["[7]"], &["7", "5", "-"], "null"),
+    ("null to", Replace, &["[7,7]"], &["7", "-", "1"], "[-,7]"),
+    ("null by null", Replace, &["[-]"], &["-", "-", "1"], "[-]"),
+    ("null from, no nulls", Replace, &["[7]"], &["-", "5", "1"], "[7]"),
+    ("null row", Replace, &["null(7)"], &["7", "5", "1"], "null"),
+    ("one n for all", Replace, &["[7,7], [7,7]"], &["7, 7", "5, 5", "1"], "[5,7], [5,7]"),
+    ("one null n for all", Replace, &["[7], []"], &["7, 7", "5, 5", "-"], "null, null"),
+    ("no rows, one n", Replace, &[""], &["", "", "1"], ""),
+    ("no rows, no n", Replace, &[""], &["", "", ""], ""),
+    ("no rows, two n", Replace, &[""], &["", "", "1, 1"], "refusal 3"),
+    ("three rows, two n", Replace, &["[], [], []"], &["1,1,1", "1,1,1", "1,1"], "refusal 3"),
+    ("one from for two rows", Replace, &["[], []"], &["1", "1,1", "1,1"], "refusal 3"),
+    ("null element, n -1", Remove, &["[7]"], &["-", "-1"], "null"),
+    ("null element, empty row", Remove, &["[]"], &["-", "1"], "null"),
+    ("null element, nulls", Remove, &["[-]"], &["-", "1"], "null"),
+    ("smallest n", Remove, &["[7]"], &["7", "-9223372036854775808"], "[7]"),
+    ("largest n", Remove, &["[7,1,7]"], &["7", "9223372036854775807"], "[1]"),
+    ("null n", Remove, &["[7]"], &["7", "-"], "null"),
+    ("one n for all", Remove, &["[7,7], [7,7]"], &["7, 7", "1"], "[7], [7]"),
+    ("no rows, one n", Remove, &[""], &["", "1"], ""),
+    ("one row, no n", Remove, &["[7]"], &["7", ""], "refusal 3"),
+];
+
+/// List-repeat: null lists, and the two sums of 8.
+const OF_REPEAT: &[Case] = &[
+    ("null over 8,8, no times", ListRepeat, &["null(8,8)"], &["0"], "[]"),
+    ("null over 8,8, once", ListRepeat, &["null(8,8)"], &["1"], "[null]"),
+    ("null over 8,8, -3 times", ListRepeat, &["null(8,8)"], &["-3"], "[]"),
+    ("null over 8,8, null times", ListRepeat, &["null(8,8)"], &["-"], "null"),
+    ("empty and nulls", ListRepeat, &["[], [-,1]"], &["2, 2"], "[[],[]], [[-,1],[-,1]]"),
+    ("smallest", ListRepeat, &["[4]"], &["-9223372036854775808"], "[]"),
+    ("no rows", ListRepeat, &[""], &[""], ""),
+    ("values under null not counted", ListRepeat, &["null(1,2,3)"], &["1073741824"], "refusal 9"),
+    ("largest over []", ListRepeat, &["[]"], &["9223372036854775807"], "refusal 8"),
+    ("null lists count", ListRepeat, &["null"], &["2147483648"], "refusal 8"),
+    ("most lists", ListRepeat, &["[4]"], &["2147483647"], "refusal 9"),
+    ("values, not lists", ListRepeat, &["[4,4]"], &["1073741824"], "refusal 8"),
+    ("values just fit", ListRepeat, &["[4,4]"], &["1073741823"], "refusal 9"),
+    ("lists of two rows", ListRepeat, &["[], null"], &["2147483647, 1"], "refusal 8"),
+    ("two times for one row", ListRepeat, &["[4]"], &["1, 1"], "refusal 3"),
+];
+
+struct Worked {
+    name: String,
+    input: Input,
+    result: Observed,
+}
+
+/// A column that is lent and not taken, and would be refused if it were.
+fn untaken() -> ArgumentColumn {
+    ArgumentColumn { values: vec![0; 17], bits: vec![0] }
+}
+
+fn worked(
+    name: &str,
+    operation: Operation,
+    lists: Vec<ListColumn>,
+    mut arguments: Vec<ArgumentColumn>,
+    wanted: &str,
+) -> Worked {
+    let entry = Entry::of(operation);
+    arguments.resize_with(entry.arguments(), untaken);
+    Worked {
+        name: format!("{} ({name})", entry.name()),
+        input: Input { entry, lists, arguments },
+        result: result(wanted, entry.outputs().len()),
+    }
+}
+
+fn from_text((name, operation, lists, arguments, wanted): &Case) -> Worked {
+    let lists = lists.iter().map(|text| list_column(text)).collect();
+    let arguments = arguments.iter().map(|text| argument_column(text)).collect();
+    worked(name, *operation, lists, arguments, wanted)
+}
 
 fn list(offsets: &[i32], rows: &[u8], values: &[i64], elements: &[u8]) -> ListColumn {
     ListColumn {
@@ -21,174 +432,121 @@ fn list(offsets: &[i32], rows: &[u8], values: &[i64], elements: &[u8]) -> ListCo
     }
 }
 
-fn lists_made(form: &ListColumn, counts: [u64; 4]) -> Observed {
+fn argument(values: &[i64], bits: &[u8]) -> ArgumentColumn {
+    ArgumentColumn { values: values.to_vec(), bits: bits.to_vec() }
+}
+
+/// Columns that the notation does not give: offsets above 0, short bitmaps, damage.
+fn laid_out_cases() -> Vec<Worked> {
+    let behind = || list(&[3], &[], &[1, 2, 3], &[]);
+    let at_1 = || list(&[1, 1], &[], &[9], &[]);
+    let short = || list(&[0, 1], &[], &[0; 9], &[0xff]);
+    let falling = || list(&[1, 0], &[], &[7], &[]);
+    let seven = || list(&[0, 1], &[], &[7], &[]);
+    let nine = |bits: &[u8]| argument(&[1; 9], bits);
+    vec![
+        worked("no rows at 3", Reverse, vec![behind()], vec![], ""),
+        worked("no rows at 3", Distinct, vec![behind()], vec![], ""),
+        worked("no rows at 3", Union, vec![behind(), behind()], vec![], ""),
+        worked("no rows at 3", Intersect, vec![behind(), list(&[0], &[], &[], &[])], vec![], ""),
+        worked("no rows at 3", ListRepeat, vec![behind()], vec![argument(&[], &[])], ""),
+        worked("hidden 5", Reverse, vec![list(&[0, 1], &[], &[5], &[0xfe])], vec![], "[-]"),
+        worked(
+            "null first row",
+            Reverse,
+            vec![list(&[1, 3, 4], &[2], &[6, 8, 8, 4, 6], &[])],
+            vec![],
+            "null, [4]",
+        ),
+        worked(
+            "largest at offset 1",
+            ResizeWithoutFill,
+            vec![at_1()],
+            vec![argument(&[2147483647], &[])],
+            "refusal 9",
+        ),
+        worked(
+            "null over 2147483648",
+            Element,
+            vec![at_1()],
+            vec![argument(&[2147483648], &[0])],
+            "-",
+        ),
+        worked(
+            "number under a null is no match",
+            Remove,
+            vec![list(&[0, 2], &[], &[7, 7], &[0b10])],
+            vec![argument(&[7], &[]), argument(&[1], &[])],
+            "[-]",
+        ),
+        worked(
+            "1 of the right before 2 of the left",
+            Union,
+            vec![short(), falling()],
+            vec![],
+            "refusal 1",
+        ),
+        worked(
+            "1 of the left before 2 of the right",
+            Union,
+            vec![falling(), short()],
+            vec![],
+            "refusal 1",
+        ),
+        worked(
+            "2 before 3",
+            Intersect,
+            vec![seven(), list(&[0, 0, 0], &[], &[0; 9], &[1])],
+            vec![],
+            "refusal 2",
+        ),
+        worked(
+            "bitmap for all values",
+            ListRepeat,
+            vec![short()],
+            vec![argument(&[1], &[])],
+            "refusal 2",
+        ),
+        worked(
+            "2 of the limit before 3 of the from",
+            Replace,
+            vec![seven()],
+            vec![argument(&[], &[]), argument(&[1], &[]), nine(&[0xff])],
+            "refusal 2",
+        ),
+    ]
+}
+
+/// Case O as it lies in the slices.
+fn case_o() -> Worked {
+    let input = Input {
+        entry: Entry::ListRepeat,
+        lists: vec![list(&[0, 2, 3], &[0b10], &[8, 8, 4], &[])],
+        arguments: vec![argument(&[1, 2], &[])],
+    };
     let written = vec![
-        encode_i32(&form.offsets),
-        form.rows.clone(),
-        encode_i64(&form.values),
-        form.elements.clone(),
+        encode_i32(&[0, 1, 3]),
+        vec![0b11],
+        encode_i32(&[0, 0, 1, 2]),
+        vec![0b110],
+        encode_i64(&[4, 4]),
+        vec![0b11],
     ];
-    Observed { number: 0, counts: counts.to_vec(), written }
-}
-
-fn values_made(values: &[i64], rows: &[u8], counts: [u64; 2]) -> Observed {
-    let written = vec![encode_i64(values), rows.to_vec()];
-    Observed { number: 0, counts: counts.to_vec(), written }
-}
-
-fn refused(number: u32) -> Observed {
-    Observed { number, counts: Vec::new(), written: Vec::new() }
-}
-
-/// One worked case: the call, and what must come back.
-struct Worked {
-    name: &'static str,
-    entry: Entry,
-    list: ListColumn,
-    indexes: Option<ArgumentColumn>,
-    result: Observed,
-}
-
-fn on_list(name: &'static str, entry: Entry, list: ListColumn, result: Observed) -> Worked {
-    Worked { name, entry, list, indexes: None, result }
-}
-
-fn at_indexes(
-    name: &'static str,
-    list: ListColumn,
-    indexes: &[i64],
-    bits: &[u8],
-    result: Observed,
-) -> Worked {
-    let indexes = ArgumentColumn { values: indexes.to_vec(), bits: bits.to_vec() };
-    Worked { name, entry: Entry::Element, list, indexes: Some(indexes), result }
-}
-
-fn list_cases() -> Vec<Worked> {
-    let three = list(&[0, 3, 3, 3], &[0b101], &[1, 2, 9], &[0b011]);
-    let over_values = list(&[1, 3, 4], &[0b10], &[6, 8, 8, 4, 6], &[]);
-    let one_and_two = list(&[0, 1, 3, 3], &[], &[5, 6, 7], &[]);
-    let no_rows = list(&[3], &[], &[1, 2, 3], &[]);
-    let hidden = list(&[0, 1], &[], &[5], &[0xfe]);
-    vec![
-        on_list(
-            "A: reverse of [1,2,-], null, []",
-            REVERSE,
-            three,
-            lists_made(&list(&[0, 3, 3, 3], &[0b101], &[0, 2, 1], &[0b110]), [3, 3, 1, 1]),
-        ),
-        on_list(
-            "B: distinct of [3,-,3,-,1], numbers under the nulls unequal",
-            DISTINCT,
-            list(&[0, 5], &[], &[3, 3, 3, 1, 1], &[0b10101]),
-            lists_made(&list(&[0, 3], &[1], &[3, 0, 1], &[0b101]), [1, 3, 0, 1]),
-        ),
-        on_list(
-            "distinct of [0,-,0]: null is not 0",
-            DISTINCT,
-            list(&[0, 3], &[], &[0, 0, 0], &[0b101]),
-            lists_made(&list(&[0, 2], &[1], &[0, 0], &[0b01]), [1, 2, 0, 1]),
-        ),
-        on_list(
-            "distinct of [7], [7]: rows are apart",
-            DISTINCT,
-            list(&[0, 1, 2], &[], &[7, 7], &[]),
-            lists_made(&list(&[0, 1, 2], &[3], &[7, 7], &[3]), [2, 2, 0, 0]),
-        ),
-        on_list(
-            "distinct of no rows, first offset 3",
-            DISTINCT,
-            no_rows.clone(),
-            lists_made(&list(&[0], &[], &[], &[]), [0, 0, 0, 0]),
-        ),
-        on_list(
-            "reverse of no rows, first offset 3",
-            REVERSE,
-            no_rows,
-            lists_made(&list(&[0], &[], &[], &[]), [0, 0, 0, 0]),
-        ),
-        on_list(
-            "reverse of null over 8,8, then [4]",
-            REVERSE,
-            over_values.clone(),
-            lists_made(&list(&[0, 0, 1], &[0b10], &[4], &[1]), [2, 1, 1, 0]),
-        ),
-        on_list(
-            "pop back of null over 8,8, then [4]",
-            POP_BACK,
-            over_values,
-            lists_made(&list(&[0, 0, 0], &[0b10], &[], &[]), [2, 0, 1, 0]),
-        ),
-        on_list(
-            "reverse of [-] over 5: 0 under the null",
-            REVERSE,
-            hidden,
-            lists_made(&list(&[0, 1], &[1], &[0], &[0]), [1, 1, 0, 1]),
-        ),
-        on_list(
-            "pop front of [5], [6,7], []",
-            POP_FRONT,
-            one_and_two.clone(),
-            lists_made(&list(&[0, 0, 1, 1], &[7], &[7], &[1]), [3, 1, 0, 0]),
-        ),
-        on_list(
-            "pop back of [5], [6,7], []",
-            POP_BACK,
-            one_and_two,
-            lists_made(&list(&[0, 0, 1, 1], &[7], &[6], &[1]), [3, 1, 0, 0]),
-        ),
-    ]
-}
-
-fn value_cases() -> Vec<Worked> {
-    let s = list(&[0, 4], &[], &[10, 20, 30, 40], &[]);
-    let empty = list(&[0, 0], &[], &[], &[]);
-    let null = list(&[0, 2], &[0], &[8, 8], &[]);
-    let valid = |value| values_made(&[value], &[1], [1, 0]);
-    let none = values_made(&[0], &[0], [1, 1]);
-    vec![
-        on_list(
-            "any-value of [-,-,7], [], [-], null over 8",
-            Entry::AnyValue,
-            list(&[0, 3, 3, 4, 5], &[0b0111], &[1, 2, 7, 3, 8], &[0b10100]),
-            values_made(&[7, 0, 0, 0], &[0b0001], [4, 3]),
-        ),
-        at_indexes("K: element -4 of S", s.clone(), &[-4], &[], valid(10)),
-        at_indexes("K: element 0 of S", s.clone(), &[0], &[], none.clone()),
-        at_indexes("K: element 2147483647 of []", empty.clone(), &[2147483647], &[], none.clone()),
-        at_indexes("K: element 2147483648 of []", empty.clone(), &[2147483648], &[], refused(4)),
-        at_indexes("element -2147483649 of []", empty, &[-2147483649], &[], refused(4)),
-        at_indexes("element 1 of S", s.clone(), &[1], &[], valid(10)),
-        at_indexes("element 4 of S", s.clone(), &[4], &[], valid(40)),
-        at_indexes("element 5 of S", s.clone(), &[5], &[], none.clone()),
-        at_indexes("element -1 of S", s.clone(), &[-1], &[], valid(40)),
-        at_indexes("element -5 of S", s.clone(), &[-5], &[], none.clone()),
-        at_indexes("element -2147483648 of S", s.clone(), &[-2147483648], &[], none.clone()),
-        at_indexes("element 2147483647 of S", s.clone(), &[2147483647], &[], none.clone()),
-        at_indexes(
-            "element of S at a null over 2147483648",
-            s.clone(),
-            &[2147483648],
-            &[0],
-            none.clone(),
-        ),
-        at_indexes("element 2147483648 of a null row", null, &[2147483648], &[], none.clone()),
-        at_indexes("element 1 of [-]", list(&[0, 1], &[], &[5], &[0]), &[1], &[], none),
-        at_indexes("two indexes for S", s, &[1, 1], &[], refused(3)),
-    ]
+    let result = Observed { number: 0, counts: vec![2, 2, 0, 0, 3, 1], written };
+    Worked { name: "O, as bytes".to_string(), input, result }
 }
 
 pub fn cases(checker: &mut Checker, _entry: Entry, rng: &mut Rng, _calls: u64) {
-    for worked in list_cases().into_iter().chain(value_cases()) {
-        let input = Input {
-            entry: worked.entry,
-            lists: vec![worked.list],
-            arguments: worked.indexes.into_iter().collect(),
-        };
+    let tables =
+        [OF_DOCUMENT_01, OF_ONE_LIST, OF_TWO_LISTS, OF_SLICES, OF_RESIZE, OF_MATCHES, OF_REPEAT];
+    let written = tables.into_iter().flatten().map(from_text);
+    let all = written.chain(laid_out_cases()).chain([case_o()]);
+    let library = checker.library;
+    for worked in all.filter(|worked| library.has(worked.input.entry)) {
         for room in [Room::Exact, Room::Longer(2)] {
-            let case = lend(&input, room, rng);
+            let case = lend(&worked.input, room, rng);
             let observed = checker.check(&case);
-            checker.require(observed == worked.result, &case, worked.name);
+            checker.require(observed == worked.result, &case, &worked.name);
         }
     }
 }

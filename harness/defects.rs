@@ -1,0 +1,433 @@
+//! The names of the deliberately wrong versions of the library, which mock.rs and mock_rows.rs ask
+//! for.
+
+use crate::entry::Entry;
+use std::sync::OnceLock;
+
+/// The wrong versions, each with the operation whose groups must report it; where none is named,
+/// any group may.
+const DEFECTS: &[(&str, &[&str])] = &[
+    (ANY, COLUMN_DEFECTS),
+    (ANY, RESULT_DEFECTS),
+    (ANY, ENTRY_DEFECTS),
+    ("reverse", &["reverse-leaves-bits", "reverse-of-two-unchanged"]),
+    (
+        "distinct",
+        &[
+            "distinct-compares-hidden-numbers",
+            "distinct-null-equals-0",
+            "distinct-over-all-rows",
+            "distinct-keeps-last",
+            "distinct-drops-nulls",
+            "distinct-neighbours-only",
+        ],
+    ),
+    ("pop front", &["pops-swapped", "pop-keeps-single-element", "pop-of-empty-is-null"]),
+    ("pop back", &["pops-swapped", "pop-keeps-single-element", "pop-of-empty-is-null"]),
+    ("any-value", &["any-value-takes-first", "any-value-skips-0"]),
+    (
+        "element",
+        &[
+            "index-0-is-first",
+            "index-minus-1-is-last-but-one",
+            "index-below-minus-length-is-first",
+            "index-wraps-to-32-bits",
+            "index-smallest-refused",
+            "index-largest-refused",
+            "4-not-over-empty-row",
+            "4-for-null-row",
+            "4-for-null-argument",
+            "4-only-in-first-row",
+            "4-before-3",
+            "9-before-row-refusals",
+        ],
+    ),
+    ("union", RIGHT_DEFECTS),
+    (
+        "union",
+        &[
+            "union-concatenates",
+            "union-right-first",
+            "union-null-is-other-side",
+            "union-null-row-is-empty",
+            "union-left-repeats-kept",
+            "union-right-repeats-kept",
+            "union-drops-nulls",
+            "union-null-equals-0",
+            "union-compares-hidden-numbers",
+        ],
+    ),
+    ("intersect", RIGHT_DEFECTS),
+    (
+        "intersect",
+        &[
+            "intersect-left-walked",
+            "intersect-right-on-equal-lengths",
+            "intersect-shorter-walked",
+            "intersect-longer-by-distinct",
+            "intersect-repeats-kept",
+            "intersect-nulls-not-common",
+            "intersect-null-row-is-empty",
+            "intersect-null-right-keeps-left",
+            "intersect-compares-hidden-numbers",
+            "intersect-keeps-the-others",
+        ],
+    ),
+    ("slice", ARGUMENT_DEFECTS),
+    ("slice", BOUND_DEFECTS),
+    ("slice", STRIDE_DEFECTS),
+    ("slice without stride", UNTAKEN_DEFECTS),
+    ("slice without stride", BOUND_DEFECTS),
+    ("slice without stride", &["absent-stride-follows-bounds", "absent-stride-read-from-third"]),
+    ("resize", ARGUMENT_DEFECTS),
+    ("resize", UNTAKEN_DEFECTS),
+    ("resize", COUNT_DEFECTS),
+    (
+        "resize",
+        &[
+            "resize-fill-of-first-row",
+            "resize-null-fill-is-0",
+            "resize-null-fill-shows-number",
+            "resize-null-fill-gives-null",
+            "resize-fill-ignored",
+        ],
+    ),
+    ("resize without fill", UNTAKEN_DEFECTS),
+    ("resize without fill", COUNT_DEFECTS),
+    ("resize without fill", &["absent-fill-is-0", "absent-fill-read-from-second"]),
+    ("replace", ARGUMENT_DEFECTS),
+    ("replace", LIMIT_DEFECTS),
+    (
+        "replace",
+        &[
+            "replace-null-from-gives-null",
+            "replace-null-from-matches-nothing",
+            "replace-null-to-gives-null",
+            "replace-null-to-is-0",
+            "replace-null-to-unchanged",
+        ],
+    ),
+    ("remove", UNTAKEN_DEFECTS),
+    ("remove", LIMIT_DEFECTS),
+    (
+        "remove",
+        &[
+            "remove-null-removes-nulls",
+            "remove-null-unchanged",
+            "remove-null-of-empty-row-is-empty",
+            "remove-null-with-limit-0-unchanged",
+            "remove-leaves-nulls",
+            "remove-drops-nulls",
+        ],
+    ),
+    (
+        "list-repeat",
+        &[
+            "repeat-null-list-over-values",
+            "repeat-null-list-is-null-outer",
+            "repeat-null-list-once",
+            "repeat-null-list-is-empty",
+            "repeat-null-count-is-empty",
+            "repeat-0-is-null",
+            "repeat-negative-is-once",
+            "repeat-one-list",
+            "repeat-one-more",
+            "repeat-8-by-values-of-null-lists",
+            "repeat-8-by-lists-missing",
+            "repeat-8-by-values-missing",
+            "repeat-null-lists-not-in-8",
+            "repeat-8-one-early",
+            "repeat-8-one-late",
+            "repeat-sum-wraps-at-32-bits",
+            "repeat-sum-wraps-at-64-bits",
+            "repeat-outer-offsets-of-values",
+            "repeat-inner-offsets-start-again",
+            "repeat-inner-bits-not-written",
+            "repeat-inner-spare-bits-set",
+            "repeat-inner-nulls-not-counted",
+            "repeat-counts-swapped",
+            "repeat-outer-nulls-with-inner",
+            "short-inner-offsets-accepted",
+            "short-inner-bitmap-accepted",
+            "short-element-bitmap-accepted",
+            "short-row-bitmap-accepted",
+            "short-values-accepted",
+            "9-before-row-refusals",
+            "tail-inner-offset-cleared",
+        ],
+    ),
+];
+
+/// Prints each wrong version with the operation whose groups must report it.
+pub fn print() {
+    for (operation, names) in DEFECTS {
+        names.iter().for_each(|name| println!("{name} {operation}"));
+    }
+    for entry in Entry::all() {
+        EVERYWHERE.iter().for_each(|name| println!("{name} {}", entry.name()));
+    }
+}
+
+/// No operation is named.
+const ANY: &str = "";
+
+/// Those that the groups of every operation must report.
+const EVERYWHERE: &[&str] = &[
+    "first-offset-taken-as-0",
+    "bits-highest-first",
+    "empty-bitmap-all-null",
+    "element-validity-ignored",
+    "last-fall-missed",
+    "last-beyond-by-one-accepted",
+    "element-bitmap-to-last-offset",
+    "longer-bitmap-refused",
+    "spare-bits-kept",
+    "bits-added-to-content",
+    "tail-cleared",
+    "null-count-with-spare-bits",
+    "exact-room-refused",
+    "short-row-bitmap-accepted",
+    "refusal-writes-counts",
+    "refusal-clears-outputs",
+    "ragged-output-accepted",
+    "at-size-refused",
+    NULL_ROWS,
+];
+
+/// The validity of rows is not looked at.
+pub const NULL_ROWS: &str = "null-rows-shown";
+
+/// What a column shows, and refusals of columns.
+const COLUMN_DEFECTS: &[&str] = &[
+    "null-row-values-kept",
+    "null-row-values-counted",
+    "first-offset-taken-as-0",
+    "bits-highest-first",
+    "first-bitmap-byte-for-all",
+    "empty-bitmap-all-null",
+    "last-row-forgotten-at-4096",
+    "element-validity-ignored",
+    "no-offsets-accepted",
+    "negative-first-accepted",
+    "last-fall-missed",
+    "fall-at-null-row-missed",
+    "last-beyond-by-one-accepted",
+    "last-equal-to-values-refused",
+    "row-bitmap-not-tested",
+    "row-bitmap-for-one-more-row",
+    "element-bitmap-to-last-offset",
+    "argument-bitmap-not-tested",
+    "longer-bitmap-refused",
+    "fewer-arguments-only",
+    "more-arguments-only",
+    "2-before-1",
+    "3-before-2",
+    "4-before-3",
+    "9-before-row-refusals",
+    "9-before-2",
+];
+
+/// The second list.
+const RIGHT_DEFECTS: &[&str] = &[
+    "right-offsets-not-tested",
+    "right-bitmaps-not-tested",
+    "right-rows-not-counted",
+    "right-more-rows-accepted",
+    "right-fewer-rows-accepted",
+    "2-of-left-before-1-of-right",
+    "3-before-2",
+    "right-null-rows-shown",
+    "right-first-offset-taken-as-0",
+    "right-element-validity-ignored",
+    "right-numbers-under-nulls-shown",
+];
+
+/// More than one argument column.
+const ARGUMENT_DEFECTS: &[&str] = &[
+    "second-bitmap-not-tested",
+    "second-rows-not-counted",
+    "2-and-3-column-by-column",
+    "3-before-2",
+    "last-column-not-tested",
+];
+
+/// Columns that are lent and not taken.
+const UNTAKEN_DEFECTS: &[&str] = &[
+    "untaken-bitmap-tested",
+    "untaken-rows-counted",
+    "untaken-null-gives-null",
+    "untaken-size-not-tested",
+    "untaken-ragged-accepted",
+];
+
+const BOUND_DEFECTS: &[&str] = &[
+    "to-minus-1-excluded",
+    "to-excluded",
+    "to-past-end-outside",
+    "to-below-minus-length-is-first",
+    "to-0-is-first",
+    "to-0-is-last",
+    "from-0-outside",
+    "from-below-minus-length-outside",
+    "from-past-end-is-last",
+    "negative-from-one-late",
+    "bounds-counted-from-0",
+    "bounds-wrap-to-32-bits",
+    "bound-smallest-refused",
+    "bound-largest-refused",
+    "to-beyond-is-past-the-end",
+    "to-tested-only-with-from-inside",
+    "4-over-empty-row",
+    "4-for-null-row",
+    "4-beside-a-null",
+    "4-only-in-first-row",
+    "4-only-where-inside",
+    "null-from-is-first",
+    "null-to-is-last",
+    "null-argument-of-empty-row-is-empty",
+    "null-argument-gives-empty",
+    "slice-of-empty-is-null",
+    "slice-bits-from-the-start",
+    "9-before-row-refusals",
+];
+
+const STRIDE_DEFECTS: &[&str] = &[
+    "stride-0-before-bounds",
+    "stride-0-gives-empty",
+    "stride-0-is-1",
+    "stride-0-before-4",
+    "5-over-empty-row",
+    "5-beside-a-null",
+    "equal-bounds-negative-stride-empty",
+    "equal-bounds-positive-stride-empty",
+    "stride-size-before-direction",
+    "stride-size-not-for-equal-bounds",
+    "stride-size-before-bounds",
+    "stride-wraps-to-32-bits",
+    "stride-beyond-accepted",
+    "stride-smallest-refused",
+    "stride-largest-refused",
+    "stride-direction-ignored",
+    "step-past-largest-refused",
+    "to-only-by-stride-1",
+    "last-place-left-out",
+    "stride-1-always",
+    "null-stride-is-1",
+    "lowest-number-decides",
+    "last-bad-row-decides",
+];
+
+const COUNT_DEFECTS: &[&str] = &[
+    "resize-null-lists-counted",
+    "resize-null-counts-counted",
+    "resize-negative-is-0",
+    "resize-0-refused",
+    "resize-8-before-7",
+    "resize-8-at-the-row-past-2147483647",
+    "resize-running-sum-wraps",
+    "resize-running-sum-not-tested",
+    "resize-running-sum-to-2-to-the-63",
+    "resize-running-sum-largest-refused",
+    "resize-8-one-early",
+    "resize-8-one-late",
+    "resize-sum-in-32-bits",
+    "resize-8-missing",
+    "resize-7-only-at-the-end",
+    "resize-pads-front",
+    "resize-never-cuts",
+    "resize-never-fills",
+    "resize-one-more",
+    "resize-null-count-keeps-row",
+    "resize-null-list-is-filled",
+    "resize-fills-with-last",
+    "resize-cuts-front",
+    "9-before-row-refusals",
+];
+
+const LIMIT_DEFECTS: &[&str] = &[
+    "one-limit-refused",
+    "one-limit-for-first-row-only",
+    "limits-not-counted",
+    "one-limit-for-no-rows-refused",
+    "two-limits-for-no-rows-accepted",
+    "one-argument-for-all-rows",
+    "matches-all",
+    "matches-first-only",
+    "matches-last",
+    "matches-one-more",
+    "matches-hidden-numbers",
+    "matches-null-as-0",
+    "limit-0-is-all",
+    "limit-negative-is-all",
+    "limit-negative-gives-null",
+    "limit-null-is-all",
+    "limit-null-unchanged",
+    "limit-in-32-bits",
+    "limit-over-all-rows",
+    "limit-counts-elements",
+];
+
+/// Result form and room.
+const RESULT_DEFECTS: &[&str] = &[
+    "number-under-null-kept",
+    "null-slot-keeps-content",
+    "spare-bits-kept",
+    "spare-bits-set",
+    "bits-added-to-content",
+    "bitmaps-not-written-when-absent",
+    "tail-cleared",
+    "tail-bitmap-byte-cleared",
+    "null-count-with-spare-bits",
+    "null-elements-not-counted",
+    "null-rows-counted-by-offsets",
+    "counts-big-endian",
+    "count-tail-cleared",
+    "exact-room-refused",
+    "short-row-bitmap-accepted",
+    "short-element-bitmap-accepted",
+    "short-values-accepted",
+    "room-for-input-demanded",
+    "no-offset-for-no-rows",
+    "9-writes-offsets",
+    "refusal-writes-counts",
+    "refusal-clears-outputs",
+];
+
+/// Answers of the entry, and writes outside the lent slices.
+const ENTRY_DEFECTS: &[&str] = &[
+    "ragged-accepted",
+    "ragged-output-accepted",
+    "short-counts-accepted",
+    "size-one-over-accepted",
+    "at-size-refused",
+    "101-before-100",
+    "100-before-102",
+    "unknown-operation-done",
+    "operation-code-cut-to-a-byte",
+    "operations-of-other-entries-done",
+    "writes-behind-an-output",
+    "writes-behind-the-counts",
+    "writes-an-input",
+    "state-between-calls",
+];
+
+/// The name of the wrong version that is wanted, "none", or nothing.
+pub fn defect() -> &'static str {
+    static NAME: OnceLock<String> = OnceLock::new();
+    let name = NAME.get_or_init(|| {
+        let name = std::env::var("HARNESS_DEFECT").unwrap_or_default();
+        let known = name.is_empty() || name == "none" || is_known(&name);
+        assert!(known, "no such defect: {name}");
+        name
+    });
+    name.as_str()
+}
+
+fn is_known(name: &str) -> bool {
+    EVERYWHERE.contains(&name) || DEFECTS.iter().any(|(_, names)| names.contains(&name))
+}
+
+pub fn is(name: &str) -> bool {
+    debug_assert!(is_known(name), "{name}");
+    defect() == name
+}

@@ -93,4 +93,5 @@ archive! {
     list
     any_value
     element
+    lists
 }

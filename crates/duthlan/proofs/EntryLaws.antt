@@ -9,14 +9,15 @@ use Rattle.model.specs.Basics.{Lent, absent, given}
 use Rattle.model.specs.Bitmap.{Bits}
 use Rattle.model.specs.Column.{Elem, Row, Column, column, arguments}
 use Rattle.model.specs.Limits.{narrow}
-use Rattle.model.specs.Rows.{unary, onLent}
+use Rattle.model.specs.Rows.{unary, setOp, onLent}
 use Rattle.model.specs.Outcome.{Outcome, refused, gate, listOutcome, anyValueOutcome, elementOutcome}
 use Rattle.model.specs.Call.{written}
 use Rattle.model.specs.Contract.{room, valueRoom}
 use Rattle.model.specs.declared.Unary.{Unary}
 use Rattle.model.specs.declared.Unary.the-variants.{Reverse, Distinct, PopFront, PopBack}
+use Rattle.model.specs.declared.SetOp.{SetOp}
 use Rattle.model.proofs.OutcomeLaws.{gate-open}
-use Rattle.duthlan.specs.Entry.{ListReturns, ValueReturns, entered, numberOf, unaryOf, unaryCall}
+use Rattle.duthlan.specs.Entry.{ListReturns, ValueReturns, entered, numberOf, unaryOf, unaryCall, setOf, setCall}
 
 -- ---- no operation, a refusal of the sizes, or the operation
 
@@ -48,11 +49,27 @@ pub code : (op : ℕ) {u : Unary} (c : Column) → unaryOf op ≡ given u → un
 unfolding unaryCall onLent
 code op c h = rw h
 
+no-set : (op : ℕ) → (op ≡ 9 → ⊥) → (op ≡ 10 → ⊥) → setOf op ≡ absent
+unfolding setOf
+no-set op h k = rw (ne-eqb op 9 h, ne-eqb op 10 k)
+
+pub no-set-code : (op : ℕ) (c d : Column) → (op ≡ 9 → ⊥) → (op ≡ 10 → ⊥) → setCall op c d ≡ absent
+unfolding setCall onLent
+no-set-code op c d h k = rw (no-set op h k)
+
+pub set-code : (op : ℕ) {u : SetOp} (c d : Column) → setOf op ≡ given u → setCall op c d ≡ given (listOutcome narrow (setOp u c d))
+unfolding setCall onLent
+set-code op c d h = rw h
+
 -- ---- the operations on decoded slices
 
 module _ (r e : Bits) (lr : ℕ) {o o′ v v′ : List ℤ} {lv lv′ : ℕ} (p : o ≡ o′) (q : v ≡ v′) (t : lv ≡ lv′) where
   pub unary-decoded : (u : Unary) (le : ℕ) {lo lo′ : ℕ} → lo ≡ lo′ → listOutcome narrow (unary u (column o′ r v′ e)) (room lo′ lr lv′ le) ≡ listOutcome narrow (unary u (column o r v e)) (room lo lr lv le)
   unary-decoded u le s = rw (p, q, s, t)
+
+  pub set-decoded : (u : SetOp) (le : ℕ) {lo lo′ : ℕ} (s f : Bits) {x x′ w w′ : List ℤ} → x ≡ x′ → w ≡ w′ → lo ≡ lo′
+      → listOutcome narrow (setOp u (column o′ r v′ e) (column x′ s w′ f)) (room lo′ lr lv′ le) ≡ listOutcome narrow (setOp u (column o r v e) (column x s w f)) (room lo lr lv le)
+  set-decoded u le s f hx hw hl = rw (p, q, t, hx, hw, hl)
 
   pub any-value-decoded : anyValueOutcome (column o′ r v′ e) (valueRoom lv′ lr) ≡ anyValueOutcome (column o r v e) (valueRoom lv lr)
   any-value-decoded = rw (p, q, t)

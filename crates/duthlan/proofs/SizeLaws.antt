@@ -6,6 +6,8 @@ use Prim.Native.Nat.{ℕ, _/_, _≤_}
 use native.Mathlib.Omega.{arith}
 use borrow.Author.Tests.{ltb-false}
 use lib.Dec.{ltb}
+use lib.ListN.{length, take, drop, length-drop, length-append}
+use lib.Seq.{length-take-le}
 use Rattle.model.specs.Basics.{pick, any, All, none, more}
 use Rattle.duthlan.specs.Inner.{Arrays}
 use Rattle.duthlan.specs.Entry.{Numbers, mostRows, listSizes, valueSizes, ragged, outsize, sizeRefusal}
@@ -79,3 +81,7 @@ list-fits o v (more p (more q none)) a = record { offsets = rw (a .offsets) p; v
 
 pub value-fits : (v : ℕ) {a : ℕ} → All Fits (valueSizes v) → a ≡ mostRows → v / 8 ≤ a
 value-fits v (more p none) e = rw e p
+
+-- an array whose front was lent and came back has its length
+pub whole : {A : Type 0} (x l : List A) (n : ℕ) → n ≤ length l → length x ≡ length (take n l) → length (x ++ drop n l) ≡ length l
+whole x l n h e = omega (arith, length-append x (drop n l), length-drop n l, e, length-take-le n l h)

@@ -8,8 +8,9 @@ mod any_value;
 mod element;
 mod list;
 mod sizes;
+mod two_lists;
 
-ghost use Rattle.duthlan.specs.Entry.{ListEntry, ValueEntry, decoded, decodedArguments, listSizes, size, unaryCall, valueSizes};
+ghost use Rattle.duthlan.specs.Entry.{ListEntry, ValueEntry, decoded, decodedArguments, listSizes, setCall, size, unaryCall, valueSizes};
 ghost use Rattle.model.specs.Basics.{given};
 ghost use Rattle.model.specs.Limits.{narrow};
 ghost use Rattle.model.specs.Outcome.{anyValueOutcome, elementOutcome};
@@ -48,6 +49,56 @@ pub extern "C" fn duthlan_list(
         counts,
         &mut o,
         &mut v,
+        &mut oo,
+        &mut ov,
+    )
+}
+
+// Union (op 9) and intersect (10) of two lists.
+#[no_mangle]
+pub extern "C" fn duthlan_lists(
+    op: u32,
+    l_offsets: &[u8],
+    l_rows: &[u8],
+    l_values: &[u8],
+    l_elements: &[u8],
+    r_offsets: &[u8],
+    r_rows: &[u8],
+    r_values: &[u8],
+    r_elements: &[u8],
+    out_offsets: &mut [u8],
+    out_rows: &mut [u8],
+    out_values: &mut [u8],
+    out_elements: &mut [u8],
+    counts: &mut [u8],
+) -> u32
+    ensures { λ n. ⌜ ListEntry (setCall op (decoded «l_offsets» «l_rows» «l_values» «l_elements») (decoded «r_offsets» «r_rows» «r_values» «r_elements»)) (listSizes (size «l_offsets») (size «l_values») ++ listSizes (size «r_offsets») (size «r_values»)) n «out_offsets» «out_rows» «out_values» «out_elements» counts ⌝ }
+{
+    let mut lo = [0i32; sizes::MOST_OFFSETS];
+    let mut lv = [0i64; sizes::MOST_VALUES];
+    let mut ro = [0i32; sizes::MOST_OFFSETS];
+    let mut rv = [0i64; sizes::MOST_VALUES];
+    let mut oo = [0i32; sizes::MOST_OFFSETS];
+    let mut ov = [0i64; sizes::MOST_VALUES];
+    two_lists::enter(
+        op,
+        l_offsets,
+        l_rows,
+        l_values,
+        l_elements,
+        r_offsets,
+        r_rows,
+        r_values,
+        r_elements,
+        out_offsets,
+        out_rows,
+        out_values,
+        out_elements,
+        counts,
+        &mut lo,
+        &mut lv,
+        &mut ro,
+        &mut rv,
         &mut oo,
         &mut ov,
     )

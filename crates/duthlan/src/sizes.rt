@@ -80,6 +80,28 @@ pub(crate) fn list_refusal(
     refusal(ragged, outsize)
 }
 
+// Two lists, and a list answer.
+pub(crate) fn lists_refusal(
+    l_offsets: usize,
+    l_values: usize,
+    r_offsets: usize,
+    r_values: usize,
+    out_offsets: usize,
+    out_values: usize,
+    counts: usize,
+) -> u32
+    ensures { λ r. ⌜ r ≡ sizeRefusal ((listSizes «l_offsets» «l_values» ++ listSizes «r_offsets» «r_values») ++ listSizes «out_offsets» «out_values») counts 32 ⌝ }
+{
+    let ragged = is_list_ragged(l_offsets, l_values)
+        | is_list_ragged(r_offsets, r_values)
+        | is_list_ragged(out_offsets, out_values)
+        | (counts < 32);
+    let outsize = is_list_outsize(l_offsets, l_values)
+        | is_list_outsize(r_offsets, r_values)
+        | is_list_outsize(out_offsets, out_values);
+    refusal(ragged, outsize)
+}
+
 // One list, and a value answer.
 pub(crate) fn any_value_refusal(
     offsets: usize,

@@ -25,7 +25,7 @@ use Rattle.ops.specs.declared.ListOp.the-variants as L
 use Rattle.ops.specs.declared.RowOp.{RowOp}
 use Rattle.ops.specs.declared.RowOp.the-variants as R
 
--- the call that an operation makes of a list and of the argument columns that it takesOf
+-- the call that an operation makes of a list and of the argument columns that it takes
 unfoldable pub callOf : {C A : Type 0} → ListOp → C → A → A → A → ListCall C A
 callOf (L.Plain u) c x y z = unary u c
 callOf L.Slice c x y z = slice c x y absent
@@ -35,7 +35,7 @@ callOf L.ResizeWith c x y z = resize c x (given y)
 callOf L.Replace c x y z = replace c x y z
 callOf L.Remove c x y z = remove c x y
 
--- how many argument columns an operation takesOf
+-- how many argument columns an operation takes
 unfoldable pub takesOf : ListOp → ℕ
 takesOf (L.Plain u) = 0
 takesOf L.Slice = 2

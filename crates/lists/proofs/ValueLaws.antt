@@ -15,12 +15,12 @@ use Rattle.model.specs.Limits.{narrow}
 use Rattle.model.specs.Refusals.{firstOf, elementRefusal}
 use Rattle.model.specs.Rows.{anyValueOf, elementOf, rowOf, argumentOf}
 use Rattle.model.specs.Outcome.{Outcome, refused, gate, columnsRefusal, fittedValues, anyValueShown, anyValueOutcome, elementsMade, elementsRefusal, elementShown, elementOutcome}
-use Rattle.model.proofs.TabLaws.{length-tab, tab-ext, map-tab, getD-tab}
+use Rattle.model.proofs.TabLaws.{length-tab, tab-ext, map-tab}
 use Rattle.model.proofs.OutcomeLaws.{gate-open}
 use Rattle.lists.specs.Made.{anyValueAt, anyValues, elementAtRow, elementsOf}
 use Rattle.rows.proofs.FoundLaws.{four-at}
 use Rattle.rows.specs.Found.{fourAt}
-use Rattle.sets.proofs.SetLaws.{length-rows, row-at}
+use Rattle.model.proofs.ColumnLaws.{length-rows, row-at, length-shown, argument-at}
 
 -- ---- the calls
 
@@ -31,14 +31,6 @@ any-outcome c l = rw (map-tab anyValueOf (rowAt c) 0 (rowCount (c .offsets)))
 pub length-any : (c : Column) → length (anyValues c) ≡ rowCount (c .offsets)
 unfolding anyValues
 length-any c = length-tab (anyValueAt c) 0 (rowCount (c .offsets))
-
-length-shown : (a : Arguments) → length (shownBy a) ≡ length (a .values)
-unfolding shownBy
-length-shown a = length-tab (elemAt (a .values) (a .bits)) 0 (length (a .values))
-
-argument-at : (a : Arguments) (r : ℕ) → r < length (a .values) → argumentOf (shownBy a) r ≡ elemAt (a .values) (a .bits) r
-unfolding shownBy
-argument-at a r h = getD-tab (elemAt (a .values) (a .bits)) 0 (length (a .values)) r nul h ∙ ap (elemAt (a .values) (a .bits)) (zero-add r)
 
 -- a function of row r and of its argument, from what is shown and from the columns
 by-row : {A : Type 0} (f : Row → Elem → A) (c : Column) (a : Arguments) → length (a .values) ≡ rowCount (c .offsets)

@@ -1,14 +1,16 @@
+-- What a column shows, by its rows and places.
 -- "Two columns show equal rows when they have equally many rows, the same rows are null, and every other row has one length in
 -- both and at each place a null in both or the same value": then the rows that they show are one list. So for equal arguments.
 use Prim.Native.Nat.{ℕ, _<_}
-use mathlib.Core.Path.{_≡_, refl, ap}
+use mathlib.Core.Path.{_≡_, refl, ap, _∙_}
 use mathlib.Core.Bool.{Bool, true, false}
 use native.Mathlib.Nat.{zero-add}
 use lib.ListN.{length}
 use Rattle.model.specs.Basics.{pick}
 use Rattle.model.specs.Bitmap.{validAt}
 use Rattle.model.specs.Column.{nul, val, nullRow, listRow, Column, Arguments, rowCount, lengthAt, elemAt, rowAt, rowsOf, shownBy, EqualRows, EqualArguments}
-use Rattle.model.proofs.TabLaws.{tab-ext}
+use Rattle.model.specs.Rows.{rowOf, argumentOf}
+use Rattle.model.proofs.TabLaws.{tab-ext, length-tab, getD-tab}
 
 -- two choices are equal where the tests are, and what they choose where those hold
 pub pick-same : {A : Type 0} (p q : Bool) (x y z : A) → p ≡ q → (p ≡ true → x ≡ y) → pick p x z ≡ pick q y z
@@ -32,3 +34,21 @@ same-arguments {a} {b} e =
     rw (← (e .many))
     (tab-ext (elemAt (a .values) (a .bits)) (elemAt (b .values) (b .bits)) 0 0 (length (a .values))
     (λ i l. simp zero-add (pick-same (validAt (a .bits) i) (validAt (b .bits) i) _ _ nul (e .nulls i l) (λ v. ap val (e .values i l v)))))
+
+-- ---- what is shown at a place
+
+pub length-rows : (c : Column) → length (rowsOf c) ≡ rowCount (c .offsets)
+unfolding rowsOf
+length-rows c = length-tab (rowAt c) 0 (rowCount (c .offsets))
+
+pub row-at : (c : Column) (r : ℕ) → r < rowCount (c .offsets) → rowOf (rowsOf c) r ≡ rowAt c r
+unfolding rowsOf
+row-at c r h = getD-tab (rowAt c) 0 (rowCount (c .offsets)) r nullRow h ∙ ap (rowAt c) (zero-add r)
+
+pub length-shown : (a : Arguments) → length (shownBy a) ≡ length (a .values)
+unfolding shownBy
+length-shown a = length-tab (elemAt (a .values) (a .bits)) 0 (length (a .values))
+
+pub argument-at : (a : Arguments) (r : ℕ) → r < length (a .values) → argumentOf (shownBy a) r ≡ elemAt (a .values) (a .bits) r
+unfolding shownBy
+argument-at a r h = getD-tab (elemAt (a .values) (a .bits)) 0 (length (a .values)) r nul h ∙ ap (elemAt (a .values) (a .bits)) (zero-add r)

@@ -4,9 +4,10 @@ use Prim.Native.Nat.{ℕ}
 use mathlib.Core.Path.{_≡_, refl}
 use mathlib.Core.Bool.{Bool, false}
 use mathlib.Core.List.{List}
+use borrow.Author.Tests.{ne-eqb}
 use Rattle.model.specs.Basics.{any, All, none, more}
 use Rattle.model.specs.Column.{Column, Arguments, refusal1, refusal2, refusal2ᵃ, WellFormed, WellFormedᵃ}
-use Rattle.model.specs.Outcome.{Outcome, gate, columnsRefusal}
+use Rattle.model.specs.Outcome.{Outcome, refused, gate, columnsRefusal}
 
 -- a test that fails at each element holds of none
 any-none : {A : Type 0} {P : A → Type 0} {xs : List A} (p : A → Bool) → ((x : A) → P x → p x ≡ false) → All P xs → any p xs ≡ false
@@ -22,3 +23,8 @@ formed-columns f g = rw (any-none refusal1 (λ c w. w .not1) f, any-none refusal
 pub gate-open : {A : Type 0} (k : ℕ) (o : Outcome A) → k ≡ 0 → gate k o ≡ o
 unfolding gate
 gate-open k o h = rw h
+
+-- a number is the refusal
+pub gate-shut : {A : Type 0} (k : ℕ) (o : Outcome A) → (k ≡ 0 → ⊥) → gate k o ≡ refused k
+unfolding gate
+gate-shut k o h = rw (ne-eqb k 0 h)

@@ -6,16 +6,18 @@ use native.Mathlib.Omega.{arith}
 use lib.ListN.{length, take, drop}
 use lib.Seq.{take-at}
 use lib.IntN.{ℤ}
-use Rattle.model.specs.Bitmap.{bytesFor}
+use Rattle.model.specs.Bitmap.{bytesFor, pack}
 use Rattle.model.specs.Limits.{Limits}
 use Rattle.model.specs.Column.{Elem, Row, Column, Arguments}
-use Rattle.model.specs.Form.{isVal, isRow, valueOf, flat, lengthOf, over, formOffsets, formRows, formValues, formElements}
+use Rattle.model.specs.Form.{isVal, isRow, valueOf, Outer, isOuter, outerLength, inner, flat, lengthOf, over, offsetsFrom, formOffsets, formRows, formValues, formElements}
 use Rattle.model.specs.Outcome.{Outcome, refused, made}
-use Rattle.model.specs.Call.{Call, answerOf, written, End, listNumbers, listBitmaps, listEnd, valueEnd, end}
-use Rattle.model.specs.Contract.{told, toldValue, ListMeets, ValueMeets}
-use Rattle.model.specs.Run.{listRunEnd, valueRunEnd, Run, listRun, anyValueRun, elementRun}
+use Rattle.model.specs.Call.{Call, answerOf, written, End, listNumbers, listBitmaps, listEnd, valueEnd, repeatEnd, end}
+use Rattle.model.specs.Contract.{told, toldValue, toldRepeat, ListMeets, ValueMeets, RepeatMeets}
+use Rattle.model.specs.Run.{listRunEnd, valueRunEnd, repeatRunEnd, Run, listRun, anyValueRun, elementRun, repeatRun}
 use Rattle.model.specs.declared.ListAnswer.{ListAnswer}
 use Rattle.model.specs.declared.ListAnswer.the-variants as L
+use Rattle.model.specs.declared.RepeatAnswer.{RepeatAnswer}
+use Rattle.model.specs.declared.RepeatAnswer.the-variants as R
 use Rattle.model.specs.declared.ValueAnswer.{ValueAnswer}
 use Rattle.model.specs.declared.ValueAnswer.the-variants as V′
 use Rattle.model.proofs.TabLaws.{length-map}
@@ -61,8 +63,30 @@ module _ {v v′ : List ℤ} {r r′ : List ℕ} where
       let rows = taken (formElements es) r r′ (bytesFor n) (h .rows) (omega (arith, length-pack (map isVal es), length-map isVal es)) in
       cc
 
+-- ---- list-repeat's answer
+
+module _ {o o′ : List ℤ} {r r′ : List ℕ} {io io′ : List ℤ} {ir ir′ : List ℕ} {v v′ : List ℤ} {e e′ : List ℕ} where
+  repeat-run : (x : Outcome (List Outer)) (a : RepeatAnswer) → RepeatMeets x a o o′ r r′ io io′ ir ir′ v v′ e e′ → repeatRunEnd a o′ r′ io′ ir′ v′ e′ ≡ repeatEnd x
+  unfolding repeatRunEnd repeatEnd toldRepeat answerOf written
+  repeat-run (refused k) (R.Refused j) h = let q = h .answer in cc
+  repeat-run (refused k) (R.Counts n m p q i j) h = let z = h .answer in never cc
+  repeat-run (made os) (R.Refused j) h = let z = h .answer in never cc
+  repeat-run (made os) (R.Counts n m p q i j) h =
+      let z = h .answer in
+      let en : n ≡ length os = cc in
+      let em : m ≡ length (flat (inner os)) = cc in
+      let ei : i ≡ length (inner os) = cc in
+      let offsets = taken (offsetsFrom 0 (map outerLength os)) o o′ (n + 1) (h .offsets) (omega (arith, length-offsets 0 (map outerLength os), length-map outerLength os)) in
+      let rows = taken (pack (map isOuter os)) r r′ (bytesFor n) (h .rows) (omega (arith, length-pack (map isOuter os), length-map isOuter os)) in
+      let inner-offsets = taken (formOffsets (inner os)) io io′ (i + 1) (h .inner-offsets) (omega (arith, length-offsets 0 (map lengthOf (inner os)), length-map lengthOf (inner os))) in
+      let inner-rows = taken (formRows (inner os)) ir ir′ (bytesFor i) (h .inner-rows) (omega (arith, length-pack (map isRow (inner os)), length-map isRow (inner os))) in
+      let values = taken (formValues (flat (inner os))) v v′ m (h .values) (omega (arith, length-map valueOf (flat (inner os)))) in
+      let elements = taken (formElements (flat (inner os))) e e′ (bytesFor m) (h .elements) (omega (arith, length-pack (map isVal (flat (inner os))), length-map isVal (flat (inner os)))) in
+      cc
+
 pub run-ends : (L : Limits) {q : Call Column Arguments} {e : End} → Run L q e → e ≡ end L q
 unfolding end
 run-ends L (listRun h) = list-run _ _ h
 run-ends L (anyValueRun h) = value-run _ _ h
 run-ends L (elementRun h) = value-run _ _ h
+run-ends L (repeatRun h) = repeat-run _ _ h

@@ -1,18 +1,20 @@
 -- How a contract names a call: the column that slices hold as the call begins, and the outputs at entry and at exit.
 use Prim.Native.Nat.{ℕ}
 use mathlib.Core.Path.{_≡_}
-use mathlib.Core.List.{List, [], _∷_}
+use mathlib.Core.List.{List, [], _∷_, map}
 use lib.ListN.{length}
 use lib.IntN.{ℤ}
 use denote.Ref.{RefT, now}
 use denote.Triple.Both.{Both}
-use Rattle.model.specs.Bitmap.{from}
+use Rattle.model.specs.Bitmap.{from, pack}
 use Rattle.model.specs.Column.{Elem, Row, Column, column, Arguments, arguments}
-use Rattle.model.specs.Form.{Room, ValueRoom, flat, over, formOffsets, formRows, formValues, formElements}
+use Rattle.model.specs.Form.{Room, ValueRoom, RepeatRoom, Outer, isOuter, outerLength, inner, flat, over, offsetsFrom, formOffsets, formRows, formValues, formElements}
 use Rattle.model.specs.Outcome.{Outcome}
-use Rattle.model.specs.Call.{Answer, refusal, counts, answerOf, written, listCounts, valueCounts}
+use Rattle.model.specs.Call.{Answer, refusal, counts, answerOf, written, listCounts, valueCounts, repeatCounts}
 use Rattle.model.specs.declared.ListAnswer.{ListAnswer}
 use Rattle.model.specs.declared.ListAnswer.the-variants as L
+use Rattle.model.specs.declared.RepeatAnswer.{RepeatAnswer}
+use Rattle.model.specs.declared.RepeatAnswer.the-variants as R
 use Rattle.model.specs.declared.ValueAnswer.{ValueAnswer}
 use Rattle.model.specs.declared.ValueAnswer.the-variants as V′
 
@@ -28,6 +30,10 @@ told (L.Refused k) = refusal k
 unfoldable pub toldValue : ValueAnswer → Answer
 toldValue (V′.Counts rows nulls) = counts (rows ∷ nulls ∷ [])
 toldValue (V′.Refused k) = refusal k
+
+unfoldable pub toldRepeat : RepeatAnswer → Answer
+toldRepeat (R.Counts rows elements nulls null-elements inner-rows null-inner) = counts (rows ∷ elements ∷ nulls ∷ null-elements ∷ inner-rows ∷ null-inner ∷ [])
+toldRepeat (R.Refused k) = refusal k
 
 -- an output slice after the call: "Slots past the result keep their content.", and a refused call writes none
 abbrev pub after : {A B : Type 0} → (A → List B) → Outcome A → List B → List B
@@ -46,6 +52,9 @@ room o r v e = record { offsets = o; rows = r; values = v; elements = e }
 abbrev pub valueRoom : ℕ → ℕ → ValueRoom
 valueRoom v r = record { values = v; rows = r }
 
+abbrev pub repeatRoom : ℕ → ℕ → ℕ → ℕ → ℕ → ℕ → RepeatRoom
+repeatRoom o r io ir v e = record { outer-offsets = o; outer-rows = r; lists = room io ir v e }
+
 -- the answer and the four outputs, at entry and at exit, are those of the outcome
 pub record ListMeets (x : Outcome (List Row)) (a : ListAnswer) (o o′ : List ℤ) (r r′ : List ℕ) (v v′ : List ℤ) (e e′ : List ℕ) : Type 0 where
   pub answer : told a ≡ answerOf listCounts x
@@ -59,6 +68,16 @@ pub record ValueMeets (x : Outcome (List Elem)) (a : ValueAnswer) (v v′ : List
   pub values : v′ ≡ after formValues x v
   pub rows : r′ ≡ after formElements x r
 
+-- outer offsets and rows, inner offsets and rows, values and elements
+pub record RepeatMeets (x : Outcome (List Outer)) (a : RepeatAnswer) (o o′ : List ℤ) (r r′ : List ℕ) (io io′ : List ℤ) (ir ir′ : List ℕ) (v v′ : List ℤ) (e e′ : List ℕ) : Type 0 where
+  pub answer : toldRepeat a ≡ answerOf repeatCounts x
+  pub offsets : o′ ≡ after (λ os. offsetsFrom 0 (map outerLength os)) x o
+  pub rows : r′ ≡ after (λ os. pack (map isOuter os)) x r
+  pub inner-offsets : io′ ≡ after (λ os. formOffsets (inner os)) x io
+  pub inner-rows : ir′ ≡ after (λ os. formRows (inner os)) x ir
+  pub values : v′ ≡ after (λ os. formValues (flat (inner os))) x v
+  pub elements : e′ ≡ after (λ os. formElements (flat (inner os))) x e
+
 -- the contract of a list operation: the answer and the outputs are what f gives for the lengths lent
 abbrev pub ListAnswers : (Room → Outcome (List Row)) → ListAnswer → Slot ℤ → Slot ℕ → Slot ℤ → Slot ℕ → Type 0
 ListAnswers f a o r v e =
@@ -69,3 +88,9 @@ ListAnswers f a o r v e =
 abbrev pub ValueAnswers : (ValueRoom → Outcome (List Elem)) → ValueAnswer → Slot ℤ → Slot ℕ → Type 0
 ValueAnswers f a v r =
     ValueMeets (f (valueRoom (length (now (v .entry))) (length (now (r .entry))))) a (now (v .entry)) (now (v .exit)) (now (r .entry)) (now (r .exit))
+
+-- the contract of list-repeat
+abbrev pub RepeatAnswers : (RepeatRoom → Outcome (List Outer)) → RepeatAnswer → Slot ℤ → Slot ℕ → Slot ℤ → Slot ℕ → Slot ℤ → Slot ℕ → Type 0
+RepeatAnswers f a o r io ir v e =
+    RepeatMeets (f (repeatRoom (length (now (o .entry))) (length (now (r .entry))) (length (now (io .entry))) (length (now (ir .entry))) (length (now (v .entry))) (length (now (e .entry))))) a
+    (now (o .entry)) (now (o .exit)) (now (r .entry)) (now (r .exit)) (now (io .entry)) (now (io .exit)) (now (ir .entry)) (now (ir .exit)) (now (v .entry)) (now (v .exit)) (now (e .entry)) (now (e .exit))

@@ -7,13 +7,15 @@ use lib.IntN.{ℤ}
 use Rattle.model.specs.Bitmap.{bytesFor}
 use Rattle.model.specs.Limits.{Limits}
 use Rattle.model.specs.Column.{Column, Arguments}
-use Rattle.model.specs.Form.{Room, ValueRoom}
+use Rattle.model.specs.Form.{Room, ValueRoom, RepeatRoom}
 use Rattle.model.specs.Rows.{ListCall}
-use Rattle.model.specs.Outcome.{listOutcome, anyValueOutcome, elementOutcome}
-use Rattle.model.specs.Call.{Call, list, anyValue, element, End, refusal, counts, operationEnd}
-use Rattle.model.specs.Contract.{ListMeets, ValueMeets}
+use Rattle.model.specs.Outcome.{listOutcome, anyValueOutcome, elementOutcome, repeatOutcome}
+use Rattle.model.specs.Call.{Call, list, anyValue, element, listRepeat, End, refusal, counts, operationEnd}
+use Rattle.model.specs.Contract.{ListMeets, ValueMeets, RepeatMeets}
 use Rattle.model.specs.declared.ListAnswer.{ListAnswer}
 use Rattle.model.specs.declared.ListAnswer.the-variants as L
+use Rattle.model.specs.declared.RepeatAnswer.{RepeatAnswer}
+use Rattle.model.specs.declared.RepeatAnswer.the-variants as R
 use Rattle.model.specs.declared.ValueAnswer.{ValueAnswer}
 use Rattle.model.specs.declared.ValueAnswer.the-variants as V′
 
@@ -28,7 +30,12 @@ unfoldable pub valueRunEnd : ValueAnswer → List ℤ → List ℕ → End
 valueRunEnd (V′.Refused k) v r = operationEnd (refusal k) ([] ∷ []) ([] ∷ [])
 valueRunEnd (V′.Counts n p) v r = operationEnd (counts (n ∷ p ∷ [])) (take n v ∷ []) (take (bytesFor n) r ∷ [])
 
--- a run of a call that ended so: the contract of its function holds of it (list-repeat and recipes add their own with their contracts)
+unfoldable pub repeatRunEnd : RepeatAnswer → List ℤ → List ℕ → List ℤ → List ℕ → List ℤ → List ℕ → End
+repeatRunEnd (R.Refused k) o r io ir v e = operationEnd (refusal k) ([] ∷ [] ∷ [] ∷ []) ([] ∷ [] ∷ [] ∷ [])
+repeatRunEnd (R.Counts n m p q i j) o r io ir v e =
+    operationEnd (counts (n ∷ m ∷ p ∷ q ∷ i ∷ j ∷ [])) (take (n + 1) o ∷ take (i + 1) io ∷ take m v ∷ []) (take (bytesFor n) r ∷ take (bytesFor i) ir ∷ take (bytesFor m) e ∷ [])
+
+-- a run of a call that ended so: the contract of its function holds of it (recipes add their own with their contract)
 pub data Run (L : Limits) : Call Column Arguments → End → Type 0 where
   listRun : {q : ListCall Column Arguments} {l : Room} {a : ListAnswer} {o o′ : List ℤ} {r r′ : List ℕ} {v v′ : List ℤ} {e e′ : List ℕ}
       → ListMeets (listOutcome L q l) a o o′ r r′ v v′ e e′ → Run L (list q l) (listRunEnd a o′ r′ v′ e′)
@@ -36,3 +43,5 @@ pub data Run (L : Limits) : Call Column Arguments → End → Type 0 where
       → ValueMeets (anyValueOutcome c l) a v v′ r r′ → Run L (anyValue c l) (valueRunEnd a v′ r′)
   elementRun : {c : Column} {x : Arguments} {l : ValueRoom} {a : ValueAnswer} {v v′ : List ℤ} {r r′ : List ℕ}
       → ValueMeets (elementOutcome L c x l) a v v′ r r′ → Run L (element c x l) (valueRunEnd a v′ r′)
+  repeatRun : {c : Column} {x : Arguments} {l : RepeatRoom} {a : RepeatAnswer} {o o′ : List ℤ} {r r′ : List ℕ} {io io′ : List ℤ} {ir ir′ : List ℕ} {v v′ : List ℤ} {e e′ : List ℕ}
+      → RepeatMeets (repeatOutcome L c x l) a o o′ r r′ io io′ ir ir′ v v′ e e′ → Run L (listRepeat c x l) (repeatRunEnd a o′ r′ io′ ir′ v′ e′)

@@ -30,3 +30,16 @@ pub enum ValueAnswer {
     Counts { rows: usize, null_rows: usize },
     Refused(u8),
 }
+
+// The answer of list-repeat: its counts, or the number of a refusal.
+pub enum RepeatAnswer {
+    Counts {
+        rows: usize,
+        elements: usize,
+        null_rows: usize,
+        null_elements: usize,
+        inner_rows: usize,
+        null_inner_rows: usize,
+    },
+    Refused(u8),
+}

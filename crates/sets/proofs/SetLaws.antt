@@ -19,8 +19,9 @@ use Rattle.model.specs.Refusals.{unequal, firstOf, refusalOf, sumsRefusal, unio
 use Rattle.model.specs.Outcome.{Outcome, refused, gate, columnsRefusal, fitted, afterThree, listShown, listOutcome}
 use Rattle.model.specs.declared.SetOp.{SetOp}
 use Rattle.model.specs.declared.SetOp.the-variants.{Union, Intersect}
-use Rattle.model.proofs.TabLaws.{length-tab, map-tab, tab-ext, getD-tab}
-use Rattle.model.proofs.OutcomeLaws.{gate-open}
+use Rattle.model.proofs.TabLaws.{length-tab, map-tab, tab-ext}
+use Rattle.model.proofs.ColumnLaws.{length-rows, row-at}
+use Rattle.model.proofs.OutcomeLaws.{gate-open, gate-shut}
 use Rattle.column.specs.Put.{HasRoom}
 use Rattle.column.specs.Rows.{rowFrom}
 use Rattle.column.proofs.WalkLaws.{row-from}
@@ -100,18 +101,6 @@ none-of : (L : Limits) (op : SetOp) (ls rs : List Row) (a n : ℕ) → firstOf (
 unfolding tab madeOf atRow refusalOf firstOf
 none-of L op ls rs a zero = refl
 none-of L op ls rs a (suc n) = none-of L op ls rs (suc a) n
-
-pub length-rows : (c : Column) → length (rowsOf c) ≡ rowCount (c .offsets)
-unfolding rowsOf
-length-rows c = length-tab (rowAt c) 0 (rowCount (c .offsets))
-
-pub row-at : (c : Column) (r : ℕ) → r < rowCount (c .offsets) → rowOf (rowsOf c) r ≡ rowAt c r
-unfolding rowsOf
-row-at c r h = getD-tab (rowAt c) 0 (rowCount (c .offsets)) r nullRow h ∙ ap (rowAt c) (zero-add r)
-
-pub gate-shut : {A : Type 0} (k : ℕ) (o : Outcome A) → (k ≡ 0 → ⊥) → gate k o ≡ refused k
-unfolding gate
-gate-shut k o h = rw (ne-eqb k 0 h)
 
 module _ (op : SetOp) (c d : Column) where
   pub length-pairs : length (pairRows op c d) ≡ rowCount (c .offsets)

@@ -12,12 +12,12 @@ use Rattle.model.specs.Limits.{narrow}
 use Rattle.model.specs.Outcome.{gate, columnsRefusal, fitted, listOutcome}
 use Rattle.model.specs.Refusals.{unionRefusal}
 use Rattle.model.specs.Rows.{setOp}
-use Rattle.model.proofs.OutcomeLaws.{gate-open}
+use Rattle.model.proofs.OutcomeLaws.{gate-open, gate-shut}
 use Rattle.column.specs.Put.{HasRoom, Readable}
 use Rattle.column.proofs.AnswerLaws.{list-refused, list-made, has-room, same-fit, fitted-made, fitted-short}
 use Rattle.column.proofs.WalkLaws.{readable}
 use Rattle.sets.specs.Pairs.{pairRows}
-use Rattle.sets.proofs.SetLaws.{both-formed, gate-shut, length-pairs, set-early, set-three, set-goes, united}
+use Rattle.sets.proofs.SetLaws.{both-formed, length-pairs, set-early, set-three, set-goes, united}
 use Rattle.sets.proofs.run.Statement.{statement}
 use Rattle.sets.proofs.run.Tie as tie
 

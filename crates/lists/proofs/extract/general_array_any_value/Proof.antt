@@ -9,11 +9,10 @@ use Rattle.model.specs.Column.{Column, column}
 use Rattle.model.specs.Contract.{valueRoom}
 use Rattle.model.specs.Form.{ValueRoom, fitsValues}
 use Rattle.model.specs.Outcome.{anyValueOutcome, fittedValues}
-use Rattle.model.proofs.OutcomeLaws.{gate-open}
+use Rattle.model.proofs.OutcomeLaws.{gate-open, gate-shut}
 use Rattle.column.proofs.AnswerLaws.{value-refused, value-made, has-value-room, same-value-fit, values-made, values-short}
 use Rattle.column.proofs.WalkLaws.{readable}
 use Rattle.lists.specs.Made.{anyValues}
-use Rattle.sets.proofs.SetLaws.{gate-shut}
 use Rattle.lists.proofs.ValueLaws.{any-outcome, length-any}
 use Rattle.lists.proofs.extract.general_array_any_value.Statement.{statement}
 use Rattle.lists.proofs.extract.general_array_any_value.Tie as tie

@@ -12,14 +12,13 @@ use Rattle.model.specs.Form.{ValueRoom, fitsValues}
 use Rattle.model.specs.Limits.{narrow}
 use Rattle.model.specs.Outcome.{elementOutcome, elementShown, fittedValues, gate}
 use Rattle.model.specs.Refusals.{firstOf}
-use Rattle.model.proofs.OutcomeLaws.{gate-open}
+use Rattle.model.proofs.OutcomeLaws.{gate-open, gate-shut}
 use Rattle.bitmap.specs.Push.{Covers}
 use Rattle.column.specs.Put.{Readable}
 use Rattle.column.proofs.AnswerLaws.{value-refused, value-made, has-value-room, same-value-fit, values-made, values-short}
 use Rattle.column.proofs.WalkLaws.{readable}
 use Rattle.lists.specs.Made.{elementsOf}
 use Rattle.rows.specs.Found.{fourAt}
-use Rattle.sets.proofs.SetLaws.{gate-shut}
 use Rattle.lists.proofs.ValueLaws.{element-early, element-two, element-shown, element-three, element-goes, length-elements}
 use Rattle.lists.proofs.extract.general_array_element.Statement.{statement}
 use Rattle.lists.proofs.extract.general_array_element.Tie as tie

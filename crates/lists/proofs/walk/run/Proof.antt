@@ -11,12 +11,11 @@ use Rattle.model.specs.Form.{Room, fitsIn, flat}
 use Rattle.model.specs.Limits.{narrow}
 use Rattle.model.specs.Outcome.{fitted, listOutcome}
 use Rattle.model.specs.Rows.{unary}
-use Rattle.model.proofs.OutcomeLaws.{gate-open}
+use Rattle.model.proofs.OutcomeLaws.{gate-open, gate-shut}
 use Rattle.column.specs.Put.{HasRoom}
 use Rattle.column.proofs.AnswerLaws.{list-refused, list-made, has-room, same-fit, fitted-made, fitted-short}
 use Rattle.column.proofs.WalkLaws.{readable}
 use Rattle.lists.specs.Made.{unaryRows}
-use Rattle.sets.proofs.SetLaws.{gate-shut}
 use Rattle.lists.proofs.UnaryLaws.{unary-outcome, length-unary}
 use Rattle.lists.proofs.walk.run.Statement.{statement}
 use Rattle.lists.proofs.walk.run.Tie as tie

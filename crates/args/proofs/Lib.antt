@@ -1,0 +1,4 @@
+pub mod TakenLaws
+pub mod RowLaws
+pub mod CallLaws
+pub mod LoopLaws

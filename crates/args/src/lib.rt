@@ -1,0 +1,356 @@
+// The operations on one list with up to three argument columns: one walk measures the rows, a second writes. An inner crate: its
+// callers meet what it asks.
+mod taken;
+mod totals;
+
+use column::answers;
+use column::checks;
+use column::offsets;
+use model::ListAnswer;
+use ops::ListOp;
+use ops::RowOp;
+ghost use Prim.Native.Nat.{_-_, _<_, _≤_};
+ghost use Rattle.args.specs.Made.{callRows};
+ghost use Rattle.args.specs.Taken.{Served};
+ghost use Rattle.column.specs.Put.{HasRoom, Holds, Readable, Source};
+ghost use Rattle.column.specs.Rows.{PutsRow, RoomFor};
+ghost use Rattle.model.specs.Basics.{tab};
+ghost use Rattle.model.specs.Bitmap.{from};
+ghost use Rattle.model.specs.Column.{arguments, column, elemAt, rowCount, rowsOf, shownBy};
+ghost use Rattle.model.specs.Contract.{ListMeets, room};
+ghost use Rattle.model.specs.Form.{flat};
+ghost use Rattle.model.specs.Limits.{narrow};
+ghost use Rattle.model.specs.Outcome.{afterThree, fitted, listOutcome};
+ghost use Rattle.model.specs.Rows.{rowMade};
+ghost use Rattle.ops.specs.Ops.{Doable, callOf, opMade};
+ghost use lib.ListN.{length};
+ghost use mathlib.Core.Path.{_≡_};
+
+// The number of elements that a call makes, or the refusal before them.
+pub enum Measure {
+    Sum(usize),
+    Refused(u8),
+}
+
+// Writes the row that is made of the len elements from element a on as row r, but for its offset; gives the number of elements then
+// written.
+fn put_row(
+    op: RowOp,
+    values: &[i64],
+    elements: &[u8],
+    estart: usize,
+    a: usize,
+    len: usize,
+    r: usize,
+    out_rows: &mut [u8],
+    out_values: &mut [i64],
+    out_elements: &mut [u8],
+    at: usize,
+) -> usize
+    requires column { ⌜ Source (now values) (from estart (now elements)) a len ⌝ }
+    requires doable { ⌜ Doable op len ⌝ }
+    requires room { ⌜ RoomFor (rowMade (opMade op (tab (elemAt (now values) (from estart (now elements))) a len))) r at (length (now «out_rows»)) (length (now «out_values»)) (length (now «out_elements»)) ⌝ }
+    ensures { λ k. ⌜ PutsRow (rowMade (opMade op (tab (elemAt (now (values .entry)) (from estart (now (elements .entry)))) a len))) r at (now («out_rows» .entry)) (now («out_rows» .exit)) (now («out_values» .entry)) (now («out_values» .exit)) (now («out_elements» .entry)) (now («out_elements» .exit)) k ⌝ }
+{
+    let null = ops::is_null(op);
+    let next = ops::write(
+        op,
+        values,
+        elements,
+        estart,
+        a,
+        len,
+        out_values,
+        out_elements,
+        at,
+    );
+    bitmap::push_bit(out_rows, r, !null);
+    next
+}
+
+// Writes the rows that the operation makes, in result form.
+fn write_rows(
+    op: ListOp,
+    offsets: &[i32],
+    rows: &[u8],
+    rstart: usize,
+    values: &[i64],
+    elements: &[u8],
+    estart: usize,
+    xs: &[i64],
+    xbits: &[u8],
+    xstart: usize,
+    ys: &[i64],
+    ybits: &[u8],
+    ystart: usize,
+    zs: &[i64],
+    zbits: &[u8],
+    zstart: usize,
+    out_offsets: &mut [i32],
+    out_rows: &mut [u8],
+    out_values: &mut [i64],
+    out_elements: &mut [u8],
+)
+    requires column { ⌜ Readable (column (now offsets) (from rstart (now rows)) (now values) (from estart (now elements))) ⌝ }
+    requires arguments { ⌜ Served op (rowCount (now offsets)) (arguments (now xs) (from xstart (now xbits))) (arguments (now ys) (from ystart (now ybits))) (arguments (now zs) (from zstart (now zbits))) ⌝ }
+    requires small { ⌜ length (flat (callRows op (column (now offsets) (from rstart (now rows)) (now values) (from estart (now elements))) (arguments (now xs) (from xstart (now xbits))) (arguments (now ys) (from ystart (now ybits))) (arguments (now zs) (from zstart (now zbits))))) ≤ narrow .offset ⌝ }
+    requires room { ⌜ HasRoom (rowCount (now offsets)) (length (flat (callRows op (column (now offsets) (from rstart (now rows)) (now values) (from estart (now elements))) (arguments (now xs) (from xstart (now xbits))) (arguments (now ys) (from ystart (now ybits))) (arguments (now zs) (from zstart (now zbits)))))) (length (now «out_offsets»)) (length (now «out_rows»)) (length (now «out_values»)) (length (now «out_elements»)) ⌝ }
+    ensures { λ _. ⌜ Holds (callRows op (column (now (offsets .entry)) (from rstart (now (rows .entry))) (now (values .entry)) (from estart (now (elements .entry)))) (arguments (now (xs .entry)) (from xstart (now (xbits .entry)))) (arguments (now (ys .entry)) (from ystart (now (ybits .entry)))) (arguments (now (zs .entry)) (from zstart (now (zbits .entry))))) (now («out_offsets» .entry)) (now («out_offsets» .exit)) (now («out_rows» .entry)) (now («out_rows» .exit)) (now («out_values» .entry)) (now («out_values» .exit)) (now («out_elements» .entry)) (now («out_elements» .exit)) ⌝ }
+{
+    let n = offsets::row_count(offsets);
+    offsets::put_offset(out_offsets, 0, 0);
+    let mut r: usize = 0;
+    let mut at: usize = 0;
+    let mut left = n;
+    while 0 < left {
+        let a = offsets::offset_at(offsets, r);
+        let b = offsets::offset_at(offsets, r + 1);
+        let len = b - a;
+        let o = taken::op_at(
+            op,
+            rows,
+            rstart,
+            n,
+            xs,
+            xbits,
+            xstart,
+            ys,
+            ybits,
+            ystart,
+            zs,
+            zbits,
+            zstart,
+            r,
+            len,
+        );
+        at = put_row(
+            o,
+            values,
+            elements,
+            estart,
+            a,
+            len,
+            r,
+            out_rows,
+            out_values,
+            out_elements,
+            at,
+        );
+        offsets::put_offset(out_offsets, r + 1, at);
+        r += 1;
+        left -= 1;
+    }
+}
+
+// Writes the m elements that the operation makes, or gives 9.
+fn write_fitting(
+    op: ListOp,
+    offsets: &[i32],
+    rows: &[u8],
+    rstart: usize,
+    values: &[i64],
+    elements: &[u8],
+    estart: usize,
+    xs: &[i64],
+    xbits: &[u8],
+    xstart: usize,
+    ys: &[i64],
+    ybits: &[u8],
+    ystart: usize,
+    zs: &[i64],
+    zbits: &[u8],
+    zstart: usize,
+    m: usize,
+    out_offsets: &mut [i32],
+    out_rows: &mut [u8],
+    out_values: &mut [i64],
+    out_elements: &mut [u8],
+) -> ListAnswer
+    requires column { ⌜ Readable (column (now offsets) (from rstart (now rows)) (now values) (from estart (now elements))) ⌝ }
+    requires arguments { ⌜ Served op (rowCount (now offsets)) (arguments (now xs) (from xstart (now xbits))) (arguments (now ys) (from ystart (now ybits))) (arguments (now zs) (from zstart (now zbits))) ⌝ }
+    requires made { ⌜ m ≡ length (flat (callRows op (column (now offsets) (from rstart (now rows)) (now values) (from estart (now elements))) (arguments (now xs) (from xstart (now xbits))) (arguments (now ys) (from ystart (now ybits))) (arguments (now zs) (from zstart (now zbits))))) ⌝ }
+    requires small { ⌜ m ≤ narrow .offset ⌝ }
+    ensures { λ k. ⌜ ListMeets (fitted (callRows op (column (now (offsets .entry)) (from rstart (now (rows .entry))) (now (values .entry)) (from estart (now (elements .entry)))) (arguments (now (xs .entry)) (from xstart (now (xbits .entry)))) (arguments (now (ys .entry)) (from ystart (now (ybits .entry)))) (arguments (now (zs .entry)) (from zstart (now (zbits .entry))))) (room (length (now («out_offsets» .entry))) (length (now («out_rows» .entry))) (length (now («out_values» .entry))) (length (now («out_elements» .entry))))) k (now («out_offsets» .entry)) (now («out_offsets» .exit)) (now («out_rows» .entry)) (now («out_rows» .exit)) (now («out_values» .entry)) (now («out_values» .exit)) (now («out_elements» .entry)) (now («out_elements» .exit)) ⌝ }
+{
+    let n = offsets::row_count(offsets);
+    if !checks::has_room(
+        n,
+        m,
+        out_offsets.len(),
+        out_rows.len(),
+        out_values.len(),
+        out_elements.len(),
+    ) {
+        return ListAnswer::Refused(9);
+    }
+    write_rows(
+        op,
+        offsets,
+        rows,
+        rstart,
+        values,
+        elements,
+        estart,
+        xs,
+        xbits,
+        xstart,
+        ys,
+        ybits,
+        ystart,
+        zs,
+        zbits,
+        zstart,
+        out_offsets,
+        out_rows,
+        out_values,
+        out_elements,
+    );
+    answers::list_answer(out_rows, n, out_elements, m)
+}
+
+// Writes what the operation makes of columns that refusals 1, 2 and 3 do not apply to.
+pub fn after_three(
+    op: ListOp,
+    offsets: &[i32],
+    rows: &[u8],
+    rstart: usize,
+    values: &[i64],
+    elements: &[u8],
+    estart: usize,
+    xs: &[i64],
+    xbits: &[u8],
+    xstart: usize,
+    ys: &[i64],
+    ybits: &[u8],
+    ystart: usize,
+    zs: &[i64],
+    zbits: &[u8],
+    zstart: usize,
+    out_offsets: &mut [i32],
+    out_rows: &mut [u8],
+    out_values: &mut [i64],
+    out_elements: &mut [u8],
+) -> ListAnswer
+    requires column { ⌜ Readable (column (now offsets) (from rstart (now rows)) (now values) (from estart (now elements))) ⌝ }
+    requires arguments { ⌜ Served op (rowCount (now offsets)) (arguments (now xs) (from xstart (now xbits))) (arguments (now ys) (from ystart (now ybits))) (arguments (now zs) (from zstart (now zbits))) ⌝ }
+    ensures { λ k. ⌜ ListMeets (afterThree narrow (callOf op (rowsOf (column (now (offsets .entry)) (from rstart (now (rows .entry))) (now (values .entry)) (from estart (now (elements .entry))))) (shownBy (arguments (now (xs .entry)) (from xstart (now (xbits .entry))))) (shownBy (arguments (now (ys .entry)) (from ystart (now (ybits .entry))))) (shownBy (arguments (now (zs .entry)) (from zstart (now (zbits .entry)))))) (room (length (now («out_offsets» .entry))) (length (now («out_rows» .entry))) (length (now («out_values» .entry))) (length (now («out_elements» .entry))))) k (now («out_offsets» .entry)) (now («out_offsets» .exit)) (now («out_rows» .entry)) (now («out_rows» .exit)) (now («out_values» .entry)) (now («out_values» .exit)) (now («out_elements» .entry)) (now («out_elements» .exit)) ⌝ }
+{
+    let total = totals::total(
+        op,
+        offsets,
+        rows,
+        rstart,
+        values,
+        elements,
+        estart,
+        xs,
+        xbits,
+        xstart,
+        ys,
+        ybits,
+        ystart,
+        zs,
+        zbits,
+        zstart,
+    );
+    match total {
+        Measure::Refused(k) => ListAnswer::Refused(k),
+        Measure::Sum(m) => write_fitting(
+            op,
+            offsets,
+            rows,
+            rstart,
+            values,
+            elements,
+            estart,
+            xs,
+            xbits,
+            xstart,
+            ys,
+            ybits,
+            ystart,
+            zs,
+            zbits,
+            zstart,
+            m,
+            out_offsets,
+            out_rows,
+            out_values,
+            out_elements,
+        ),
+    }
+}
+
+// Checks the columns and the outputs, and writes what the operation makes.
+pub fn run(
+    op: ListOp,
+    offsets: &[i32],
+    rows: &[u8],
+    rstart: usize,
+    values: &[i64],
+    elements: &[u8],
+    estart: usize,
+    xs: &[i64],
+    xbits: &[u8],
+    xstart: usize,
+    ys: &[i64],
+    ybits: &[u8],
+    ystart: usize,
+    zs: &[i64],
+    zbits: &[u8],
+    zstart: usize,
+    out_offsets: &mut [i32],
+    out_rows: &mut [u8],
+    out_values: &mut [i64],
+    out_elements: &mut [u8],
+) -> ListAnswer
+    requires { ⌜ rstart < 8 ⌝ }
+    requires { ⌜ estart < 8 ⌝ }
+    requires { ⌜ xstart < 8 ⌝ }
+    requires { ⌜ ystart < 8 ⌝ }
+    requires { ⌜ zstart < 8 ⌝ }
+    ensures { λ k. ⌜ ListMeets (listOutcome narrow (callOf op (column (now (offsets .entry)) (from rstart (now (rows .entry))) (now (values .entry)) (from estart (now (elements .entry)))) (arguments (now (xs .entry)) (from xstart (now (xbits .entry)))) (arguments (now (ys .entry)) (from ystart (now (ybits .entry)))) (arguments (now (zs .entry)) (from zstart (now (zbits .entry))))) (room (length (now («out_offsets» .entry))) (length (now («out_rows» .entry))) (length (now («out_values» .entry))) (length (now («out_elements» .entry))))) k (now («out_offsets» .entry)) (now («out_offsets» .exit)) (now («out_rows» .entry)) (now («out_rows» .exit)) (now («out_values» .entry)) (now («out_values» .exit)) (now («out_elements» .entry)) (now («out_elements» .exit)) ⌝ }
+{
+    let k = checks::list_refusal(offsets, rows, rstart, values, elements, estart);
+    if k != 0 {
+        return ListAnswer::Refused(k);
+    }
+    let j = taken::arguments_refusal(
+        op,
+        offsets::row_count(offsets),
+        xs,
+        xbits,
+        xstart,
+        ys,
+        ybits,
+        ystart,
+        zs,
+        zbits,
+        zstart,
+    );
+    if j != 0 {
+        return ListAnswer::Refused(j);
+    }
+    after_three(
+        op,
+        offsets,
+        rows,
+        rstart,
+        values,
+        elements,
+        estart,
+        xs,
+        xbits,
+        xstart,
+        ys,
+        ybits,
+        ystart,
+        zs,
+        zbits,
+        zstart,
+        out_offsets,
+        out_rows,
+        out_values,
+        out_elements,
+    )
+}

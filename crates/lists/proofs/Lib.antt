@@ -1,2 +1,3 @@
 pub mod UnaryLaws
 pub mod ValueLaws
+pub mod CallLaws

@@ -5,7 +5,11 @@ use Rattle.model.specs.Basics.{tab}
 use Rattle.model.specs.Column.{Elem, Row, Column, Arguments, elemAt, rowAt, rowCount}
 use Rattle.model.specs.Elements.{unaryElems}
 use Rattle.model.specs.Rows.{onRow, anyValueOf, elementOf}
+use Rattle.model.specs.declared.Optional.{Optional}
+use Rattle.model.specs.declared.Optional.the-variants as O
 use Rattle.model.specs.declared.Unary.{Unary}
+use Rattle.ops.specs.declared.ListOp.{ListOp}
+use Rattle.ops.specs.declared.ListOp.the-variants as L
 
 abbrev pub unaryAt : Unary → Column → ℕ → Row
 unaryAt op c r = onRow (unaryElems op) (rowAt c r)
@@ -24,3 +28,12 @@ elementAtRow c a r = elementOf (rowAt c r) (elemAt (a .values) (a .bits) r)
 
 unfoldable pub elementsOf : Column → Arguments → List Elem
 elementsOf c a = tab (elementAtRow c a) 0 (rowCount (c .offsets))
+
+-- slice and resize, with the column that they may do without and without it
+unfoldable pub sliceBy : Optional → ListOp
+sliceBy O.Absent = L.Slice
+sliceBy O.Lent = L.SliceBy
+
+unfoldable pub resizeBy : Optional → ListOp
+resizeBy O.Absent = L.Resize
+resizeBy O.Lent = L.ResizeWith

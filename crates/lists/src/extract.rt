@@ -5,23 +5,25 @@ use column::checks;
 use column::elements;
 use column::offsets;
 use model::ListAnswer;
+use model::Optional;
 use model::Unary;
 use model::ValueAnswer;
+use ops::ListOp;
 ghost use Prim.Native.Nat.{_+_, _/_, _<_, _≤_};
 ghost use Rattle.bitmap.specs.Push.{Covers, pushBit};
 ghost use Rattle.column.specs.Put.{Readable, ValuesHold};
 ghost use Rattle.column.specs.Rows.{Between, rowFrom};
 ghost use Rattle.rows.specs.Found.{fourAt};
-ghost use Rattle.lists.specs.Made.{anyValues, elementsOf};
+ghost use Rattle.lists.specs.Made.{anyValues, elementsOf, sliceBy};
 ghost use Rattle.model.specs.Basics.{tab};
 ghost use Rattle.model.specs.Bitmap.{bytesFor, from};
 ghost use Rattle.model.specs.Column.{arguments, column, elemAt, rowCount};
-ghost use Rattle.model.specs.Contract.{ListAnswers, ValueAnswers, lent, lentArguments};
+ghost use Rattle.model.specs.Contract.{ListAnswers, ValueAnswers, lent, lentArguments, lentIf};
 ghost use Rattle.model.specs.Form.{isVal, valueOf};
 ghost use Rattle.model.specs.Limits.{narrow};
 ghost use Rattle.model.specs.Outcome.{anyValueOutcome, elementOutcome, listOutcome};
 ghost use Rattle.model.specs.Refusals.{firstOf};
-ghost use Rattle.model.specs.Rows.{anyValueOf, elementOf, unary};
+ghost use Rattle.model.specs.Rows.{anyValueOf, elementOf, slice, unary};
 ghost use lib.ListN.{length, set};
 ghost use mathlib.Core.Path.{_≡_};
 
@@ -261,6 +263,60 @@ pub fn general_array_element(
         out_rows,
     );
     answers::value_answer(out_rows, n)
+}
+
+fn slice_by(stride: Optional) -> ListOp
+    ensures { λ op. ⌜ op ≡ sliceBy stride ⌝ }
+{
+    match stride {
+        Optional::Absent => ListOp::Slice,
+        Optional::Lent => ListOp::SliceBy,
+    }
+}
+
+// Without a stride, its slices are not looked at.
+pub fn general_array_slice(
+    offsets: &[i32],
+    rows: &[u8],
+    values: &[i64],
+    elements: &[u8],
+    from_array: &[i64],
+    from_bits: &[u8],
+    to_array: &[i64],
+    to_bits: &[u8],
+    stride: Optional,
+    stride_array: &[i64],
+    stride_bits: &[u8],
+    out_offsets: &mut [i32],
+    out_rows: &mut [u8],
+    out_values: &mut [i64],
+    out_elements: &mut [u8],
+) -> ListAnswer
+    ensures { λ a. ⌜ ListAnswers (listOutcome narrow (slice (lent offsets rows values elements) (lentArguments «from_array» «from_bits») (lentArguments «to_array» «to_bits») (lentIf stride (lentArguments «stride_array» «stride_bits»)))) a «out_offsets» «out_rows» «out_values» «out_elements» ⌝ }
+{
+    let op = slice_by(stride);
+    args::run(
+        op,
+        offsets,
+        rows,
+        0,
+        values,
+        elements,
+        0,
+        from_array,
+        from_bits,
+        0,
+        to_array,
+        to_bits,
+        0,
+        stride_array,
+        stride_bits,
+        0,
+        out_offsets,
+        out_rows,
+        out_values,
+        out_elements,
+    )
 }
 
 pub fn general_pop_front_list(

@@ -13,6 +13,9 @@ use Rattle.model.specs.Outcome.{Outcome}
 use Rattle.model.specs.Call.{Answer, refusal, counts, answerOf, written, listCounts, valueCounts, repeatCounts}
 use Rattle.model.specs.declared.ListAnswer.{ListAnswer}
 use Rattle.model.specs.declared.ListAnswer.the-variants as L
+use Rattle.model.specs.Basics.{Lent, absent, given}
+use Rattle.model.specs.declared.Optional.{Optional}
+use Rattle.model.specs.declared.Optional.the-variants as O
 use Rattle.model.specs.declared.RepeatAnswer.{RepeatAnswer}
 use Rattle.model.specs.declared.RepeatAnswer.the-variants as R
 use Rattle.model.specs.declared.ValueAnswer.{ValueAnswer}
@@ -45,6 +48,11 @@ lent o r v e = column (now (o .entry)) (from 0 (now (r .entry))) (now (v .entry)
 
 abbrev pub lentArguments : Slot ℤ → Slot ℕ → Arguments
 lentArguments v b = arguments (now (v .entry)) (from 0 (now (b .entry)))
+
+-- an argument column that may be absent
+unfoldable pub lentIf : Optional → Arguments → Lent Arguments
+lentIf O.Absent a = absent
+lentIf O.Lent a = given a
 
 abbrev pub room : ℕ → ℕ → ℕ → ℕ → Room
 room o r v e = record { offsets = o; rows = r; values = v; elements = e }

@@ -14,6 +14,12 @@ pub enum SetOp {
     Intersect,
 }
 
+// Whether an argument column that a call may do without is lent.
+pub enum Optional {
+    Absent,
+    Lent,
+}
+
 // The answer of a list operation: its counts, or the number of a refusal.
 pub enum ListAnswer {
     Counts {

@@ -1,0 +1,3 @@
+pub mod AnswerLaws
+pub mod OuterLaws
+pub mod RepeatLaws

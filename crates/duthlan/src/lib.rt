@@ -3,14 +3,12 @@
 // of `counts`; 1 to 10 for the operation's refusals; and the entry's own, in this order: 102 for no such operation, 100 for a
 // slice of numbers that ends within one or a short `counts`, 101 for more numbers than the arrays here hold. Whatever is refused
 // changes no byte.
-mod answers;
-mod any_value;
-mod element;
-mod list;
-mod sizes;
-mod two_lists;
-
-ghost use Rattle.duthlan.specs.Entry.{ListEntry, ValueEntry, decoded, decodedArguments, listSizes, setCall, size, unaryCall, valueSizes};
+use entries::any_value;
+use entries::element;
+use entries::list;
+use entries::two_lists;
+use entry::sizes;
+ghost use Rattle.entry.specs.Entry.{ListEntry, ValueEntry, decoded, decodedArguments, listSizes, setCall, size, unaryCall, valueSizes};
 ghost use Rattle.model.specs.Basics.{given};
 ghost use Rattle.model.specs.Limits.{narrow};
 ghost use Rattle.model.specs.Outcome.{anyValueOutcome, elementOutcome};

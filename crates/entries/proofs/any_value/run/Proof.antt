@@ -1,0 +1,65 @@
+-- The operation on the decoded slices, and its answer sent.
+use borrow.Author.Needs.{needs}
+use Rattle.entry.proofs.AnswerLaws.{values-ready, value-returns}
+use Rattle.entry.proofs.EntryLaws.{any-value-decoded, value-as}
+use Rattle.entries.proofs.any_value.run.Statement.{statement}
+use Rattle.entries.proofs.any_value.run.Tie as tie
+
+decode-i32-requires : tie.Need-decode-i32-requires
+decode-i32-requires c κs = search needs
+
+decode-i64-requires : tie.Need-decode-i64-requires
+decode-i64-requires c κs = search needs
+
+general-array-any-value-requires : tie.Need-general-array-any-value-requires
+general-array-any-value-requires c κs = search needs
+
+put-values-requires : tie.Need-put-values-requires
+put-values-requires c κs =
+    let k = c .before .before .before .before .before .before in
+    let s = k .before .before .before .before .before .before .before .before .before .before .before .before .before .before .before .before .before .before in
+    values-ready (k .general-array-any-value .ensures) (k .general-array-any-value .kept .1 .1 .1 .1 .0) (s .pre .1 .0) (s .pre .1 .1)
+
+same-length : tie.Need-same-length
+same-length c = search needs
+
+same-length-2 : tie.Need-same-length-2
+same-length-2 c = search needs
+
+same-length-3 : tie.Need-same-length-3
+same-length-3 c = search needs
+
+same-length-4 : tie.Need-same-length-4
+same-length-4 c = search needs
+
+same-length-5 : tie.Need-same-length-5
+same-length-5 c = search needs
+
+same-length-6 : tie.Need-same-length-6
+same-length-6 c = search needs
+
+returns : tie.Need-returns
+returns c =
+    let p = c .before .before .before .before in
+    let k = p .before .before .before .before .before .before .before in
+    let d = k .before .before .before .before .before .before in
+    let i = d .before .before .before in
+    let s = i .before .before .before .before .before .before .before .before .before in
+    value-as (any-value-decoded _ _ _ (i .decode-i32 .ensures) (d .decode-i64 .ensures) (s .pre .1 .0))
+    (value-returns (k .general-array-any-value .ensures) (p .put-values .ensures))
+
+pub run-spec : {M : Type 1} → statement M
+run-spec =
+    tie.close
+    (tie.spec
+    decode-i32-requires
+    decode-i64-requires
+    general-array-any-value-requires
+    put-values-requires
+    same-length
+    same-length-2
+    same-length-3
+    same-length-4
+    same-length-5
+    same-length-6
+    returns)

@@ -1,0 +1,3 @@
+// What all C entries share: their own refusals by the sizes, and answers as bytes. An inner crate: its callers meet what it asks.
+pub mod answers;
+pub mod sizes;

@@ -70,12 +70,7 @@ fn put_value_counts(rows: usize, null_rows: usize, counts: &mut [u8])
 }
 
 // A value answer: of v the slots that it counts.
-pub fn put_values(
-    answer: ValueAnswer,
-    v: &[i64],
-    out_values: &mut [u8],
-    counts: &mut [u8],
-) -> u32
+pub fn put_values(answer: ValueAnswer, v: &[i64], out_values: &mut [u8], counts: &mut [u8]) -> u32
     requires { ⌜ ValueReady answer (length (now v)) (length (now «out_values»)) (length (now counts)) ⌝ }
     ensures { λ n. ⌜ ValueSent answer n (now (v .entry)) (now («out_values» .entry)) (now («out_values» .exit)) (now (counts .entry)) (now (counts .exit)) ⌝ }
 {

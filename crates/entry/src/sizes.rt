@@ -103,12 +103,7 @@ pub fn lists_refusal(
 }
 
 // One list, and a value answer.
-pub fn any_value_refusal(
-    offsets: usize,
-    values: usize,
-    out_values: usize,
-    counts: usize,
-) -> u32
+pub fn any_value_refusal(offsets: usize, values: usize, out_values: usize, counts: usize) -> u32
     ensures { λ r. ⌜ r ≡ sizeRefusal (listSizes offsets values ++ valueSizes «out_values») counts 16 ⌝ }
 {
     let ragged = is_list_ragged(offsets, values) | is_value_ragged(out_values) | (counts < 16);

@@ -139,9 +139,13 @@ module _ (op : SetOp) (c d : Column) where
       unfolding listShown unequal gate
       set-three h = shown ∙ rw (length-rows c, length-rows d, ne-eqb (rowCount (d .offsets)) (rowCount (c .offsets)) h)
 
-      pub set-goes : rowCount (d .offsets) ≡ rowCount (c .offsets) → listOutcome narrow (setOp op c d) l ≡ gate (unionRefusal narrow op (length (flat (pairRows op c d)))) (fitted (pairRows op c d) l)
-      unfolding listShown unequal afterThree
-      set-goes e = shown ∙ rw (length-rows c, length-rows d, eq-eqb (rowCount (d .offsets)) (rowCount (c .offsets)) e, rows-made e, refusal-is e) (gate-open 0 _ refl)
+      pub set-goes : rowCount (d .offsets) ≡ rowCount (c .offsets) → listOutcome narrow (setOp op c d) l ≡ afterThree narrow (setOp op (rowsOf c) (rowsOf d)) l
+      unfolding listShown unequal
+      set-goes e = shown ∙ rw (length-rows c, length-rows d, eq-eqb (rowCount (d .offsets)) (rowCount (c .offsets)) e) (gate-open 0 _ refl)
+
+    pub set-after : rowCount (d .offsets) ≡ rowCount (c .offsets) → afterThree narrow (setOp op (rowsOf c) (rowsOf d)) l ≡ gate (unionRefusal narrow op (length (flat (pairRows op c d)))) (fitted (pairRows op c d) l)
+    unfolding afterThree
+    set-after e = rw (rows-made e, refusal-is e)
 
 not-eight : (n m : ℕ) (t : Bool) → ltb n m ≡ t → _≡_ {A = ℕ} (pick t 8 0) 0 → m ≤ n
 not-eight n m true e z = let k : ⊥ = omega arith in absurd k

@@ -10,12 +10,12 @@ ghost use Rattle.bitmap.specs.Push.{Covers};
 ghost use Rattle.column.specs.Put.{HasRoom, Holds, Readable};
 ghost use Rattle.column.specs.Rows.{Between, PutsRow, RoomFor, rowFrom};
 ghost use Rattle.model.specs.Bitmap.{from, validAt};
-ghost use Rattle.model.specs.Column.{column, elemAt, rowCount};
+ghost use Rattle.model.specs.Column.{column, elemAt, rowCount, rowsOf};
 ghost use Rattle.model.specs.Contract.{ListMeets, room};
 ghost use Rattle.model.specs.Elements.{setElems};
 ghost use Rattle.model.specs.Form.{elemsOf, flat};
 ghost use Rattle.model.specs.Limits.{narrow};
-ghost use Rattle.model.specs.Outcome.{columnsRefusal, listOutcome};
+ghost use Rattle.model.specs.Outcome.{afterThree, columnsRefusal, listOutcome};
 ghost use Rattle.model.specs.Refusals.{unionRefusal};
 ghost use Rattle.model.specs.Rows.{onRows, setOp};
 ghost use Rattle.sets.specs.Pairs.{boundOf, pairRows};
@@ -307,8 +307,8 @@ fn union_refusal(op: SetOp, m: usize) -> u8
     }
 }
 
-// Checks the columns and the outputs, and writes what the operation makes.
-pub fn run<'a>(
+// Writes what the operation makes of columns that refusals 1, 2 and 3 do not apply to.
+pub fn after_three<'a>(
     op: SetOp,
     loffsets: &[i32],
     lrows: &[u8],
@@ -327,33 +327,12 @@ pub fn run<'a>(
     out_values: &mut [i64],
     out_elements: &mut [u8],
 ) -> ListAnswer
-    requires { ⌜ lrstart < 8 ⌝ }
-    requires { ⌜ lestart < 8 ⌝ }
-    requires { ⌜ rrstart < 8 ⌝ }
-    requires { ⌜ restart < 8 ⌝ }
-    ensures { λ k. ⌜ ListMeets (listOutcome narrow (setOp op (column (now (loffsets .entry)) (from lrstart (now (lrows .entry))) (now (lvalues .entry)) (from lestart (now (lelements .entry)))) (column (now (roffsets .entry)) (from rrstart (now (rrows .entry))) (now (rvalues .entry)) (from restart (now (relements .entry))))) (room (length (now («out_offsets» .entry))) (length (now («out_rows» .entry))) (length (now («out_values» .entry))) (length (now («out_elements» .entry))))) k (now («out_offsets» .entry)) (now («out_offsets» .exit)) (now («out_rows» .entry)) (now («out_rows» .exit)) (now («out_values» .entry)) (now («out_values» .exit)) (now («out_elements» .entry)) (now («out_elements» .exit)) ⌝ }
+    requires left { ⌜ Readable (column (now loffsets) (from lrstart (now lrows)) (now lvalues) (from lestart (now lelements))) ⌝ }
+    requires right { ⌜ Readable (column (now roffsets) (from rrstart (now rrows)) (now rvalues) (from restart (now relements))) ⌝ }
+    requires equal { ⌜ rowCount (now roffsets) ≡ rowCount (now loffsets) ⌝ }
+    ensures { λ k. ⌜ ListMeets (afterThree narrow (setOp op (rowsOf (column (now (loffsets .entry)) (from lrstart (now (lrows .entry))) (now (lvalues .entry)) (from lestart (now (lelements .entry))))) (rowsOf (column (now (roffsets .entry)) (from rrstart (now (rrows .entry))) (now (rvalues .entry)) (from restart (now (relements .entry)))))) (room (length (now («out_offsets» .entry))) (length (now («out_rows» .entry))) (length (now («out_values» .entry))) (length (now («out_elements» .entry))))) k (now («out_offsets» .entry)) (now («out_offsets» .exit)) (now («out_rows» .entry)) (now («out_rows» .exit)) (now («out_values» .entry)) (now («out_values» .exit)) (now («out_elements» .entry)) (now («out_elements» .exit)) ⌝ }
 {
-    let k = lists_refusal(
-        loffsets,
-        lrows,
-        lrstart,
-        lvalues,
-        lelements,
-        lestart,
-        roffsets,
-        rrows,
-        rrstart,
-        rvalues,
-        relements,
-        restart,
-    );
-    if k != 0 {
-        return ListAnswer::Refused(k);
-    }
     let n = offsets::row_count(loffsets);
-    if offsets::row_count(roffsets) != n {
-        return ListAnswer::Refused(3);
-    }
     let m = measure_pairs(
         op,
         loffsets,
@@ -403,4 +382,71 @@ pub fn run<'a>(
         out_elements,
     );
     answers::list_answer(out_rows, n, out_elements, m)
+}
+
+// Checks the columns and the outputs, and writes what the operation makes.
+pub fn run<'a>(
+    op: SetOp,
+    loffsets: &[i32],
+    lrows: &[u8],
+    lrstart: usize,
+    lvalues: &'a [i64],
+    lelements: &[u8],
+    lestart: usize,
+    roffsets: &[i32],
+    rrows: &[u8],
+    rrstart: usize,
+    rvalues: &'a [i64],
+    relements: &[u8],
+    restart: usize,
+    out_offsets: &mut [i32],
+    out_rows: &mut [u8],
+    out_values: &mut [i64],
+    out_elements: &mut [u8],
+) -> ListAnswer
+    requires { ⌜ lrstart < 8 ⌝ }
+    requires { ⌜ lestart < 8 ⌝ }
+    requires { ⌜ rrstart < 8 ⌝ }
+    requires { ⌜ restart < 8 ⌝ }
+    ensures { λ k. ⌜ ListMeets (listOutcome narrow (setOp op (column (now (loffsets .entry)) (from lrstart (now (lrows .entry))) (now (lvalues .entry)) (from lestart (now (lelements .entry)))) (column (now (roffsets .entry)) (from rrstart (now (rrows .entry))) (now (rvalues .entry)) (from restart (now (relements .entry))))) (room (length (now («out_offsets» .entry))) (length (now («out_rows» .entry))) (length (now («out_values» .entry))) (length (now («out_elements» .entry))))) k (now («out_offsets» .entry)) (now («out_offsets» .exit)) (now («out_rows» .entry)) (now («out_rows» .exit)) (now («out_values» .entry)) (now («out_values» .exit)) (now («out_elements» .entry)) (now («out_elements» .exit)) ⌝ }
+{
+    let k = lists_refusal(
+        loffsets,
+        lrows,
+        lrstart,
+        lvalues,
+        lelements,
+        lestart,
+        roffsets,
+        rrows,
+        rrstart,
+        rvalues,
+        relements,
+        restart,
+    );
+    if k != 0 {
+        return ListAnswer::Refused(k);
+    }
+    if offsets::row_count(roffsets) != offsets::row_count(loffsets) {
+        return ListAnswer::Refused(3);
+    }
+    after_three(
+        op,
+        loffsets,
+        lrows,
+        lrstart,
+        lvalues,
+        lelements,
+        lestart,
+        roffsets,
+        rrows,
+        rrstart,
+        rvalues,
+        relements,
+        restart,
+        out_offsets,
+        out_rows,
+        out_values,
+        out_elements,
+    )
 }

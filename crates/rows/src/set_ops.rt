@@ -249,7 +249,7 @@ fn longer<'a>(left: &'a [i64], right: &'a [i64]) -> &'a [i64]
 }
 
 // The bitmap of the elements from element a on: from the byte on that holds the first of their bits.
-fn row_bits(elements: &[u8], estart: usize, a: usize, n: usize) -> &[u8]
+pub fn row_bits(elements: &[u8], estart: usize, a: usize, n: usize) -> &[u8]
     requires { ⌜ Covers (from estart (now elements)) n ⌝ }
     requires { ⌜ a ≤ n ⌝ }
     ensures { λ r. ⌜ now r ≡ bitsFrom (from estart (now (elements .entry))) a .bytes ⌝ }
@@ -262,7 +262,7 @@ fn row_bits(elements: &[u8], estart: usize, a: usize, n: usize) -> &[u8]
 }
 
 // The place of that first bit in its byte.
-fn row_start(estart: usize, a: usize) -> usize
+pub fn row_start(estart: usize, a: usize) -> usize
     requires { ⌜ estart < 8 ⌝ }
     ensures { λ r. ⌜ r ≡ (estart + a) % 8 ⌝ }
 {

@@ -1,0 +1,2 @@
+pub mod RoundLaws
+pub mod StepLaws

@@ -1,0 +1,290 @@
+// A recipe's steps. An inner crate: its callers meet what it asks.
+use model::ListAnswer;
+use model::SetOp;
+use model::Unary;
+use ops::ListOp;
+use rows::set_ops;
+ghost use Prim.Native.Nat.{_+_, _-_, _<_, _≤_};
+ghost use Rattle.bitmap.specs.Push.{Covers};
+ghost use Rattle.column.specs.Put.{Readable};
+ghost use Rattle.model.specs.Basics.{pick, tab};
+ghost use Rattle.model.specs.Bitmap.{from};
+ghost use Rattle.model.specs.Column.{arguments, column, rowCount, rowsOf, shownBy};
+ghost use Rattle.model.specs.Contract.{ListMeets, room};
+ghost use Rattle.model.specs.Limits.{narrow};
+ghost use Rattle.model.specs.Outcome.{afterThree};
+ghost use Rattle.model.specs.Recipe.{carried, columnOf, stepAt, stepCall};
+ghost use Rattle.ops.specs.Ops.{callOf};
+ghost use Rattle.steps.specs.Steps.{Beside, Held, StepFits, Steps, Uses, front, step, stepOp};
+ghost use lib.ListN.{drop, length, take};
+ghost use mathlib.Core.Path.{_≡_};
+
+// What a step does: an operation on the carried list and its argument columns, or one on the carried list and the second.
+pub enum StepOp {
+    One(ListOp),
+    Two(SetOp),
+}
+
+fn plain_op(code: u32) -> Unary
+    requires { ⌜ code < 4 ⌝ }
+    ensures { λ u. ⌜ stepOp code ≡ StepOp.One (ListOp.Plain u) ⌝ }
+{
+    match code {
+        0 => Unary::Reverse,
+        1 => Unary::Distinct,
+        2 => Unary::PopFront,
+        _ => Unary::PopBack,
+    }
+}
+
+fn list_op(code: u32) -> ListOp
+    requires { ⌜ 4 ≤ code ⌝ }
+    requires { ⌜ code < 9 ⌝ }
+    ensures { λ op. ⌜ stepOp code ≡ StepOp.One op ⌝ }
+{
+    match code {
+        4 => ListOp::SliceBy,
+        5 => ListOp::Slice,
+        6 => ListOp::ResizeWith,
+        7 => ListOp::Replace,
+        _ => ListOp::Remove,
+    }
+}
+
+fn set_op(code: u32) -> SetOp
+    requires { ⌜ 9 ≤ code ⌝ }
+    requires { ⌜ code < 11 ⌝ }
+    ensures { λ op. ⌜ stepOp code ≡ StepOp.Two op ⌝ }
+{
+    match code {
+        9 => SetOp::Union,
+        _ => SetOp::Intersect,
+    }
+}
+
+// What the step with this code does.
+fn step_op(code: u32) -> StepOp
+    requires { ⌜ code < 11 ⌝ }
+    ensures { λ o. ⌜ o ≡ stepOp code ⌝ }
+{
+    if code < 4 {
+        return StepOp::One(ListOp::Plain(plain_op(code)));
+    }
+    if code < 9 {
+        return StepOp::One(list_op(code));
+    }
+    StepOp::Two(set_op(code))
+}
+
+// The n values from value a on, where the column is used, else none.
+fn column_values(used: bool, args: &[i64], a: usize, n: usize) -> &[i64]
+    requires { ⌜ a + pick used n 0 ≤ length (now args) ⌝ }
+    ensures { λ r. ⌜ now r ≡ take (pick used n 0) (drop a (now (args .entry))) ⌝ }
+{
+    if used {
+        return &args[a..a + n];
+    }
+    &args[a..a]
+}
+
+// An operation on the carried list of n rows, its argument columns cut out of the one slice that they lie in.
+fn one_list(
+    op: ListOp,
+    offsets: &[i32],
+    rows: &[u8],
+    rstart: usize,
+    values: &[i64],
+    elements: &[u8],
+    estart: usize,
+    n: usize,
+    first: usize,
+    second: usize,
+    third: usize,
+    args: &[i64],
+    bits: &[u8],
+    start: usize,
+    out_offsets: &mut [i32],
+    out_rows: &mut [u8],
+    out_values: &mut [i64],
+    out_elements: &mut [u8],
+) -> ListAnswer
+    requires column { ⌜ Readable (column (now offsets) (from rstart (now rows)) (now values) (from estart (now elements))) ⌝ }
+    requires rows { ⌜ rowCount (now offsets) ≡ n ⌝ }
+    requires bits { ⌜ Covers (from start (now bits)) (length (now args)) ⌝ }
+    requires uses { ⌜ Uses op n first second third (length (now args)) ⌝ }
+    ensures { λ k. ⌜ ListMeets (afterThree narrow (callOf op (rowsOf (column (now (offsets .entry)) (from rstart (now (rows .entry))) (now (values .entry)) (from estart (now (elements .entry))))) (columnOf (shownBy (arguments (now (args .entry)) (from start (now (bits .entry))))) n first) (columnOf (shownBy (arguments (now (args .entry)) (from start (now (bits .entry))))) n second) (columnOf (shownBy (arguments (now (args .entry)) (from start (now (bits .entry))))) n third)) (room (length (now («out_offsets» .entry))) (length (now («out_rows» .entry))) (length (now («out_values» .entry))) (length (now («out_elements» .entry))))) k (now («out_offsets» .entry)) (now («out_offsets» .exit)) (now («out_rows» .entry)) (now («out_rows» .exit)) (now («out_values» .entry)) (now («out_values» .exit)) (now («out_elements» .entry)) (now («out_elements» .exit)) ⌝ }
+{
+    let k = ops::takes(op);
+    let a = first * n;
+    let b = second * n;
+    let c = third * n;
+    let x = column_values(0 < k, args, a, n);
+    let xbits = set_ops::row_bits(bits, start, a, args.len());
+    let xstart = set_ops::row_start(start, a);
+    let y = column_values(1 < k, args, b, n);
+    let ybits = set_ops::row_bits(bits, start, b, args.len());
+    let ystart = set_ops::row_start(start, b);
+    let z = column_values(2 < k, args, c, n);
+    let zbits = set_ops::row_bits(bits, start, c, args.len());
+    let zstart = set_ops::row_start(start, c);
+    args::after_three(
+        op,
+        offsets,
+        rows,
+        rstart,
+        values,
+        elements,
+        estart,
+        x,
+        xbits,
+        xstart,
+        y,
+        ybits,
+        ystart,
+        z,
+        zbits,
+        zstart,
+        out_offsets,
+        out_rows,
+        out_values,
+        out_elements,
+    )
+}
+
+// One step on the carried list of n rows: what its operation does after 3.
+fn step<'a>(
+    code: u32,
+    first: u32,
+    second: u32,
+    third: u32,
+    n: usize,
+    offsets: &[i32],
+    rows: &[u8],
+    rstart: usize,
+    values: &'a [i64],
+    elements: &[u8],
+    estart: usize,
+    roffsets: &[i32],
+    rrows: &[u8],
+    rrstart: usize,
+    rvalues: &'a [i64],
+    relements: &[u8],
+    restart: usize,
+    args: &[i64],
+    bits: &[u8],
+    start: usize,
+    out_offsets: &mut [i32],
+    out_rows: &mut [u8],
+    out_values: &mut [i64],
+    out_elements: &mut [u8],
+) -> ListAnswer
+    requires column { ⌜ Readable (column (now offsets) (from rstart (now rows)) (now values) (from estart (now elements))) ⌝ }
+    requires rows { ⌜ rowCount (now offsets) ≡ n ⌝ }
+    requires beside { ⌜ Beside n (column (now roffsets) (from rrstart (now rrows)) (now rvalues) (from restart (now relements))) (arguments (now args) (from start (now bits))) ⌝ }
+    requires fits { ⌜ StepFits (step code first second third) n (length (now args)) ⌝ }
+    ensures { λ k. ⌜ ListMeets (afterThree narrow (stepCall (step code first second third) (rowsOf (column (now (offsets .entry)) (from rstart (now (rows .entry))) (now (values .entry)) (from estart (now (elements .entry))))) (rowsOf (column (now (roffsets .entry)) (from rrstart (now (rrows .entry))) (now (rvalues .entry)) (from restart (now (relements .entry))))) (shownBy (arguments (now (args .entry)) (from start (now (bits .entry)))))) (room (length (now («out_offsets» .entry))) (length (now («out_rows» .entry))) (length (now («out_values» .entry))) (length (now («out_elements» .entry))))) k (now («out_offsets» .entry)) (now («out_offsets» .exit)) (now («out_rows» .entry)) (now («out_rows» .exit)) (now («out_values» .entry)) (now («out_values» .exit)) (now («out_elements» .entry)) (now («out_elements» .exit)) ⌝ }
+{
+    match step_op(code) {
+        StepOp::One(op) => one_list(
+            op,
+            offsets,
+            rows,
+            rstart,
+            values,
+            elements,
+            estart,
+            n,
+            first as usize,
+            second as usize,
+            third as usize,
+            args,
+            bits,
+            start,
+            out_offsets,
+            out_rows,
+            out_values,
+            out_elements,
+        ),
+        StepOp::Two(op) => sets::after_three(
+            op,
+            offsets,
+            rows,
+            rstart,
+            values,
+            elements,
+            estart,
+            roffsets,
+            rrows,
+            rrstart,
+            rvalues,
+            relements,
+            restart,
+            out_offsets,
+            out_rows,
+            out_values,
+            out_elements,
+        ),
+    }
+}
+
+// One step from the front of a tray, which holds n rows of m elements.
+fn step_from<'a>(
+    code: u32,
+    first: u32,
+    second: u32,
+    third: u32,
+    n: usize,
+    m: usize,
+    from_offsets: &[i32],
+    from_rows: &[u8],
+    from_values: &'a [i64],
+    from_elements: &[u8],
+    roffsets: &[i32],
+    rrows: &[u8],
+    rrstart: usize,
+    rvalues: &'a [i64],
+    relements: &[u8],
+    restart: usize,
+    args: &[i64],
+    bits: &[u8],
+    start: usize,
+    out_offsets: &mut [i32],
+    out_rows: &mut [u8],
+    out_values: &mut [i64],
+    out_elements: &mut [u8],
+) -> ListAnswer
+    requires held { ⌜ Held n m (now «from_offsets») (now «from_rows») (now «from_values») (now «from_elements») ⌝ }
+    requires beside { ⌜ Beside n (column (now roffsets) (from rrstart (now rrows)) (now rvalues) (from restart (now relements))) (arguments (now args) (from start (now bits))) ⌝ }
+    requires fits { ⌜ StepFits (step code first second third) n (length (now args)) ⌝ }
+    ensures { λ k. ⌜ ListMeets (afterThree narrow (stepCall (step code first second third) (rowsOf (front (now («from_offsets» .entry)) (now («from_rows» .entry)) (now («from_values» .entry)) (now («from_elements» .entry)) n m)) (rowsOf (column (now (roffsets .entry)) (from rrstart (now (rrows .entry))) (now (rvalues .entry)) (from restart (now (relements .entry))))) (shownBy (arguments (now (args .entry)) (from start (now (bits .entry)))))) (room (length (now («out_offsets» .entry))) (length (now («out_rows» .entry))) (length (now («out_values» .entry))) (length (now («out_elements» .entry))))) k (now («out_offsets» .entry)) (now («out_offsets» .exit)) (now («out_rows» .entry)) (now («out_rows» .exit)) (now («out_values» .entry)) (now («out_values» .exit)) (now («out_elements» .entry)) (now («out_elements» .exit)) ⌝ }
+{
+    let no = n + 1;
+    let nr = bitmap::bytes_for(n);
+    let ne = bitmap::bytes_for(m);
+    step(
+        code,
+        first,
+        second,
+        third,
+        n,
+        &from_offsets[..no],
+        &from_rows[..nr],
+        0,
+        &from_values[..m],
+        &from_elements[..ne],
+        0,
+        roffsets,
+        rrows,
+        rrstart,
+        rvalues,
+        relements,
+        restart,
+        args,
+        bits,
+        start,
+        out_offsets,
+        out_rows,
+        out_values,
+        out_elements,
+    )
+}

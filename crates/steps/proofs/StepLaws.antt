@@ -93,7 +93,7 @@ getD-map f [] i d = refl
 getD-map f (x ∷ l) zero d = refl
 getD-map f (x ∷ l) (suc i) d = getD-map f l i d
 
-call-is : (code : ℕ) (ws rs : List Row) (a b c : List Elem) → recipe.callOf code ws rs a b c ≡ opCall (stepOp code) ws rs a b c
+pub call-is : (code : ℕ) (ws rs : List Row) (a b c : List Elem) → recipe.callOf code ws rs a b c ≡ opCall (stepOp code) ws rs a b c
 unfolding recipe.callOf stepOp opCall callOf
 call-is code ws rs a b c = getD-map (λ o. opCall o ws rs a b c) stepOps code (S.One (L.Plain U.Reverse))
 

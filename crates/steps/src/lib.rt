@@ -288,3 +288,133 @@ fn step_from<'a>(
         out_elements,
     )
 }
+
+// The steps from step k on, left of them, from the front of a tray that holds n rows of m elements: the trays take turns, and the
+// last step writes the output.
+pub fn steps(
+    recipe: &[u32],
+    k: usize,
+    left: usize,
+    n: usize,
+    m: usize,
+    roffsets: &[i32],
+    rrows: &[u8],
+    rrstart: usize,
+    rvalues: &[i64],
+    relements: &[u8],
+    restart: usize,
+    args: &[i64],
+    bits: &[u8],
+    start: usize,
+    from_offsets: &mut [i32],
+    from_rows: &mut [u8],
+    from_values: &mut [i64],
+    from_elements: &mut [u8],
+    to_offsets: &mut [i32],
+    to_rows: &mut [u8],
+    to_values: &mut [i64],
+    to_elements: &mut [u8],
+    out_offsets: &mut [i32],
+    out_rows: &mut [u8],
+    out_values: &mut [i64],
+    out_elements: &mut [u8],
+) -> ListAnswer
+    requires steps { ⌜ Steps (now recipe) n (length (now args)) k left ⌝ }
+    requires held { ⌜ Held n m (now «from_offsets») (now «from_rows») (now «from_values») (now «from_elements») ⌝ }
+    requires beside { ⌜ Beside n (column (now roffsets) (from rrstart (now rrows)) (now rvalues) (from restart (now relements))) (arguments (now args) (from start (now bits))) ⌝ }
+    ensures { λ a. ⌜ ListMeets (carried narrow (stepAt (now (recipe .entry)) k) (tab (stepAt (now (recipe .entry))) (k + 1) (left - 1)) (rowsOf (front (now («from_offsets» .entry)) (now («from_rows» .entry)) (now («from_values» .entry)) (now («from_elements» .entry)) n m)) (rowsOf (column (now (roffsets .entry)) (from rrstart (now (rrows .entry))) (now (rvalues .entry)) (from restart (now (relements .entry))))) (shownBy (arguments (now (args .entry)) (from start (now (bits .entry))))) (room (length (now («to_offsets» .entry))) (length (now («to_rows» .entry))) (length (now («to_values» .entry))) (length (now («to_elements» .entry)))) (room (length (now («from_offsets» .entry))) (length (now («from_rows» .entry))) (length (now («from_values» .entry))) (length (now («from_elements» .entry)))) (room (length (now («out_offsets» .entry))) (length (now («out_rows» .entry))) (length (now («out_values» .entry))) (length (now («out_elements» .entry))))) a (now («out_offsets» .entry)) (now («out_offsets» .exit)) (now («out_rows» .entry)) (now («out_rows» .exit)) (now («out_values» .entry)) (now («out_values» .exit)) (now («out_elements» .entry)) (now («out_elements» .exit)) ⌝ }
+{
+    let i = 4 * k;
+    let code = recipe[i];
+    let first = recipe[i + 1];
+    let second = recipe[i + 2];
+    let third = recipe[i + 3];
+    if left == 1 {
+        return step_from(
+            code,
+            first,
+            second,
+            third,
+            n,
+            m,
+            from_offsets,
+            from_rows,
+            from_values,
+            from_elements,
+            roffsets,
+            rrows,
+            rrstart,
+            rvalues,
+            relements,
+            restart,
+            args,
+            bits,
+            start,
+            out_offsets,
+            out_rows,
+            out_values,
+            out_elements,
+        );
+    }
+    let answer = step_from(
+        code,
+        first,
+        second,
+        third,
+        n,
+        m,
+        from_offsets,
+        from_rows,
+        from_values,
+        from_elements,
+        roffsets,
+        rrows,
+        rrstart,
+        rvalues,
+        relements,
+        restart,
+        args,
+        bits,
+        start,
+        to_offsets,
+        to_rows,
+        to_values,
+        to_elements,
+    );
+    match answer {
+        ListAnswer::Refused(number) => ListAnswer::Refused(number),
+        ListAnswer::Counts {
+            rows: _,
+            elements,
+            null_rows: _,
+            null_elements: _,
+        } => steps(
+            recipe,
+            k + 1,
+            left - 1,
+            n,
+            elements,
+            roffsets,
+            rrows,
+            rrstart,
+            rvalues,
+            relements,
+            restart,
+            args,
+            bits,
+            start,
+            to_offsets,
+            to_rows,
+            to_values,
+            to_elements,
+            from_offsets,
+            from_rows,
+            from_values,
+            from_elements,
+            out_offsets,
+            out_rows,
+            out_values,
+            out_elements,
+        ),
+    }
+}

@@ -1,0 +1,155 @@
+-- Laws of a chain of steps: what an answer tells of its outcome, and what a step leaves for the next.
+use Prim.Native.Nat.{ℕ, _+_, _-_, _≤_, _<_}
+use mathlib.Core.Path.{_≡_, refl, sym, ap, _∙_}
+use mathlib.Core.Bool.{Bool, true, false}
+use mathlib.Core.List.{List, [], _∷_, map}
+use native.Mathlib.Omega.{arith}
+use lib.Dec.{eqb}
+use lib.IntN.{ℤ}
+use lib.ListN.{length, take}
+use lib.Seq.{length-take-le}
+use Rattle.model.specs.Basics.{pick, tab}
+use Rattle.model.specs.Column.{Elem, Row, Column, Arguments, rowsOf, rowCount}
+use Rattle.model.specs.Contract.{ListMeets, told, room}
+use Rattle.model.specs.Call.{answerOf, written, listCounts}
+use Rattle.model.specs.Form.{Room, flat, fitsIn}
+use Rattle.model.specs.Limits.{Limits, narrow}
+use Rattle.model.specs.Outcome.{Outcome, refused, made, gate, fitted, afterThree}
+use Rattle.model.specs.Recipe.{Step, stepAt, stepCall, thenOn, carried}
+use Rattle.model.specs.Refusals.{rowsRefusal}
+use Rattle.model.specs.Rows.{ListCall, rowsIn, rowMade, rowByRow, rowsMade, madeOf, atRow}
+use Rattle.model.specs.declared.ListAnswer.{ListAnswer}
+use Rattle.model.specs.declared.ListAnswer.the-variants as A
+use Rattle.model.proofs.ColumnLaws.{length-rows}
+use Rattle.model.proofs.TabLaws.{length-map, length-tab, tab-step, tab-none}
+use Rattle.ops.specs.Ops.{callOf}
+use Rattle.ops.specs.declared.ListOp.{ListOp}
+use Rattle.ops.specs.declared.ListOp.the-variants as L
+use Rattle.steps.specs.Steps.{front, Held, Steps, StepFits, opCall, stepOp}
+use Rattle.steps.specs.declared.StepOp.{StepOp}
+use Rattle.steps.specs.declared.StepOp.the-variants as S
+use Rattle.steps.proofs.RoundLaws.{held-over, rows-over}
+use Rattle.steps.proofs.StepLaws.{call-is}
+
+never : {A : Type 0} → _≡_ {A = ℕ} 0 1 → A
+never e = let z : ⊥ = omega arith in absurd z
+
+-- ---- what an answer tells
+
+pub answer-refused : (o : Outcome (List Row)) (a : ListAnswer) (k : ℕ) → a ≡ A.Refused k → told a ≡ answerOf listCounts o → o ≡ refused k
+unfolding told answerOf
+answer-refused (refused j) a k e h = let q : j ≡ k = cc in rw q
+answer-refused (made ws) a k e h = never cc
+
+pub record Made (o : Outcome (List Row)) (n m : ℕ) : Type 0 where
+  pub rows : List Row
+  pub is : o ≡ made rows
+  pub many : n ≡ length rows
+  pub elements : m ≡ length (flat rows)
+
+pub answer-made : (o : Outcome (List Row)) (a : ListAnswer) (n m p q : ℕ) → a ≡ A.Counts n m p q → told a ≡ answerOf listCounts o → Made o n m
+unfolding told answerOf
+answer-made (refused j) a n m p q e h = never cc
+answer-made (made ws) a n m p q e h = record { rows = ws; is = refl; many = cc; elements = cc }
+
+-- ---- a step makes as many rows as it takes
+
+rows-of-call : (o : StepOp) (ws rs : List Row) (a b c : List Elem) → rowsIn (opCall o ws rs a b c) ≡ length ws
+unfolding opCall rowsIn callOf
+rows-of-call (S.One (L.Plain u)) ws rs a b c = refl
+rows-of-call (S.One L.Slice) ws rs a b c = refl
+rows-of-call (S.One L.SliceBy) ws rs a b c = refl
+rows-of-call (S.One L.Resize) ws rs a b c = refl
+rows-of-call (S.One L.ResizeWith) ws rs a b c = refl
+rows-of-call (S.One L.Replace) ws rs a b c = refl
+rows-of-call (S.One L.Remove) ws rs a b c = refl
+rows-of-call (S.Two op) ws rs a b c = refl
+
+length-made : (q : ListCall (List Row) (List Elem)) → length (rowsMade narrow q) ≡ rowsIn q
+unfolding rowsMade rowByRow
+length-made q = length-map rowMade (tab (λ r. madeOf narrow (atRow q r)) 0 (rowsIn q)) ∙ length-tab (λ r. madeOf narrow (atRow q r)) 0 (rowsIn q)
+
+gate-made : (t : Bool) (k : ℕ) (o : Outcome (List Row)) (ws : List Row) → pick t o (refused k) ≡ made ws → o ≡ made ws
+gate-made true k o ws h = h
+gate-made false k o ws h = never cc
+
+fit-made : (t : Bool) (vs ws : List Row) → pick t (made vs) (refused 9) ≡ made ws → vs ≡ ws
+fit-made true vs ws h = cc
+fit-made false vs ws h = never cc
+
+after-made : (q : ListCall (List Row) (List Elem)) (l : Room) (ws : List Row) → afterThree narrow q l ≡ made ws → rowsMade narrow q ≡ ws
+unfolding afterThree gate fitted
+after-made q l ws h = fit-made (fitsIn (length (rowsMade narrow q)) (length (flat (rowsMade narrow q))) l) (rowsMade narrow q) ws (gate-made (eqb (rowsRefusal narrow q) 0) (rowsRefusal narrow q) _ ws h)
+
+pub rows-kept : (s : Step) (ws rs : List Row) (es : List Elem) (l : Room) (ws′ : List Row) → afterThree narrow (stepCall s ws rs es) l ≡ made ws′ → length ws′ ≡ length ws
+rows-kept s ws rs es l ws′ h = ap length (sym (after-made (stepCall s ws rs es) l ws′ h)) ∙ length-made (stepCall s ws rs es) ∙ ap rowsIn (call-is (s .code) ws rs _ _ _) ∙ rows-of-call (stepOp (s .code)) ws rs _ _ _
+
+-- ---- the chain
+
+module _ (s : Step) (ts : List Step) (ws rs : List Row) (es : List Elem) (a b o : Room) where
+  pub chain-last : ts ≡ [] → carried narrow s ts ws rs es a b o ≡ afterThree narrow (stepCall s ws rs es) o
+  unfolding carried
+  chain-last e = rw e
+
+  pub chain-refused : (t : Step) (us : List Step) (k : ℕ) → ts ≡ t ∷ us → afterThree narrow (stepCall s ws rs es) a ≡ refused k → carried narrow s ts ws rs es a b o ≡ refused k
+  unfolding carried thenOn
+  chain-refused t us k e h = rw (e, h)
+
+  pub chain-made : (t : Step) (us : List Step) (ws′ : List Row) → ts ≡ t ∷ us → afterThree narrow (stepCall s ws rs es) a ≡ made ws′ → carried narrow s ts ws rs es a b o ≡ carried narrow t us ws′ rs es b a o
+  unfolding carried thenOn
+  chain-made t us ws′ e h = rw (e, h)
+
+-- ---- a step that made rows leaves a column at the front of its tray that shows them
+
+pub record Carried (o : Outcome (List Row)) (oo′ : List ℤ) (ro′ : List ℕ) (vo′ : List ℤ) (eo′ : List ℕ) (n m : ℕ) : Type 0 where
+  pub rows : List Row
+  pub is : o ≡ made rows
+  pub held : Held n m oo′ ro′ vo′ eo′
+  pub shown : rowsOf (front oo′ ro′ vo′ eo′ n m) ≡ rows
+
+pub carries : (o : Outcome (List Row)) (a : ListAnswer) (n r m p q : ℕ) {oo oo′ : List ℤ} {ro ro′ : List ℕ} {vo vo′ : List ℤ} {eo eo′ : List ℕ}
+    → ListMeets o a oo oo′ ro ro′ vo vo′ eo eo′ → a ≡ A.Counts r m p q → ((ws : List Row) → o ≡ made ws → length ws ≡ n) → Carried o oo′ ro′ vo′ eo′ n m
+unfolding written
+carries o a n r m p q {oo} {oo′} {ro} {ro′} {vo} {vo′} {eo} {eo′} h e f =
+    let d = answer-made o a r m p q e (h .answer) in
+    let x = rw (d .is) at (h .offsets) in
+    let y = rw (d .is) at (h .rows) in
+    let z = rw (d .is) at (h .values) in
+    let w = rw (d .is) at (h .elements) in
+    let k = sym (f (d .rows) (d .is)) in
+    record {
+      rows = d .rows;
+      is = d .is;
+      held = rw (x, y, z, w) (held-over (d .rows) oo ro vo eo n m k (d .elements));
+      shown = rw (x, y, z, w) (rows-over (d .rows) oo ro vo eo n m k (d .elements));
+    }
+
+-- the rows at the front of a tray are as many as it holds
+pub front-rows : {n m : ℕ} {o : List ℤ} {r : List ℕ} {v : List ℤ} {e : List ℕ} → Held n m o r v e → length (rowsOf (front o r v e n m)) ≡ n
+front-rows {n} {m} {o} {r} {v} {e} h = let l = length-take-le (n + 1) o (h .offsets) in length-rows (front o r v e n m) ∙ omega arith
+
+pub same-room : {x x′ y y′ z z′ w w′ : ℕ} → x′ ≡ x → y′ ≡ y → z′ ≡ z → w′ ≡ w → room x′ y′ z′ w′ ≡ room x y z w
+same-room a b c d = rw (a, b, c, d)
+
+-- ---- the steps that are left
+
+module _ {ns : List ℕ} {n len k left : ℕ} (s : Steps ns n len k left) where
+  pub step-fits : StepFits (stepAt ns k) n len
+  step-fits = let e : k + 0 ≡ k = omega arith in rw e at (s .fit 0 (s .some))
+
+  pub none-left : left ≡ 1 → tab (stepAt ns) (k + 1) (left - 1) ≡ []
+  none-left e = tab-none (stepAt ns) (k + 1) (left - 1) (omega arith)
+
+  module _ (h : left ≡ 1 → ⊥) where
+    pub more-left : tab (stepAt ns) (k + 1) (left - 1) ≡ stepAt ns (k + 1) ∷ tab (stepAt ns) (k + 1 + 1) (left - 1 - 1)
+    more-left = tab-step (stepAt ns) (k + 1) (left - 1) (some-left (s .some) h)
+      where
+        some-left : 0 < left → (left ≡ 1 → ⊥) → 0 < left - 1
+        some-left p q = omega (arith, p)
+
+    pub next-steps : Steps ns n len (k + 1) (left - 1)
+    next-steps = record {
+      some = omega (arith, s .some);
+      there = omega (arith, s .there, s .some);
+      fit = λ j l. let e : k + 1 + j ≡ k + (j + 1) = omega arith in rw e (s .fit (j + 1) (omega (arith, s .some)));
+    }

@@ -94,4 +94,6 @@ archive! {
     any_value
     element
     lists
+    list_with
+    list_repeat
 }

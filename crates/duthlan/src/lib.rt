@@ -9,9 +9,11 @@ use entries::list;
 use entries::two_lists;
 use entry::sizes;
 ghost use Rattle.entry.specs.Entry.{ListEntry, ValueEntry, decoded, decodedArguments, listSizes, setCall, size, unaryCall, valueSizes};
+ghost use Rattle.entry_repeat.specs.Repeat.{RepeatEntry};
+ghost use Rattle.entry_with.specs.With.{withCall};
 ghost use Rattle.model.specs.Basics.{given};
 ghost use Rattle.model.specs.Limits.{narrow};
-ghost use Rattle.model.specs.Outcome.{anyValueOutcome, elementOutcome};
+ghost use Rattle.model.specs.Outcome.{anyValueOutcome, elementOutcome, repeatOutcome};
 ghost use mathlib.Core.List.{_++_};
 
 // Reverse (op 0), distinct (1), pop front (2), pop back (3).
@@ -47,6 +49,63 @@ pub extern "C" fn duthlan_list(
         counts,
         &mut o,
         &mut v,
+        &mut oo,
+        &mut ov,
+    )
+}
+
+// Slice (op 4), slice without stride (5), resize (6), replace (7), remove (8), resize without fill (11). Of the three argument columns
+// an operation looks at those that it takes; the sizes of all are tested.
+#[no_mangle]
+pub extern "C" fn duthlan_list_with(
+    op: u32,
+    offsets: &[u8],
+    rows: &[u8],
+    values: &[u8],
+    elements: &[u8],
+    first: &[u8],
+    first_bits: &[u8],
+    second: &[u8],
+    second_bits: &[u8],
+    third: &[u8],
+    third_bits: &[u8],
+    out_offsets: &mut [u8],
+    out_rows: &mut [u8],
+    out_values: &mut [u8],
+    out_elements: &mut [u8],
+    counts: &mut [u8],
+) -> u32
+    ensures { λ n. ⌜ ListEntry (withCall op (decoded offsets rows values elements) (decodedArguments first «first_bits») (decodedArguments second «second_bits») (decodedArguments third «third_bits»)) (listSizes (size offsets) (size values) ++ (valueSizes (size first) ++ (valueSizes (size second) ++ valueSizes (size third)))) n «out_offsets» «out_rows» «out_values» «out_elements» counts ⌝ }
+{
+    let mut o = [0i32; sizes::MOST_OFFSETS];
+    let mut v = [0i64; sizes::MOST_VALUES];
+    let mut x = [0i64; sizes::MOST_ROWS];
+    let mut y = [0i64; sizes::MOST_ROWS];
+    let mut z = [0i64; sizes::MOST_ROWS];
+    let mut oo = [0i32; sizes::MOST_OFFSETS];
+    let mut ov = [0i64; sizes::MOST_VALUES];
+    entry_with::enter(
+        op,
+        offsets,
+        rows,
+        values,
+        elements,
+        first,
+        first_bits,
+        second,
+        second_bits,
+        third,
+        third_bits,
+        out_offsets,
+        out_rows,
+        out_values,
+        out_elements,
+        counts,
+        &mut o,
+        &mut v,
+        &mut x,
+        &mut y,
+        &mut z,
         &mut oo,
         &mut ov,
     )
@@ -164,6 +223,54 @@ pub extern "C" fn duthlan_element(
         &mut o,
         &mut v,
         &mut i,
+        &mut ov,
+    )
+}
+
+// Each list as many times as its count says.
+#[no_mangle]
+pub extern "C" fn duthlan_list_repeat(
+    offsets: &[u8],
+    rows: &[u8],
+    values: &[u8],
+    elements: &[u8],
+    times: &[u8],
+    times_bits: &[u8],
+    out_offsets: &mut [u8],
+    out_rows: &mut [u8],
+    inner_offsets: &mut [u8],
+    inner_rows: &mut [u8],
+    out_values: &mut [u8],
+    out_elements: &mut [u8],
+    counts: &mut [u8],
+) -> u32
+    ensures { λ n. ⌜ RepeatEntry (given (repeatOutcome narrow (decoded offsets rows values elements) (decodedArguments times «times_bits»))) (listSizes (size offsets) (size values) ++ valueSizes (size times)) n «out_offsets» «out_rows» «inner_offsets» «inner_rows» «out_values» «out_elements» counts ⌝ }
+{
+    let mut o = [0i32; sizes::MOST_OFFSETS];
+    let mut v = [0i64; sizes::MOST_VALUES];
+    let mut t = [0i64; sizes::MOST_ROWS];
+    let mut oo = [0i32; sizes::MOST_OFFSETS];
+    let mut io = [0i32; entry_repeat::MOST_INNER_OFFSETS];
+    let mut ov = [0i64; sizes::MOST_VALUES];
+    entry_repeat::enter(
+        offsets,
+        rows,
+        values,
+        elements,
+        times,
+        times_bits,
+        out_offsets,
+        out_rows,
+        inner_offsets,
+        inner_rows,
+        out_values,
+        out_elements,
+        counts,
+        &mut o,
+        &mut v,
+        &mut t,
+        &mut oo,
+        &mut io,
         &mut ov,
     )
 }

@@ -11,14 +11,14 @@ pub const MOST_VALUES: usize = 16384;
 // Of argument columns and value answers.
 pub const MOST_ROWS: usize = 4096;
 
-fn is_ragged(bytes: usize, width: usize) -> bool
+pub fn is_ragged(bytes: usize, width: usize) -> bool
     requires { ⌜ 0 < width ⌝ }
     ensures { λ r. ⌜ r ≡ ragged (numbers width 0 bytes) ⌝ }
 {
     bytes % width != 0
 }
 
-fn is_outsize(bytes: usize, width: usize, most: usize) -> bool
+pub fn is_outsize(bytes: usize, width: usize, most: usize) -> bool
     requires { ⌜ 0 < width ⌝ }
     ensures { λ r. ⌜ r ≡ outsize (numbers width most bytes) ⌝ }
 {
@@ -26,32 +26,32 @@ fn is_outsize(bytes: usize, width: usize, most: usize) -> bool
 }
 
 // Of a list's offsets and values.
-fn is_list_ragged(offsets: usize, values: usize) -> bool
+pub fn is_list_ragged(offsets: usize, values: usize) -> bool
     ensures { λ r. ⌜ r ≡ any ragged (listSizes offsets values) ⌝ }
 {
     is_ragged(offsets, 4) | is_ragged(values, 8)
 }
 
-fn is_list_outsize(offsets: usize, values: usize) -> bool
+pub fn is_list_outsize(offsets: usize, values: usize) -> bool
     ensures { λ r. ⌜ r ≡ any outsize (listSizes offsets values) ⌝ }
 {
     is_outsize(offsets, 4, MOST_OFFSETS) | is_outsize(values, 8, MOST_VALUES)
 }
 
 // Of one value a row.
-fn is_value_ragged(values: usize) -> bool
+pub fn is_value_ragged(values: usize) -> bool
     ensures { λ r. ⌜ r ≡ any ragged (valueSizes values) ⌝ }
 {
     is_ragged(values, 8)
 }
 
-fn is_value_outsize(values: usize) -> bool
+pub fn is_value_outsize(values: usize) -> bool
     ensures { λ r. ⌜ r ≡ any outsize (valueSizes values) ⌝ }
 {
     is_outsize(values, 8, MOST_ROWS)
 }
 
-fn refusal(ragged: bool, outsize: bool) -> u32
+pub fn refusal(ragged: bool, outsize: bool) -> u32
     ensures { λ r. ⌜ r ≡ pick ragged 100 (pick outsize 101 0) ⌝ }
 {
     if ragged {

@@ -1,7 +1,7 @@
 -- Laws of what resize makes of a row.
-use mathlib.Core.List.{List, [], _∷_, _++_, append-nil}
+use mathlib.Core.List.{List, _∷_, _++_, append-nil}
 use mathlib.Core.Path.{_≡_, refl, ap}
-use Prim.Native.Nat.{ℕ, zero, suc, _-_, _≤_, _<_}
+use Prim.Native.Nat.{ℕ, zero, suc, _-_, _≤_}
 use native.Mathlib.Omega.{arith}
 use lib.ListN.{length, take, replicate, length-append, length-take, length-replicate}
 use Rattle.model.proofs.TabLaws.{length-tab}
@@ -38,13 +38,3 @@ module _ (f : Elem) (E : ℕ → Elem) (a n k : ℕ) where
   pub resized-filled : n ≤ k → resized k f (tab E a n) ≡ tab E a n ++ replicate (k - n) f
   unfolding resized
   resized-filled h = rw (length-tab E a n, take-all E a n k h)
-
--- ---- the fill, in the code's terms
-
-pub fill-step : (f : Elem) (n : ℕ) → 0 < n → replicate n f ≡ f ∷ replicate (n - 1) f
-fill-step f zero h = let z : ⊥ = omega arith in absurd z
-fill-step f (suc n) h = let e : n ≡ suc n - 1 = omega arith in rw (← e)
-
-pub fill-none : (f : Elem) (n : ℕ) → n ≤ 0 → replicate n f ≡ []
-fill-none f zero h = refl
-fill-none f (suc n) h = let z : ⊥ = omega arith in absurd z

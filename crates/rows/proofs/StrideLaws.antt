@@ -1,6 +1,6 @@
 -- The places of a strided walk, and the elements that it takes.
 use mathlib.Core.Bool.{Bool, true, false, cond}
-use mathlib.Core.List.{List}
+use mathlib.Core.List.{List, []}
 use mathlib.Core.Path.{_≡_, refl, sym, ap, _∙_}
 use Prim.Native.Nat.{ℕ, _+_, _-_, _*_, _/_, _^_, _<_, _≤_, suc}
 use native.Mathlib.Nat.{mul-le-mul-right, add-mul, one-mul}
@@ -90,6 +90,23 @@ taken-is E b n a s j p e h = rw (← e) (getD-tab E b n p nul h)
 pub sliced-tab : (E : ℕ → Elem) (b n a : ℕ) (s : ℤ) (k : ℕ) → Reaches a s k n → sliced a s k (tab E b n) ≡ tab (λ j. E (b + stepFrom a s j)) 0 k
 unfolding sliced
 sliced-tab E b n a s k r = tab-ext _ _ 0 0 k (λ j h. let z : 0 + j ≡ j = omega arith in rw z (getD-tab E b n (stepFrom a s j) nul (in-row a k n j s r h)))
+
+pub sliced-none : (a : ℕ) (s : ℤ) (k : ℕ) (es : List Elem) → k ≡ 0 → sliced a s k es ≡ []
+unfolding sliced tab
+sliced-none a s k es e = rw e
+
+-- ---- stride 1: the elements from one place on
+
+module _ (b n a k : ℕ) (r : Reaches a (pos 1) k n) where
+  pub run-inside : 0 < k → a + k ≤ n
+  unfolding Reaches
+  run-inside h = omega arith
+
+  pub sliced-run : (E : ℕ → Elem) → sliced a (pos 1) k (tab E b n) ≡ tab E (b + a) k
+  unfolding stepFrom
+  sliced-run E =
+      sliced-tab E b n a (pos 1) k r
+      ∙ tab-ext (λ j. E (b + stepFrom a (pos 1) j)) E 0 (b + a) k (λ j h. let q : b + (a + (0 + j) * 1) ≡ b + a + j = omega arith in rw q)
 
 -- ---- the walk: of the k elements that it takes of es, the last left ones are to come, the next at place p
 

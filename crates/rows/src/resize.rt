@@ -36,14 +36,10 @@ fn write_fill(
     requires room { ⌜ Place (replicate n (elemOf cell)) at (length (now «out_values»)) (length (now «out_elements»)) ⌝ }
     ensures { λ r. ⌜ Written (replicate n (elemOf cell)) at (now («out_values» .entry)) (now («out_values» .exit)) (now («out_elements» .entry)) (now («out_elements» .exit)) r ⌝ }
 {
-    let mut left = n;
-    let mut k = at;
-    while 0 < left {
-        utils::write_cell(cell, out_values, out_elements, k);
-        k += 1;
-        left -= 1;
+    match cell {
+        Cell::Null => runs::write_null(n, out_values, out_elements, at),
+        Cell::Value(v) => runs::write_value(v, n, out_values, out_elements, at),
     }
-    k
 }
 
 // Writes the n elements from element a on, cut or filled up to count.

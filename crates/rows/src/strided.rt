@@ -1,4 +1,5 @@
 // Slice: the elements of a row at places a stride apart.
+use crate::utils;
 use column::elements;
 ghost use Prim.Native.Nat.{_<_};
 ghost use Rattle.column.specs.Put.{Place, Source, Written};
@@ -34,8 +35,8 @@ fn place_after(p: i32, stride: i32, left: usize) -> i32
     p + stride
 }
 
-// Writes count elements of the n from element a on: those at start, start + stride, and so on.
-pub fn write_strided(
+// Writes count elements of the n from element a on, one after the other: those at start, start + stride, and so on.
+fn write_places(
     values: &[i64],
     elements: &[u8],
     estart: usize,
@@ -64,4 +65,55 @@ pub fn write_strided(
         p = place_after(p, stride, left);
     }
     k
+}
+
+// Writes count elements of the n from element a on: those at start, start + stride, and so on; at stride 1 they are a run.
+pub fn write_strided(
+    values: &[i64],
+    elements: &[u8],
+    estart: usize,
+    a: usize,
+    n: usize,
+    start: i32,
+    stride: i32,
+    count: i32,
+    out_values: &mut [i64],
+    out_elements: &mut [u8],
+    at: usize,
+) -> usize
+    requires column { ⌜ Source (now values) (from estart (now elements)) a n ⌝ }
+    requires places { ⌜ Walks start stride count n ⌝ }
+    requires room { ⌜ Place (sliced (natAbs start) stride (natAbs count) (tab (elemAt (now values) (from estart (now elements))) a n)) at (length (now «out_values»)) (length (now «out_elements»)) ⌝ }
+    ensures { λ r. ⌜ Written (sliced (natAbs start) stride (natAbs count) (tab (elemAt (now (values .entry)) (from estart (now (elements .entry)))) a n)) at (now («out_values» .entry)) (now («out_values» .exit)) (now («out_elements» .entry)) (now («out_elements» .exit)) r ⌝ }
+{
+    if stride != 1 {
+        return write_places(
+            values,
+            elements,
+            estart,
+            a,
+            n,
+            start,
+            stride,
+            count,
+            out_values,
+            out_elements,
+            at,
+        );
+    }
+    let many = to_usize(count);
+    if many == 0 {
+        return at;
+    }
+    let first = a + to_usize(start);
+    utils::write_forward(
+        values,
+        elements,
+        estart,
+        first,
+        many,
+        out_values,
+        out_elements,
+        at,
+    )
 }

@@ -14,8 +14,8 @@ ghost use mathlib.Core.Path.{_≡_};
 ghost use Rattle.model.specs.Form.{isVal, valueOf};
 ghost use Rattle.rows.specs.Cells.{elemOf};
 
-// Writes the n elements from element a on, from place at of the result on; gives the next place.
-pub fn write_forward(
+// Writes the n elements from element a on, one after the other, from place at of the result on; gives the next place.
+fn write_each(
     values: &[i64],
     elements: &[u8],
     estart: usize,
@@ -39,6 +39,27 @@ pub fn write_forward(
         left -= 1;
     }
     k
+}
+
+// Writes the n elements from element a on, from place at of the result on, at once where none can be null; gives the next place.
+pub fn write_forward(
+    values: &[i64],
+    elements: &[u8],
+    estart: usize,
+    a: usize,
+    n: usize,
+    out_values: &mut [i64],
+    out_elements: &mut [u8],
+    at: usize,
+) -> usize
+    requires column { ⌜ Source (now values) (from estart (now elements)) a n ⌝ }
+    requires room { ⌜ Place (tab (elemAt (now values) (from estart (now elements))) a n) at (length (now «out_values»)) (length (now «out_elements»)) ⌝ }
+    ensures { λ r. ⌜ Written (tab (elemAt (now (values .entry)) (from estart (now (elements .entry)))) a n) at (now («out_values» .entry)) (now («out_values» .exit)) (now («out_elements» .entry)) (now («out_elements» .exit)) r ⌝ }
+{
+    if elements.len() == 0 {
+        return runs::write_forward(values, elements, estart, a, n, out_values, out_elements, at);
+    }
+    write_each(values, elements, estart, a, n, out_values, out_elements, at)
 }
 
 // One less, and none of none.

@@ -1,74 +1,54 @@
-use mathlib.Core.List.{_∷_}
-use mathlib.Core.Path.{_≡_, refl}
-use Prim.Native.Nat.{_-_, _/_, _<_}
-use native.Mathlib.Omega.{arith}
-use lib.ListN.{length, replicate}
-use Rattle.model.specs.Column.{Elem}
-use Rattle.column.proofs.WriteLaws.{Writing, begun, written, room, done}
+use Rattle.column.proofs.OffsetLaws.{back64}
 use Rattle.rows.specs.Cells.{elemOf}
-use Rattle.rows.proofs.ResizeLaws.{fill-step, fill-none}
+use borrow.Author.Needs.{needs}
 use Rattle.rows.proofs.resize.write_fill.Statement.{statement}
 use Rattle.rows.proofs.resize.write_fill.Tie as tie
 
-abbrev Inv-loop : tie.InvT-loop
-Inv-loop cell n out-values₀ out-elements₀ at left₀ k₀ out-values out-elements left k =
-    Writing (replicate n (elemOf cell)) at out-values₀ out-elements₀ (replicate left (elemOf cell)) k out-values out-elements
+enum-told : tie.Need-enum-told
+enum-told c = search needs
 
-abbrev μ-loop : tie.MeasureT-loop
-μ-loop cell n out-values₀ out-elements₀ at left₀ k₀ out-values out-elements left k = left
+write-null-requires : tie.Need-write-null-requires
+unfolding elemOf
+write-null-requires c κs = rw (c .before .before .enum-told .given .1) at (c .before .before .before .before .before .pre)
 
-module _ (i : tie.In-loop Inv-loop μ-loop) where
-  abbrev F : Elem
-  F = elemOf (i .before .before .before .args .cell)
+enum-known-cell : tie.Need-enum-known-cell
+enum-known-cell c = search needs
 
-  next : replicate (i .before .loop .left) F ≡ F ∷ replicate (i .before .loop .left - 1) F
-  next = fill-step F (i .before .loop .left) (i .loop-test .taken)
+write-value-requires : tie.Need-write-value-requires
+unfolding elemOf
+write-value-requires c κs = rw (back64 _ (c .before .before .known-told .given .0 .1)) (rw (c .before .before .before .cell .given .1) at (c .before .before .before .before .before .before .pre))
 
-  room-at : (i .before .loop .k < length (i .before .loop .out-values)) × (i .before .loop .k / 8 < length (i .before .loop .out-elements))
-  room-at = room (i .before .loop .inv) _ _ next (i .before .before .before .pre)
+same-length : tie.Need-same-length
+same-length c = search needs
 
-loop-holds : tie.Need-loop-holds Inv-loop μ-loop
-loop-holds c = begun _ refl
+same-length-2 : tie.Need-same-length-2
+same-length-2 c = search needs
 
-write-cell-requires : tie.Need-write-cell-requires Inv-loop μ-loop
-write-cell-requires c κs = let i = c .before .before in room-at i
+returns : tie.Need-returns
+unfolding elemOf
+returns c = rw (c .before .before .before .before .before .before .enum-told .given .1) (c .before .before .before .write-null .ensures)
 
-add-k : tie.Need-add-k Inv-loop μ-loop
-add-k c = let i = c .before .before .before .before .before .before in let r = room-at i in omega (arith, i, i .before .before .before)
+same-length-3 : tie.Need-same-length-3
+same-length-3 c = search needs
 
-sub-left : tie.Need-sub-left Inv-loop μ-loop
-sub-left c = omega (arith, c .before .before .before .before .before .before)
+same-length-4 : tie.Need-same-length-4
+same-length-4 c = search needs
 
-loop-less : tie.Need-loop-less Inv-loop μ-loop
-loop-less c = omega (arith, c .before .before .before .before .before .before)
-
-loop-again : tie.Need-loop-again Inv-loop μ-loop
-loop-again c =
-    let w = c .before .before .before .write-cell in
-    let i = c .before .before .before .before .before .before in
-    written (i .before .loop .inv) _ _ (next i) (w .ensures .0) (w .ensures .1)
-
-same-length : tie.Need-same-length Inv-loop μ-loop
-same-length c = c .before .loop .inv .lv
-
-same-length-2 : tie.Need-same-length-2 Inv-loop μ-loop
-same-length-2 c = c .before .loop .inv .le
-
-returns : tie.Need-returns Inv-loop μ-loop
-returns c = done (c .before .loop .inv) (fill-none _ _ (c .loop-test .left))
+returns-2 : tie.Need-returns-2
+unfolding elemOf
+returns-2 c = rw (c .before .before .before .before .before .before .before .cell .given .1) (rw (back64 _ (c .before .before .before .before .before .before .known-told .given .0 .1)) at (c .before .before .before .write-value .ensures))
 
 pub write-fill-spec : {M : Type 1} → statement M
 write-fill-spec =
     tie.close
     (tie.spec
-    Inv-loop
-    μ-loop
-    loop-holds
-    write-cell-requires
-    add-k
-    sub-left
-    loop-less
-    loop-again
+    enum-told
+    write-null-requires
+    enum-known-cell
+    write-value-requires
     same-length
     same-length-2
-    returns)
+    returns
+    same-length-3
+    same-length-4
+    returns-2)

@@ -1,5 +1,6 @@
-use mathlib.Core.Path.{_≡_, ap, _∙_}
-use Prim.Native.Nat.{ℕ, _<_}
+use mathlib.Core.List.{List}
+use mathlib.Core.Path.{_≡_, refl, sym, ap, _∙_}
+use Prim.Native.Nat.{ℕ, _+_, _<_, _≤_}
 use native.Mathlib.Omega.{arith}
 use lib.IntN.{pos, natAbs}
 use mir.Syntax.{w32}
@@ -7,25 +8,17 @@ use mir.Val.{toZ, ofZ}
 use Rattle.model.specs.Basics.{tab}
 use Rattle.model.specs.Bitmap.{from}
 use Rattle.model.specs.Column.{Elem, elemAt}
-use Rattle.rows.proofs.StrideLaws.{back32, low, start-bits, Going, begin, room-for, here, turned, stop, taken-is, stepping, step-fits}
+use Rattle.model.specs.Slice.{sliced}
+use Rattle.column.proofs.WriteLaws.{Writing, begun, done}
+use Rattle.rows.specs.Strides.{Reaches}
+use Rattle.rows.proofs.RunLaws.{last-room, last-written}
+use Rattle.rows.proofs.StrideLaws.{back32, sliced-none, run-inside, sliced-run}
+use borrow.Author.Needs.{needs}
 use Rattle.rows.proofs.strided.write_strided.Statement.{statement}
 use Rattle.rows.proofs.strided.write_strided.Tie as tie
 
-abbrev Inv-loop : tie.InvT-loop
-Inv-loop values elements estart a n start stride count out-values₀ out-elements₀ at p₀ left₀ k₀ out-values out-elements p left k =
-    Going (natAbs (toZ w32 start)) (toZ w32 stride) (natAbs (toZ w32 count)) (tab (elemAt values (from estart elements)) a n) at out-values₀ out-elements₀ left k out-values out-elements p
-
-abbrev μ-loop : tie.MeasureT-loop
-μ-loop values elements estart a n start stride count out-values₀ out-elements₀ at p₀ left₀ k₀ out-values out-elements p left k = left
-
-abbrev S : tie.At-loop Inv-loop μ-loop → tie.Start Inv-loop μ-loop
-S l = l .before .before .before .before
-
-abbrev E : tie.Start Inv-loop μ-loop → ℕ → Elem
-E s = elemAt (s .args .values .now) (from (s .args .estart) (s .args .elements .now))
-
 -- the numbers are read as they were written
-module _ (s : tie.Start Inv-loop μ-loop) where
+module _ (s : tie.Start) where
   read-start : toZ w32 (ofZ w32 (s .args .start)) ≡ s .args .start
   read-start = back32 (s .args .start) (s .fits .start)
 
@@ -35,97 +28,99 @@ module _ (s : tie.Start Inv-loop μ-loop) where
   read-count : toZ w32 (ofZ w32 (s .args .count)) ≡ s .args .count
   read-count = back32 (s .args .count) (s .fits .count)
 
--- what the loop keeps, of the numbers themselves
-going : (l : tie.At-loop Inv-loop μ-loop)
-    → let s = S l in Going (natAbs (s .args .start)) (s .args .stride) (natAbs (s .args .count)) (tab (E s) (s .args .a) (s .args .n)) (s .args .at) (s .args .out-values .now) (s .args .out-elements .now) (l .loop .left) (l .loop .k) (l .loop .out-values) (l .loop .out-elements) (l .loop .p)
-going l = rw (read-start (S l), read-stride (S l), read-count (S l)) at (l .loop .inv)
+  abbrev E : ℕ → Elem
+  E = elemAt (s .args .values .now) (from (s .args .estart) (s .args .elements .now))
 
-module _ (c : tie.In-loop Inv-loop μ-loop) where
-  below : c .before .loop .p < S (c .before) .args .n
-  below = here (going (c .before)) _ (S (c .before) .pre .1 .0 .reach) (c .loop-test .taken)
+  abbrev es : List Elem
+  es = sliced (natAbs (s .args .start)) (s .args .stride) (natAbs (s .args .count)) (tab E (s .args .a) (s .args .n))
 
-  plain : toZ w32 (c .before .loop .p) ≡ pos (c .before .loop .p)
-  plain = low _ (omega (arith, below, S (c .before) .pre .1 .0 .small))
+  -- nothing is written yet
+  none : Writing es (s .args .at) (s .args .out-values .now) (s .args .out-elements .now) es (s .args .at) (s .args .out-values .now) (s .args .out-elements .now)
+  none = begun es refl
 
-index : (c : tie.After-to-usize2 Inv-loop μ-loop) → c .to-usize2 .result ≡ c .before .before .loop .p
-index c = rw (plain (c .before)) at (c .to-usize2 .ensures)
+  -- stride 1
+  module _ (i : ofZ w32 (s .args .stride) ≡ 1) (p k : ℕ) (a : p ≡ natAbs (s .args .start)) (m : k ≡ natAbs (s .args .count)) (h : 0 < k) where
+    one : s .args .stride ≡ pos 1
+    one = sym read-stride ∙ ap (toZ w32) i
 
-to-usize-requires : tie.Need-to-usize-requires Inv-loop μ-loop
-to-usize-requires c κs = let s = c .before .before in rw (read-count s) (s .pre .1 .0 .many)
+    reach : Reaches p (pos 1) k (s .args .n)
+    reach = rw (← one, a, m) (s .pre .1 .0 .reach (rw (← m) h))
 
-loop-holds : tie.Need-loop-holds Inv-loop μ-loop
-loop-holds c =
-    let s = c .before .before .before in
-    rw (c .to-usize .ensures, read-start s, read-stride s, read-count s, start-bits _ (s .pre .1 .0 .from)) (begin _ _ _ _ _ _ _)
+    inside : p + k ≤ s .args .n
+    inside = run-inside (s .args .a) (s .args .n) p k reach h
 
-to-usize-requires-2 : tie.Need-to-usize-requires-2 Inv-loop μ-loop
-to-usize-requires-2 c κs = rw (plain c) tt
+    run : es ≡ tab E (s .args .a + p) k
+    run = rw (one, ← a, ← m) (sliced-run (s .args .a) (s .args .n) p k reach E)
 
-add-i : tie.Need-add-i Inv-loop μ-loop
-add-i c = let i = c .before in omega (arith, i, index c, below i, S (i .before) .pre .0 .inside)
+count-is : (c : tie.After-to-usize) → c .to-usize .result ≡ natAbs (c .before .before .before .before .args .count)
+count-is c = rw (read-count (c .before .before .before .before)) at (c .to-usize .ensures)
 
-write-elem-requires : tie.Need-write-elem-requires Inv-loop μ-loop
-write-elem-requires c κs =
+module _ (c : tie.After-to-usize2) where
+  start-is : c .to-usize2 .result ≡ natAbs (c .before .before .before .before .before .before .args .start)
+  start-is = rw (read-start (c .before .before .before .before .before .before)) at (c .to-usize2 .ensures)
+
+  some : 0 < c .before .before .to-usize .result
+  some = omega (arith, c .before)
+
+  fits-in : c .to-usize2 .result + c .before .before .to-usize .result ≤ c .before .before .before .before .before .before .args .n
+  fits-in = inside (c .before .before .before .before .before .before) (c .before .before .before .if1 .left) _ _ start-is (count-is (c .before .before)) some
+
+  run-is : es (c .before .before .before .before .before .before) ≡ tab (E (c .before .before .before .before .before .before)) (c .before .before .before .before .before .before .args .a + c .to-usize2 .result) (c .before .before .to-usize .result)
+  run-is = run (c .before .before .before .before .before .before) (c .before .before .before .if1 .left) _ _ start-is (count-is (c .before .before)) some
+
+write-places-requires : tie.Need-write-places-requires
+write-places-requires c κs = let s = c .before .before .before .before .before in rw (read-start s, read-stride s, read-count s) (s .pre)
+
+same-length : tie.Need-same-length
+same-length c = search needs
+
+same-length-2 : tie.Need-same-length-2
+same-length-2 c = search needs
+
+returns : tie.Need-returns
+returns c = let s = c .before .before .before .before .before .before .before .before .before in rw (read-start s, read-stride s, read-count s) at (c .before .before .before .write-places .ensures)
+
+to-usize-requires : tie.Need-to-usize-requires
+to-usize-requires c κs = search needs
+
+returns-2 : tie.Need-returns-2
+returns-2 c = done (none (c .before .before .before .before .before)) (sliced-none _ _ _ _ (sym (count-is (c .before)) ∙ c .if2 .taken))
+
+to-usize-requires-2 : tie.Need-to-usize-requires-2
+to-usize-requires-2 c κs = search needs
+
+add-first : tie.Need-add-first
+add-first c = let f = fits-in c in omega (arith, c .before .before .before .before .before .before, c .before .before .before .before .before .before .pre .0 .inside)
+
+write-forward-requires : tie.Need-write-forward-requires
+write-forward-requires c κs =
     let q = c .before .before in
-    let i = q .before in
-    let s = S (i .before) in
-    (omega (arith, index q, below i, s .pre .0 .inside), (s .pre .0 .bits, room-for (going (i .before)) (i .loop-test .taken) (s .pre .1 .1)))
+    let s = c .before .before .before .before .before .before .before .before in
+    let f = fits-in q in
+    (record { inside = omega (arith, s .pre .0 .inside); bits = s .pre .0 .bits }, last-room (none s) _ (run-is q) (s .pre .1 .1))
 
-add-k : tie.Need-add-k Inv-loop μ-loop
-add-k c =
-    let i = c .before .before .before .before .before .before .before in
-    let r = room-for (going (i .before)) (i .loop-test .taken) (S (i .before) .pre .1 .1) in
-    omega (arith, i, S (i .before))
+same-length-3 : tie.Need-same-length-3
+same-length-3 c = search needs
 
-sub-left : tie.Need-sub-left Inv-loop μ-loop
-sub-left c = omega (arith, c .before .before .before .before .before .before .before)
+same-length-4 : tie.Need-same-length-4
+same-length-4 c = search needs
 
-place-after-requires : tie.Need-place-after-requires Inv-loop μ-loop
-place-after-requires c κs =
-    λ h. let i = c .before .before .before .before .before .before .before in
-    let s = S (i .before) in
-    rw (plain i, read-stride s) (step-fits (going (i .before)) _ (s .pre .1 .0 .reach) h (s .pre .1 .0 .small))
-
-loop-less : tie.Need-loop-less Inv-loop μ-loop
-loop-less c = omega (arith, c .before .before .before .before .before .before .before .before)
-
-loop-again : tie.Need-loop-again Inv-loop μ-loop
-loop-again c =
-    let w = c .before .before .before .before .write-elem in
-    let q = c .before .before .before .before .before .before .before in
-    let i = q .before in
-    let g = going (i .before) in
-    let s = S (i .before) in
-    let e = taken-is (E s) (s .args .a) (s .args .n) (natAbs (s .args .start)) (s .args .stride) _ _ (index q ∙ g .place (i .loop-test .taken)) (omega (arith, index q, below i)) in
-    rw (read-start s, read-stride s, read-count s)
-    (turned g (i .loop-test .taken) (rw e (w .ensures .0)) (rw e (w .ensures .1))
-    (λ h. ap (ofZ w32) ((rw (plain i, read-stride s) at (c .place-after .ensures h)) ∙ stepping g _ (s .pre .1 .0 .reach) h)))
-
-same-length : tie.Need-same-length Inv-loop μ-loop
-same-length c = going (c .before) .writing .lv
-
-same-length-2 : tie.Need-same-length-2 Inv-loop μ-loop
-same-length-2 c = going (c .before) .writing .le
-
-returns : tie.Need-returns Inv-loop μ-loop
-returns c = stop (going (c .before)) (c .loop-test .left)
+returns-3 : tie.Need-returns-3
+returns-3 c = last-written (none (c .before .before .before .before .before .before .before .before .before .before .before .before)) _ (run-is (c .before .before .before .before .before .before)) (c .before .before .before .write-forward .ensures)
 
 pub write-strided-spec : {M : Type 1} → statement M
 write-strided-spec =
     tie.close
     (tie.spec
-    Inv-loop
-    μ-loop
-    to-usize-requires
-    loop-holds
-    to-usize-requires-2
-    add-i
-    write-elem-requires
-    add-k
-    sub-left
-    place-after-requires
-    loop-less
-    loop-again
+    write-places-requires
     same-length
     same-length-2
-    returns)
+    returns
+    to-usize-requires
+    returns-2
+    to-usize-requires-2
+    add-first
+    write-forward-requires
+    same-length-3
+    same-length-4
+    returns-3)

@@ -7,8 +7,8 @@ use Rattle.column.proofs.PutLaws.{rev-step, rev-none}
 use Rattle.model.specs.Column.{elemAt}
 use Rattle.model.specs.Basics.{tab}
 use Rattle.model.specs.Bitmap.{from}
-use Rattle.rows.proofs.reverse.write_backward.Statement.{statement}
-use Rattle.rows.proofs.reverse.write_backward.Tie as tie
+use Rattle.rows.proofs.reverse.write_each_back.Statement.{statement}
+use Rattle.rows.proofs.reverse.write_each_back.Tie as tie
 
 abbrev Inv-loop : tie.InvT-loop
 Inv-loop values elements estart a n out-values₀ out-elements₀ at left₀ k₀ out-values out-elements left k =
@@ -70,8 +70,8 @@ returns c =
     let E = elemAt (s .args .values .now) (from (s .args .estart) (s .args .elements .now)) in
     done (l .inv .0) (rev-none E (s .args .a) (l .left) (c .loop-test .left))
 
-pub write-backward-spec : {M : Type 1} → statement M
-write-backward-spec =
+pub write-each-back-spec : {M : Type 1} → statement M
+write-each-back-spec =
     tie.close
     (tie.spec
     Inv-loop

@@ -6,8 +6,8 @@ use Rattle.column.proofs.WriteLaws.{Writing, begun, written, room, done}
 use mathlib.Core.Path.{_≡_, refl}
 use Prim.Native.Nat.{_+_}
 use native.Mathlib.Omega.{arith}
-use Rattle.rows.proofs.utils.write_forward.Statement.{statement}
-use Rattle.rows.proofs.utils.write_forward.Tie as tie
+use Rattle.rows.proofs.utils.write_each.Statement.{statement}
+use Rattle.rows.proofs.utils.write_each.Tie as tie
 
 abbrev Inv-loop : tie.InvT-loop
 Inv-loop values elements estart a n out-values₀ out-elements₀ at p₀ left₀ k₀ out-values out-elements p left k =
@@ -70,8 +70,8 @@ returns c =
     let E = elemAt (s .args .values .now) (from (s .args .estart) (s .args .elements .now)) in
     done (l .inv .0) (tab-none E (l .p) (l .left) (c .loop-test .left))
 
-pub write-forward-spec : {M : Type 1} → statement M
-write-forward-spec =
+pub write-each-spec : {M : Type 1} → statement M
+write-each-spec =
     tie.close
     (tie.spec
     Inv-loop

@@ -1,0 +1,3 @@
+pub mod StoreLaws
+pub mod SameLaws
+pub mod PlainLaws

@@ -1,0 +1,223 @@
+// Runs of elements without nulls, or of nulls alone: values in plain loops, and whole bytes of bits at a time. An inner crate: its callers meet what it asks.
+use column::elements;
+ghost use Prim.Native.Nat.{_%_, _*_, _+_, _-_, _/_, _<_, _^_, _≤_};
+ghost use Rattle.bitmap.specs.Push.{pushBits};
+ghost use Rattle.column.specs.Put.{Place, Source, Written};
+ghost use Rattle.model.specs.Basics.{pick, tab};
+ghost use Rattle.model.specs.Bitmap.{bytesFor, from};
+ghost use Rattle.model.specs.Column.{elemAt, nul, val};
+ghost use lib.IntN.{pos};
+ghost use lib.ListN.{getD, length, replicate};
+ghost use lib.Seq.{sets};
+ghost use mathlib.Core.List.{reverse};
+ghost use mathlib.Core.Path.{_≡_};
+
+// ---- bits
+
+// Stores a byte at m places, from place k on.
+fn put_bytes(bitmap: &mut [u8], k: usize, m: usize, byte: u8)
+    requires { ⌜ k + m ≤ length (now bitmap) ⌝ }
+    ensures { λ _. ⌜ now (bitmap .exit) ≡ sets (now (bitmap .entry)) k (replicate m byte) ⌝ }
+{
+    let mut j = k;
+    let mut left = m;
+    while 0 < left {
+        bitmap[j] = byte;
+        j += 1;
+        left -= 1;
+    }
+}
+
+// Eight bits, all the same.
+fn byte_of(on: bool) -> u8
+    ensures { λ r. ⌜ r ≡ pick on 255 0 ⌝ }
+{
+    if on {
+        return 255;
+    }
+    0
+}
+
+// The m lowest bits of a byte, fewer than eight.
+fn low_ones(m: usize) -> u8
+    requires { ⌜ m < 8 ⌝ }
+    ensures { λ r. ⌜ r ≡ 2 ^ m - 1 ⌝ }
+{
+    (1u8 << (m as u8)) - 1
+}
+
+// The m lowest bits of a byte, all the same, and above them none.
+fn low_bits(m: usize, on: bool) -> u8
+    requires { ⌜ m < 8 ⌝ }
+    ensures { λ r. ⌜ r ≡ pick on (2 ^ m - 1) 0 ⌝ }
+{
+    if on {
+        return low_ones(m);
+    }
+    0
+}
+
+// Appends m bits, all the same, to the byte that bit i is in, and is not the first of.
+fn push_within(bitmap: &mut [u8], i: usize, m: usize, on: bool)
+    requires { ⌜ 0 < i % 8 ⌝ }
+    requires { ⌜ i % 8 + m ≤ 8 ⌝ }
+    requires { ⌜ i / 8 < length (now bitmap) ⌝ }
+    ensures { λ _. ⌜ now (bitmap .exit) ≡ pushBits (now (bitmap .entry)) i (replicate m on) ⌝ }
+{
+    if on {
+        let ones = low_ones(m);
+        let byte = bitmap[i / 8];
+        bitmap[i / 8] = byte | (ones << ((i % 8) as u8));
+    }
+}
+
+// Appends n bits, all the same, from the first bit of byte k on: whole bytes, then the bits that are left.
+fn push_bytes(bitmap: &mut [u8], k: usize, n: usize, on: bool)
+    requires { ⌜ k + bytesFor n ≤ length (now bitmap) ⌝ }
+    ensures { λ _. ⌜ now (bitmap .exit) ≡ pushBits (now (bitmap .entry)) (8 * k) (replicate n on) ⌝ }
+{
+    let whole = n / 8;
+    let last = n % 8;
+    put_bytes(bitmap, k, whole, byte_of(on));
+    if last == 0 {
+        return;
+    }
+    let byte = low_bits(last, on);
+    bitmap[k + whole] = byte;
+}
+
+// Appends n bits, all the same: those that end a byte begun, then bytes of their own.
+pub fn push_same(bitmap: &mut [u8], at: usize, n: usize, on: bool)
+    requires { ⌜ bytesFor (at + n) ≤ length (now bitmap) ⌝ }
+    ensures { λ _. ⌜ now (bitmap .exit) ≡ pushBits (now (bitmap .entry)) at (replicate n on) ⌝ }
+{
+    if at % 8 == 0 {
+        push_bytes(bitmap, at / 8, n, on);
+        return;
+    }
+    let gap = 8 - at % 8;
+    if n <= gap {
+        push_within(bitmap, at, n, on);
+        return;
+    }
+    push_within(bitmap, at, gap, on);
+    push_bytes(bitmap, at / 8 + 1, n - gap, on);
+}
+
+// ---- values
+
+// Copies the n values from value a on, from place at on.
+fn copy_values(values: &[i64], a: usize, n: usize, out: &mut [i64], at: usize)
+    requires { ⌜ a + n ≤ length (now values) ⌝ }
+    requires { ⌜ at + n ≤ length (now out) ⌝ }
+    ensures { λ _. ⌜ now (out .exit) ≡ sets (now (out .entry)) at (tab (λ i. getD (now (values .entry)) i (pos 0)) a n) ⌝ }
+{
+    let mut p = a;
+    let mut k = at;
+    let mut left = n;
+    while 0 < left {
+        out[k] = values[p];
+        p += 1;
+        k += 1;
+        left -= 1;
+    }
+}
+
+// Copies the n values from value a on, last first.
+fn copy_backward(values: &[i64], a: usize, n: usize, out: &mut [i64], at: usize)
+    requires { ⌜ a + n ≤ length (now values) ⌝ }
+    requires { ⌜ at + n ≤ length (now out) ⌝ }
+    ensures { λ _. ⌜ now (out .exit) ≡ sets (now (out .entry)) at (reverse (tab (λ i. getD (now (values .entry)) i (pos 0)) a n)) ⌝ }
+{
+    let mut k = at;
+    let mut left = n;
+    while 0 < left {
+        left -= 1;
+        out[k] = values[a + left];
+        k += 1;
+    }
+}
+
+// Stores a value at n places, from place at on.
+fn fill_values(v: i64, n: usize, out: &mut [i64], at: usize)
+    requires { ⌜ at + n ≤ length (now out) ⌝ }
+    ensures { λ _. ⌜ now (out .exit) ≡ sets (now (out .entry)) at (replicate n v) ⌝ }
+{
+    let mut k = at;
+    let mut left = n;
+    while 0 < left {
+        out[k] = v;
+        k += 1;
+        left -= 1;
+    }
+}
+
+// ---- elements
+
+// Writes the n elements from element a on, none of them null, from place at of the result on; gives the next place.
+pub fn write_forward(
+    values: &[i64],
+    elements: &[u8],
+    estart: usize,
+    a: usize,
+    n: usize,
+    out_values: &mut [i64],
+    out_elements: &mut [u8],
+    at: usize,
+) -> usize
+    requires column { ⌜ Source (now values) (from estart (now elements)) a n ⌝ }
+    requires room { ⌜ Place (tab (elemAt (now values) (from estart (now elements))) a n) at (length (now «out_values»)) (length (now «out_elements»)) ⌝ }
+    requires plain { ⌜ length (now elements) ≡ 0 ⌝ }
+    ensures { λ r. ⌜ Written (tab (elemAt (now (values .entry)) (from estart (now (elements .entry)))) a n) at (now («out_values» .entry)) (now («out_values» .exit)) (now («out_elements» .entry)) (now («out_elements» .exit)) r ⌝ }
+{
+    copy_values(values, a, n, out_values, at);
+    push_same(out_elements, at, n, true);
+    at + n
+}
+
+// Writes the n elements from element a on, none of them null, last first.
+pub fn write_backward(
+    values: &[i64],
+    elements: &[u8],
+    estart: usize,
+    a: usize,
+    n: usize,
+    out_values: &mut [i64],
+    out_elements: &mut [u8],
+    at: usize,
+) -> usize
+    requires column { ⌜ Source (now values) (from estart (now elements)) a n ⌝ }
+    requires room { ⌜ Place (reverse (tab (elemAt (now values) (from estart (now elements))) a n)) at (length (now «out_values»)) (length (now «out_elements»)) ⌝ }
+    requires plain { ⌜ length (now elements) ≡ 0 ⌝ }
+    ensures { λ r. ⌜ Written (reverse (tab (elemAt (now (values .entry)) (from estart (now (elements .entry)))) a n)) at (now («out_values» .entry)) (now («out_values» .exit)) (now («out_elements» .entry)) (now («out_elements» .exit)) r ⌝ }
+{
+    copy_backward(values, a, n, out_values, at);
+    push_same(out_elements, at, n, true);
+    at + n
+}
+
+// Writes a value n times; gives the next place.
+pub fn write_value(
+    v: i64,
+    n: usize,
+    out_values: &mut [i64],
+    out_elements: &mut [u8],
+    at: usize,
+) -> usize
+    requires room { ⌜ Place (replicate n (val v)) at (length (now «out_values»)) (length (now «out_elements»)) ⌝ }
+    ensures { λ r. ⌜ Written (replicate n (val v)) at (now («out_values» .entry)) (now («out_values» .exit)) (now («out_elements» .entry)) (now («out_elements» .exit)) r ⌝ }
+{
+    fill_values(v, n, out_values, at);
+    push_same(out_elements, at, n, true);
+    at + n
+}
+
+// Writes n nulls; gives the next place.
+pub fn write_null(n: usize, out_values: &mut [i64], out_elements: &mut [u8], at: usize) -> usize
+    requires room { ⌜ Place (replicate n nul) at (length (now «out_values»)) (length (now «out_elements»)) ⌝ }
+    ensures { λ r. ⌜ Written (replicate n nul) at (now («out_values» .entry)) (now («out_values» .exit)) (now («out_elements» .entry)) (now («out_elements» .exit)) r ⌝ }
+{
+    fill_values(elements::UNDER_NULL, n, out_values, at);
+    push_same(out_elements, at, n, false);
+    at + n
+}

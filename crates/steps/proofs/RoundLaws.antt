@@ -2,80 +2,25 @@
 use mathlib.Core.Path.{_≡_, refl, sym, ap, _∙_}
 use mathlib.Core.Bool.{Bool, true, false, not, _&&_}
 use mathlib.Core.List.{List, [], _∷_, _++_, map, append-assoc}
-use Prim.Native.Nat.{ℕ, zero, suc, _+_, _-_, _*_, _/_, _%_, _^_, _≤_, _<_}
+use Prim.Native.Nat.{ℕ, zero, suc, _+_, _-_, _≤_, _<_}
 use native.Mathlib.Omega.{arith}
-use native.Mathlib.Nat.{zero-add}
-use borrow.Author.Tests.{ne-eqb, ltb-true, ltb-false, le-ltb}
+use borrow.Author.Tests.{le-ltb}
 use lib.Dec.{ltb, eqb}
-use lib.Pow.{shr-shr}
 use lib.IntN.{ℤ, pos}
 use lib.Signed.{ltZ}
-use lib.ListN.{length, getD, take, drop, length-append, length-drop, length-take, List·getD-append}
-use lib.Seq.{getD-take, getD-drop, getD-append-add, getD-append-seam, take-at}
+use lib.ListN.{length, getD, drop, length-append, List·getD-append}
+use lib.Seq.{getD-append-add, getD-append-seam, take-at}
 use Rattle.model.specs.Basics.{pick, tab}
-use Rattle.model.specs.Bitmap.{from, bit, byteOf, pack, bytesFor, bitAt, validAt, shortBits}
+use Rattle.model.specs.Bitmap.{from, pack, bytesFor, validAt, shortBits}
 use Rattle.model.specs.Column.{Elem, nul, val, Row, nullRow, listRow, Column, column, count, offsetAt, elemAt, rowAt, rowsOf, rowCount, falls, badOffsets}
 use Rattle.model.specs.Form.{isVal, valueOf, isRow, elemsOf, lengthOf, flat, offsetsFrom, formOffsets, formRows, formValues, formElements, over}
 use Rattle.model.proofs.TabLaws.{length-map, tab-getD}
 use Rattle.model.proofs.FormLaws.{length-pack, length-offsets}
-use Rattle.bitmap.proofs.BitLaws.{pack-cons}
+use Rattle.bitmap.proofs.PackLaws.{valid-pack}
 use Rattle.column.specs.Put.{Readable}
 use Rattle.column.proofs.RowLaws.{flat-append}
 use Rattle.column.proofs.PutLaws.{flat-snoc}
 use Rattle.steps.specs.Steps.{front, Held}
-
--- ---- bits
-
-bit-byte : (fs : List Bool) (i : ℕ) → i < length fs → byteOf fs / 2 ^ i % 2 ≡ bit (getD fs i false)
-unfolding byteOf
-bit-byte [] i h = omega arith
-bit-byte (true ∷ fs) zero h = omega arith
-bit-byte (false ∷ fs) zero h = omega arith
-bit-byte (b ∷ fs) (suc i) h =
-    let s : (bit b + 2 * byteOf fs) / 2 ^ (1 + i) ≡ (bit b + 2 * byteOf fs) / 2 ^ 1 / 2 ^ i = sym (shr-shr (bit b + 2 * byteOf fs) 1 i) in
-    let e : 1 + i ≡ suc i = omega arith in
-    let d : (bit b + 2 * byteOf fs) / 2 ≡ byteOf fs = half b (byteOf fs) in
-    rw (← e, s, d) (bit-byte fs i (omega arith))
-  where
-    half : (b : Bool) (x : ℕ) → (bit b + 2 * x) / 2 ≡ x
-    half true x = omega arith
-    half false x = omega arith
-
-is-bit : (b : Bool) → eqb (bit b) 1 ≡ b
-is-bit true = refl
-is-bit false = refl
-
-bit-short : (fs : List Bool) (i : ℕ) → i < length fs → i < 8 → bitAt (pack fs) i ≡ getD fs i false
-bit-short fs i h k =
-    let q : i / 8 ≡ 0 = omega arith in
-    let m : i % 8 ≡ i = omega arith in
-    let l : i < length (take 8 fs) = omega (arith, length-take 8 fs) in
-    rw (q, m, pack-cons fs (omega arith), bit-byte (take 8 fs) i l, is-bit, getD-take 8 fs i false k)
-
-abbrev Packed : ℕ → Type 0
-Packed n = (fs : List Bool) (i : ℕ) → i < length fs → i < 8 + 8 * n → bitAt (pack fs) i ≡ getD fs i false
-
-bit-long : (n : ℕ) → Packed n → (fs : List Bool) (i : ℕ) → i < length fs → i < 8 + 8 * suc n → (t : Bool) → ltb i 8 ≡ t → bitAt (pack fs) i ≡ getD fs i false
-bit-long n ih fs i h k true e = bit-short fs i h (ltb-true i 8 e)
-bit-long n ih fs i h k false e =
-    let l : 8 ≤ i = ltb-false i 8 e in
-    let q : i / 8 ≡ suc ((i - 8) / 8) = omega arith in
-    let m : i % 8 ≡ (i - 8) % 8 = omega arith in
-    let s : 8 + (i - 8) ≡ i = omega arith in
-    rw (q, m, pack-cons fs (omega arith))
-    (ih (drop 8 fs) (i - 8) (omega (arith, length-drop 8 fs)) (omega arith) ∙ getD-drop 8 fs (i - 8) false ∙ rw s)
-
-bits : (n : ℕ) → Packed n
-bits zero fs i h k = bit-short fs i h (omega arith)
-bits (suc n) fs i h k = bit-long n (bits n) fs i h k (ltb i 8) refl
-
--- bit i of what is packed is the i-th of the bits
-pub bit-pack : (fs : List Bool) (i : ℕ) → i < length fs → bitAt (pack fs) i ≡ getD fs i false
-bit-pack fs i h = bits i fs i h (omega arith)
-
-pub valid-pack : (fs : List Bool) (i : ℕ) → i < length fs → validAt (from 0 (pack fs)) i ≡ getD fs i false
-unfolding validAt
-valid-pack fs i h = rw (ne-eqb (length (pack fs)) 0 (λ z. omega (arith, length-pack fs)), zero-add i) (bit-pack fs i h)
 
 -- ---- elements
 

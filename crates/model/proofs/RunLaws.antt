@@ -9,11 +9,12 @@ use lib.IntN.{ℤ}
 use Rattle.model.specs.Bitmap.{bytesFor, pack}
 use Rattle.model.specs.Limits.{Limits}
 use Rattle.model.specs.Column.{Elem, Row, Column, Arguments}
-use Rattle.model.specs.Form.{isVal, isRow, valueOf, Outer, isOuter, outerLength, inner, flat, lengthOf, over, offsetsFrom, formOffsets, formRows, formValues, formElements}
+use Rattle.model.specs.Recipe.{Tally, tallied}
+use Rattle.model.specs.Form.{Room, isVal, isRow, valueOf, Outer, isOuter, outerLength, inner, flat, lengthOf, over, offsetsFrom, formOffsets, formRows, formValues, formElements}
 use Rattle.model.specs.Outcome.{Outcome, refused, made}
-use Rattle.model.specs.Call.{Call, answerOf, written, End, listNumbers, listBitmaps, listEnd, valueEnd, repeatEnd, end}
-use Rattle.model.specs.Contract.{told, toldValue, toldRepeat, ListMeets, ValueMeets, RepeatMeets}
-use Rattle.model.specs.Run.{listRunEnd, valueRunEnd, repeatRunEnd, Run, listRun, anyValueRun, elementRun, repeatRun}
+use Rattle.model.specs.Call.{Call, answerOf, written, End, listNumbers, listBitmaps, listEnd, valueEnd, repeatEnd, recipeEnd, end}
+use Rattle.model.specs.Contract.{told, toldValue, toldRepeat, ListMeets, ValueMeets, RepeatMeets, Zeroed}
+use Rattle.model.specs.Run.{listRunEnd, valueRunEnd, repeatRunEnd, recipeRunEnd, Run, listRun, anyValueRun, elementRun, repeatRun, recipeRun}
 use Rattle.model.specs.declared.ListAnswer.{ListAnswer}
 use Rattle.model.specs.declared.ListAnswer.the-variants as L
 use Rattle.model.specs.declared.RepeatAnswer.{RepeatAnswer}
@@ -84,9 +85,18 @@ module _ {o o′ : List ℤ} {r r′ : List ℕ} {io io′ : List ℤ} {ir ir′
       let elements = taken (formElements (flat (inner os))) e e′ (bytesFor m) (h .elements) (omega (arith, length-pack (map isVal (flat (inner os))), length-map isVal (flat (inner os)))) in
       cc
 
+-- ---- a recipe's answer, trays and tally
+
+module _ {o o′ : List ℤ} {r r′ : List ℕ} {v v′ : List ℤ} {e e′ : List ℕ} {ao : List ℤ} {ar : List ℕ} {av : List ℤ} {ae : List ℕ} {bo : List ℤ} {br : List ℕ} {bv : List ℤ} {be : List ℕ} where
+  recipe-run : (x : Outcome (List Row)) (a : ListAnswer) (l m : Room) (t t′ : Tally) → ListMeets x a o o′ r r′ v v′ e e′ → Zeroed l ao ar av ae → Zeroed m bo br bv be → t′ ≡ tallied x t
+      → recipeRunEnd a o′ r′ v′ e′ ao ar av ae bo br bv be t′ ≡ recipeEnd x l m t
+  unfolding recipeRunEnd recipeEnd listEnd
+  recipe-run x a l m t t′ h y z q = rw (list-run x a h, y .offsets, y .rows, y .values, y .elements, z .offsets, z .rows, z .values, z .elements, q)
+
 pub run-ends : (L : Limits) {q : Call Column Arguments} {e : End} → Run L q e → e ≡ end L q
 unfolding end
 run-ends L (listRun h) = list-run _ _ h
 run-ends L (anyValueRun h) = value-run _ _ h
 run-ends L (elementRun h) = value-run _ _ h
 run-ends L (repeatRun h) = repeat-run _ _ h
+run-ends L (recipeRun h y z q) = recipe-run _ _ _ _ _ _ h y z q

@@ -2,8 +2,8 @@
 use Prim.Native.Nat.{ℕ}
 use mathlib.Core.Path.{_≡_}
 use mathlib.Core.List.{List, [], _∷_, map}
-use lib.ListN.{length}
-use lib.IntN.{ℤ}
+use lib.ListN.{length, replicate}
+use lib.IntN.{ℤ, pos}
 use denote.Ref.{RefT, now}
 use denote.Triple.Both.{Both}
 use Rattle.model.specs.Bitmap.{from, pack}
@@ -102,3 +102,14 @@ abbrev pub RepeatAnswers : (RepeatRoom → Outcome (List Outer)) → RepeatAnswe
 RepeatAnswers f a o r io ir v e =
     RepeatMeets (f (repeatRoom (length (now (o .entry))) (length (now (r .entry))) (length (now (io .entry))) (length (now (ir .entry))) (length (now (v .entry))) (length (now (e .entry))))) a
     (now (o .entry)) (now (o .exit)) (now (r .entry)) (now (r .exit)) (now (io .entry)) (now (io .exit)) (now (ir .entry)) (now (ir .exit)) (now (v .entry)) (now (v .exit)) (now (e .entry)) (now (e .exit))
+
+-- "Trays are all zero after any call.": the four slices of a tray of these lengths, as the call returns
+pub record Zeroed (l : Room) (o : List ℤ) (r : List ℕ) (v : List ℤ) (e : List ℕ) : Type 0 where
+  pub offsets : o ≡ replicate (l .offsets) (pos 0)
+  pub rows : r ≡ replicate (l .rows) 0
+  pub values : v ≡ replicate (l .values) (pos 0)
+  pub elements : e ≡ replicate (l .elements) 0
+
+abbrev pub Clears : Slot ℤ → Slot ℕ → Slot ℤ → Slot ℕ → Type 0
+Clears o r v e =
+    Zeroed (room (length (now (o .entry))) (length (now (r .entry))) (length (now (v .entry))) (length (now (e .entry)))) (now (o .exit)) (now (r .exit)) (now (v .exit)) (now (e .exit))

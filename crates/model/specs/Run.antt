@@ -4,14 +4,17 @@ use Prim.Native.Nat.{ℕ, _+_}
 use mathlib.Core.List.{List, [], _∷_}
 use lib.ListN.{take}
 use lib.IntN.{ℤ}
+use mathlib.Core.Path.{_≡_}
+use Rattle.model.specs.Basics.{given}
 use Rattle.model.specs.Bitmap.{bytesFor}
 use Rattle.model.specs.Limits.{Limits}
 use Rattle.model.specs.Column.{Column, Arguments}
 use Rattle.model.specs.Form.{Room, ValueRoom, RepeatRoom}
 use Rattle.model.specs.Rows.{ListCall}
 use Rattle.model.specs.Outcome.{listOutcome, anyValueOutcome, elementOutcome, repeatOutcome}
-use Rattle.model.specs.Call.{Call, list, anyValue, element, listRepeat, End, refusal, counts, operationEnd}
-use Rattle.model.specs.Contract.{ListMeets, ValueMeets, RepeatMeets}
+use Rattle.model.specs.Call.{Call, list, anyValue, element, listRepeat, recipe, End, refusal, counts, operationEnd}
+use Rattle.model.specs.Contract.{ListMeets, ValueMeets, RepeatMeets, Zeroed}
+use Rattle.model.specs.Recipe.{Recipe, Tally, recipeOutcome, tallied}
 use Rattle.model.specs.declared.ListAnswer.{ListAnswer}
 use Rattle.model.specs.declared.ListAnswer.the-variants as L
 use Rattle.model.specs.declared.RepeatAnswer.{RepeatAnswer}
@@ -35,7 +38,20 @@ repeatRunEnd (R.Refused k) o r io ir v e = operationEnd (refusal k) ([] ∷ [] �
 repeatRunEnd (R.Counts n m p q i j) o r io ir v e =
     operationEnd (counts (n ∷ m ∷ p ∷ q ∷ i ∷ j ∷ [])) (take (n + 1) o ∷ take (i + 1) io ∷ take m v ∷ []) (take (bytesFor n) r ∷ take (bytesFor i) ir ∷ take (bytesFor m) e ∷ [])
 
--- a run of a call that ended so: the contract of its function holds of it (recipes add their own with their contract)
+-- a recipe's: the list answer and output, then the trays, all their slots, and the tally that came back
+unfoldable pub recipeRunEnd : ListAnswer → List ℤ → List ℕ → List ℤ → List ℕ → List ℤ → List ℕ → List ℤ → List ℕ → List ℤ → List ℕ → List ℤ → List ℕ → Tally → End
+recipeRunEnd a o r v e ao ar av ae bo br bv be t =
+    let l = listRunEnd a o r v e in
+    record {
+      answer = l .answer;
+      numbers = l .numbers;
+      bitmaps = l .bitmaps;
+      tray-numbers = ao ∷ av ∷ bo ∷ bv ∷ [];
+      tray-bitmaps = ar ∷ ae ∷ br ∷ be ∷ [];
+      tally = given t;
+    }
+
+-- a run of a call that ended so: the contract of its function holds of it
 pub data Run (L : Limits) : Call Column Arguments → End → Type 0 where
   listRun : {q : ListCall Column Arguments} {l : Room} {a : ListAnswer} {o o′ : List ℤ} {r r′ : List ℕ} {v v′ : List ℤ} {e e′ : List ℕ}
       → ListMeets (listOutcome L q l) a o o′ r r′ v v′ e e′ → Run L (list q l) (listRunEnd a o′ r′ v′ e′)
@@ -45,3 +61,6 @@ pub data Run (L : Limits) : Call Column Arguments → End → Type 0 where
       → ValueMeets (elementOutcome L c x l) a v v′ r r′ → Run L (element c x l) (valueRunEnd a v′ r′)
   repeatRun : {c : Column} {x : Arguments} {l : RepeatRoom} {a : RepeatAnswer} {o o′ : List ℤ} {r r′ : List ℕ} {io io′ : List ℤ} {ir ir′ : List ℕ} {v v′ : List ℤ} {e e′ : List ℕ}
       → RepeatMeets (repeatOutcome L c x l) a o o′ r r′ io io′ ir ir′ v v′ e e′ → Run L (listRepeat c x l) (repeatRunEnd a o′ r′ io′ ir′ v′ e′)
+  recipeRun : {p : Recipe} {c d : Column} {x : Arguments} {l m n : Room} {t t′ : Tally} {a : ListAnswer} {o o′ : List ℤ} {r r′ : List ℕ} {v v′ : List ℤ} {e e′ : List ℕ} {ao : List ℤ} {ar : List ℕ} {av : List ℤ} {ae : List ℕ} {bo : List ℤ} {br : List ℕ} {bv : List ℤ} {be : List ℕ}
+      → ListMeets (recipeOutcome L p c d x l m n) a o o′ r r′ v v′ e e′ → Zeroed l ao ar av ae → Zeroed m bo br bv be → t′ ≡ tallied (recipeOutcome L p c d x l m n) t
+      → Run L (recipe p c d x l m n t) (recipeRunEnd a o′ r′ v′ e′ ao ar av ae bo br bv be t′)

@@ -1,11 +1,15 @@
 -- Laws of what makes a recipe malformed.
-use Prim.Native.Nat.{ℕ, zero, suc, _+_, _-_, _*_, _<_, _≤_}
+use Prim.Native.Nat.{ℕ, zero, suc, _+_, _-_, _*_, _/_, _%_, _<_, _≤_}
 use mathlib.Core.Path.{_≡_, refl, sym, ap, _∙_}
-use mathlib.Core.Bool.{Bool, true, false, _||_}
+use mathlib.Core.Bool.{Bool, true, false, not, _||_}
 use mathlib.Core.List.{List, [], _∷_}
 use native.Mathlib.Omega.{arith}
 use Rattle.model.specs.Basics.{tab, any}
-use Rattle.model.specs.Recipe.{columnsOf}
+use borrow.Author.Tests.{ltb-false}
+use lib.Dec.{ltb, eqb}
+use lib.ListN.{length}
+use Rattle.model.specs.Recipe.{columnsOf, malformed, stepsOf, wrongStep}
+use Rattle.recipes.specs.Recipes.{recipe}
 use Rattle.model.proofs.TabLaws.{tab-step, tab-none}
 
 pub few-columns : (c : ℕ) → c < 4 → 0 ≡ columnsOf c
@@ -37,3 +41,14 @@ module _ {A : Type 0} (p : A → Bool) (f : ℕ → A) (k n : ℕ) where
   pub any-none : n ≤ 0 → any p (tab f k n) ≡ false
   unfolding any
   any-none h = rw (tab-none f k n h)
+
+-- a recipe that is not malformed has no more than eight columns
+third-none : (a b c d : Bool) → ((a || b) || c) || d ≡ false → c ≡ false
+third-none true b c d h = let z : _≡_ {A = ℕ} 0 1 = cc in absurd (omega arith)
+third-none false true c d h = let z : _≡_ {A = ℕ} 0 1 = cc in absurd (omega arith)
+third-none false false true d h = let z : _≡_ {A = ℕ} 0 1 = cc in absurd (omega arith)
+third-none false false false d h = refl
+
+pub few-lent : (ns : List ℕ) (k : ℕ) → malformed (recipe ns k) ≡ false → k ≤ 8
+unfolding malformed
+few-lent ns k h = ltb-false 8 k (third-none (not (eqb (length ns % 4) 0)) (ltb 32 (length ns / 4)) (ltb 8 k) (any (wrongStep k) (stepsOf ns)) h)

@@ -1,1 +1,4 @@
 pub mod CheckLaws
+pub mod CallLaws
+pub mod FitLaws
+pub mod TallyLaws

@@ -1,4 +1,84 @@
-// Parts of recipes, chains of list operations through two lent trays: what makes a recipe malformed, and the tally. A recipe, a tray
-// and a tally are document 01's own terms. An inner crate, which no public function calls yet.
-pub mod check;
+// Recipes: chains of list operations through two lent trays, with a tally. A recipe, a tray and a tally are document 01's own terms.
+mod call;
+mod check;
 pub mod tally;
+
+use tally::RecipeAnswer;
+use tally::Tally;
+ghost use Rattle.model.specs.Contract.{Clears, ListAnswers, lent, lentArguments, room};
+ghost use Rattle.model.specs.Limits.{narrow};
+ghost use Rattle.model.specs.Recipe.{recipeOutcome, tallied};
+ghost use Rattle.recipes.specs.Recipes.{recipe};
+ghost use Rattle.recipes.specs.Tallies.{tallyOf};
+ghost use lib.ListN.{length};
+ghost use mathlib.Core.Path.{_≡_};
+
+// Runs a recipe: its numbers, four a step, on the first list; the second list serves union and intersect; the argument columns, as
+// many as `columns` says, lie one after another in one slice with one bitmap. The trays are zero afterwards, whatever comes.
+pub fn run_recipe<'a>(
+    tally: Tally,
+    numbers: &[u32],
+    columns: usize,
+    offsets: &[i32],
+    rows: &[u8],
+    values: &'a [i64],
+    elements: &[u8],
+    second_offsets: &[i32],
+    second_rows: &[u8],
+    second_values: &'a [i64],
+    second_elements: &[u8],
+    arguments: &[i64],
+    argument_bits: &[u8],
+    one_offsets: &mut [i32],
+    one_rows: &mut [u8],
+    one_values: &mut [i64],
+    one_elements: &mut [u8],
+    two_offsets: &mut [i32],
+    two_rows: &mut [u8],
+    two_values: &mut [i64],
+    two_elements: &mut [u8],
+    out_offsets: &mut [i32],
+    out_rows: &mut [u8],
+    out_values: &mut [i64],
+    out_elements: &mut [u8],
+) -> RecipeAnswer
+    ensures { λ a. ⌜ ListAnswers (recipeOutcome narrow (recipe (now (numbers .entry)) columns) (lent offsets rows values elements) (lent «second_offsets» «second_rows» «second_values» «second_elements») (lentArguments arguments «argument_bits») (room (length (now («one_offsets» .entry))) (length (now («one_rows» .entry))) (length (now («one_values» .entry))) (length (now («one_elements» .entry)))) (room (length (now («two_offsets» .entry))) (length (now («two_rows» .entry))) (length (now («two_values» .entry))) (length (now («two_elements» .entry))))) (a .answer) «out_offsets» «out_rows» «out_values» «out_elements» ⌝ }
+    ensures { λ _. ⌜ Clears «one_offsets» «one_rows» «one_values» «one_elements» ⌝ }
+    ensures { λ _. ⌜ Clears «two_offsets» «two_rows» «two_values» «two_elements» ⌝ }
+    ensures { λ a. ⌜ tallyOf (a .tally) ≡ tallied (recipeOutcome narrow (recipe (now (numbers .entry)) columns) (lent offsets rows values elements) (lent «second_offsets» «second_rows» «second_values» «second_elements») (lentArguments arguments «argument_bits») (room (length (now («one_offsets» .entry))) (length (now («one_rows» .entry))) (length (now («one_values» .entry))) (length (now («one_elements» .entry)))) (room (length (now («two_offsets» .entry))) (length (now («two_rows» .entry))) (length (now («two_values» .entry))) (length (now («two_elements» .entry)))) (room (length (now («out_offsets» .entry))) (length (now («out_rows» .entry))) (length (now («out_values» .entry))) (length (now («out_elements» .entry))))) (tallyOf tally) ⌝ }
+{
+    let answer = call::attempt(
+        numbers,
+        columns,
+        offsets,
+        rows,
+        0,
+        values,
+        elements,
+        0,
+        second_offsets,
+        second_rows,
+        0,
+        second_values,
+        second_elements,
+        0,
+        arguments,
+        argument_bits,
+        0,
+        one_offsets,
+        one_rows,
+        one_values,
+        one_elements,
+        two_offsets,
+        two_rows,
+        two_values,
+        two_elements,
+        out_offsets,
+        out_rows,
+        out_values,
+        out_elements,
+    );
+    copies::clear(one_offsets, one_rows, one_values, one_elements);
+    copies::clear(two_offsets, two_rows, two_values, two_elements);
+    tally::settle(tally, answer)
+}

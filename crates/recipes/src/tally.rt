@@ -1,5 +1,8 @@
 // The tally of recipes finished and recipes refused, which goes in with a call and comes back with its answer.
+use model::ListAnswer;
+ghost use Rattle.model.specs.Contract.{told};
 ghost use Rattle.model.specs.Recipe.{oneMore};
+ghost use Rattle.recipes.specs.Tallies.{talliedBy, tallyOf};
 ghost use mathlib.Core.Path.{_≡_};
 
 // Two counts, each stopping at its largest value.
@@ -37,5 +40,33 @@ impl Tally {
             finished: self.finished,
             refused: one_more(self.refused),
         }
+    }
+}
+
+// A recipe's answer, with the tally after it.
+pub struct RecipeAnswer {
+    pub answer: ListAnswer,
+    pub tally: Tally,
+}
+
+// The answer with the tally that it leaves.
+pub(crate) fn settle(tally: Tally, answer: ListAnswer) -> RecipeAnswer
+    ensures { λ r. ⌜ r .answer ≡ answer ⌝ }
+    ensures { λ r. ⌜ tallyOf (r .tally) ≡ talliedBy (told answer) (tallyOf tally) ⌝ }
+{
+    match answer {
+        ListAnswer::Refused(_) => RecipeAnswer {
+            answer,
+            tally: tally.with_refused(),
+        },
+        ListAnswer::Counts {
+            rows: _,
+            elements: _,
+            null_rows: _,
+            null_elements: _,
+        } => RecipeAnswer {
+            answer,
+            tally: tally.with_finished(),
+        },
     }
 }

@@ -25,7 +25,7 @@ ghost use mathlib.Core.List.{[], _∷_};
 ghost use mathlib.Core.Path.{_≡_};
 
 // 1 of either list, else 2 of either, else 0.
-fn lists_refusal(
+pub fn lists_refusal(
     loffsets: &[i32],
     lrows: &[u8],
     lrstart: usize,

@@ -152,7 +152,7 @@ fn one_list(
 }
 
 // One step on the carried list of n rows: what its operation does after 3.
-fn step<'a>(
+pub fn step<'a>(
     code: u32,
     first: u32,
     second: u32,

@@ -1,0 +1,329 @@
+// The call of a recipe, but for its trays and its tally.
+use crate::check;
+use column::offsets;
+use model::ListAnswer;
+ghost use Prim.Native.Nat.{_*_, _<_, _≤_};
+ghost use Rattle.column.specs.Put.{Readable};
+ghost use Rattle.model.specs.Bitmap.{from};
+ghost use Rattle.model.specs.Column.{arguments, column, rowCount, rowsOf, shownBy};
+ghost use Rattle.model.specs.Contract.{ListMeets, room};
+ghost use Rattle.model.specs.Limits.{narrow};
+ghost use Rattle.model.specs.Recipe.{recipeOutcome, stepped, stepsOf};
+ghost use Rattle.recipes.specs.Recipes.{AllFit, recipe, recipeRefusal};
+ghost use Rattle.steps.specs.Steps.{Beside};
+ghost use lib.Dec.{eqb};
+ghost use lib.ListN.{length};
+ghost use mathlib.Core.Bool.{not};
+ghost use mathlib.Core.Path.{_≡_};
+
+// Whether the arguments are not one value for each row in each column.
+fn is_wrong_length(offsets: &[i32], args: &[i64], columns: usize) -> bool
+    requires { ⌜ columns ≤ 8 ⌝ }
+    ensures { λ b. ⌜ b ≡ not (eqb (length (now (args .entry))) (columns * rowCount (now (offsets .entry)))) ⌝ }
+{
+    let n = offsets::row_count(offsets);
+    args.len() != columns * n
+}
+
+// 10 of the recipe, else 1, 2 or 3 of the columns, else 0.
+fn refusal<'a>(
+    numbers: &[u32],
+    columns: usize,
+    offsets: &[i32],
+    rows: &[u8],
+    rstart: usize,
+    values: &'a [i64],
+    elements: &[u8],
+    estart: usize,
+    roffsets: &[i32],
+    rrows: &[u8],
+    rrstart: usize,
+    rvalues: &'a [i64],
+    relements: &[u8],
+    restart: usize,
+    args: &[i64],
+    bits: &[u8],
+    start: usize,
+) -> u8
+    requires { ⌜ rstart < 8 ⌝ }
+    requires { ⌜ estart < 8 ⌝ }
+    requires { ⌜ rrstart < 8 ⌝ }
+    requires { ⌜ restart < 8 ⌝ }
+    requires { ⌜ start < 8 ⌝ }
+    ensures { λ k. ⌜ k ≡ recipeRefusal (recipe (now (numbers .entry)) columns) (column (now (offsets .entry)) (from rstart (now (rows .entry))) (now (values .entry)) (from estart (now (elements .entry)))) (column (now (roffsets .entry)) (from rrstart (now (rrows .entry))) (now (rvalues .entry)) (from restart (now (relements .entry)))) (arguments (now (args .entry)) (from start (now (bits .entry)))) ⌝ }
+{
+    if check::is_malformed(numbers, columns) {
+        return 10;
+    }
+    let k = sets::lists_refusal(
+        offsets,
+        rows,
+        rstart,
+        values,
+        elements,
+        estart,
+        roffsets,
+        rrows,
+        rrstart,
+        rvalues,
+        relements,
+        restart,
+    );
+    if k != 0 {
+        return k;
+    }
+    if bitmap::is_short(bits, start, args.len()) {
+        return 2;
+    }
+    if offsets::row_count(offsets) != offsets::row_count(roffsets) {
+        return 3;
+    }
+    if is_wrong_length(offsets, args, columns) {
+        return 3;
+    }
+    0
+}
+
+// The steps of a recipe that nothing refuses before them: none copies the list, one writes the output, more go through the trays.
+fn first<'a>(
+    numbers: &[u32],
+    n: usize,
+    offsets: &[i32],
+    rows: &[u8],
+    rstart: usize,
+    values: &'a [i64],
+    elements: &[u8],
+    estart: usize,
+    roffsets: &[i32],
+    rrows: &[u8],
+    rrstart: usize,
+    rvalues: &'a [i64],
+    relements: &[u8],
+    restart: usize,
+    args: &[i64],
+    bits: &[u8],
+    start: usize,
+    one_offsets: &mut [i32],
+    one_rows: &mut [u8],
+    one_values: &mut [i64],
+    one_elements: &mut [u8],
+    two_offsets: &mut [i32],
+    two_rows: &mut [u8],
+    two_values: &mut [i64],
+    two_elements: &mut [u8],
+    out_offsets: &mut [i32],
+    out_rows: &mut [u8],
+    out_values: &mut [i64],
+    out_elements: &mut [u8],
+) -> ListAnswer
+    requires column { ⌜ Readable (column (now offsets) (from rstart (now rows)) (now values) (from estart (now elements))) ⌝ }
+    requires rows { ⌜ rowCount (now offsets) ≡ n ⌝ }
+    requires beside { ⌜ Beside n (column (now roffsets) (from rrstart (now rrows)) (now rvalues) (from restart (now relements))) (arguments (now args) (from start (now bits))) ⌝ }
+    requires fit { ⌜ AllFit (now numbers) n (length (now args)) ⌝ }
+    ensures { λ a. ⌜ ListMeets (stepped narrow (stepsOf (now (numbers .entry))) (rowsOf (column (now (offsets .entry)) (from rstart (now (rows .entry))) (now (values .entry)) (from estart (now (elements .entry))))) (rowsOf (column (now (roffsets .entry)) (from rrstart (now (rrows .entry))) (now (rvalues .entry)) (from restart (now (relements .entry))))) (shownBy (arguments (now (args .entry)) (from start (now (bits .entry))))) (room (length (now («one_offsets» .entry))) (length (now («one_rows» .entry))) (length (now («one_values» .entry))) (length (now («one_elements» .entry)))) (room (length (now («two_offsets» .entry))) (length (now («two_rows» .entry))) (length (now («two_values» .entry))) (length (now («two_elements» .entry)))) (room (length (now («out_offsets» .entry))) (length (now («out_rows» .entry))) (length (now («out_values» .entry))) (length (now («out_elements» .entry))))) a (now («out_offsets» .entry)) (now («out_offsets» .exit)) (now («out_rows» .entry)) (now («out_rows» .exit)) (now («out_values» .entry)) (now («out_values» .exit)) (now («out_elements» .entry)) (now («out_elements» .exit)) ⌝ }
+{
+    let count = numbers.len() / 4;
+    if count == 0 {
+        return copies::copy(
+            offsets,
+            rows,
+            rstart,
+            values,
+            elements,
+            estart,
+            out_offsets,
+            out_rows,
+            out_values,
+            out_elements,
+        );
+    }
+    let code = numbers[0];
+    let first = numbers[1];
+    let second = numbers[2];
+    let third = numbers[3];
+    if count == 1 {
+        return steps::step(
+            code,
+            first,
+            second,
+            third,
+            n,
+            offsets,
+            rows,
+            rstart,
+            values,
+            elements,
+            estart,
+            roffsets,
+            rrows,
+            rrstart,
+            rvalues,
+            relements,
+            restart,
+            args,
+            bits,
+            start,
+            out_offsets,
+            out_rows,
+            out_values,
+            out_elements,
+        );
+    }
+    let answer = steps::step(
+        code,
+        first,
+        second,
+        third,
+        n,
+        offsets,
+        rows,
+        rstart,
+        values,
+        elements,
+        estart,
+        roffsets,
+        rrows,
+        rrstart,
+        rvalues,
+        relements,
+        restart,
+        args,
+        bits,
+        start,
+        one_offsets,
+        one_rows,
+        one_values,
+        one_elements,
+    );
+    match answer {
+        ListAnswer::Refused(number) => ListAnswer::Refused(number),
+        ListAnswer::Counts {
+            rows: _,
+            elements: m,
+            null_rows: _,
+            null_elements: _,
+        } => steps::steps(
+            numbers,
+            1,
+            count - 1,
+            n,
+            m,
+            roffsets,
+            rrows,
+            rrstart,
+            rvalues,
+            relements,
+            restart,
+            args,
+            bits,
+            start,
+            one_offsets,
+            one_rows,
+            one_values,
+            one_elements,
+            two_offsets,
+            two_rows,
+            two_values,
+            two_elements,
+            out_offsets,
+            out_rows,
+            out_values,
+            out_elements,
+        ),
+    }
+}
+
+// Checks the recipe and the columns, and takes the steps.
+pub(crate) fn attempt<'a>(
+    numbers: &[u32],
+    columns: usize,
+    offsets: &[i32],
+    rows: &[u8],
+    rstart: usize,
+    values: &'a [i64],
+    elements: &[u8],
+    estart: usize,
+    roffsets: &[i32],
+    rrows: &[u8],
+    rrstart: usize,
+    rvalues: &'a [i64],
+    relements: &[u8],
+    restart: usize,
+    args: &[i64],
+    bits: &[u8],
+    start: usize,
+    one_offsets: &mut [i32],
+    one_rows: &mut [u8],
+    one_values: &mut [i64],
+    one_elements: &mut [u8],
+    two_offsets: &mut [i32],
+    two_rows: &mut [u8],
+    two_values: &mut [i64],
+    two_elements: &mut [u8],
+    out_offsets: &mut [i32],
+    out_rows: &mut [u8],
+    out_values: &mut [i64],
+    out_elements: &mut [u8],
+) -> ListAnswer
+    requires { ⌜ rstart < 8 ⌝ }
+    requires { ⌜ estart < 8 ⌝ }
+    requires { ⌜ rrstart < 8 ⌝ }
+    requires { ⌜ restart < 8 ⌝ }
+    requires { ⌜ start < 8 ⌝ }
+    ensures { λ a. ⌜ ListMeets (recipeOutcome narrow (recipe (now (numbers .entry)) columns) (column (now (offsets .entry)) (from rstart (now (rows .entry))) (now (values .entry)) (from estart (now (elements .entry)))) (column (now (roffsets .entry)) (from rrstart (now (rrows .entry))) (now (rvalues .entry)) (from restart (now (relements .entry)))) (arguments (now (args .entry)) (from start (now (bits .entry)))) (room (length (now («one_offsets» .entry))) (length (now («one_rows» .entry))) (length (now («one_values» .entry))) (length (now («one_elements» .entry)))) (room (length (now («two_offsets» .entry))) (length (now («two_rows» .entry))) (length (now («two_values» .entry))) (length (now («two_elements» .entry)))) (room (length (now («out_offsets» .entry))) (length (now («out_rows» .entry))) (length (now («out_values» .entry))) (length (now («out_elements» .entry))))) a (now («out_offsets» .entry)) (now («out_offsets» .exit)) (now («out_rows» .entry)) (now («out_rows» .exit)) (now («out_values» .entry)) (now («out_values» .exit)) (now («out_elements» .entry)) (now («out_elements» .exit)) ⌝ }
+{
+    let k = refusal(
+        numbers,
+        columns,
+        offsets,
+        rows,
+        rstart,
+        values,
+        elements,
+        estart,
+        roffsets,
+        rrows,
+        rrstart,
+        rvalues,
+        relements,
+        restart,
+        args,
+        bits,
+        start,
+    );
+    if k != 0 {
+        return ListAnswer::Refused(k);
+    }
+    let n = offsets::row_count(offsets);
+    first(
+        numbers,
+        n,
+        offsets,
+        rows,
+        rstart,
+        values,
+        elements,
+        estart,
+        roffsets,
+        rrows,
+        rrstart,
+        rvalues,
+        relements,
+        restart,
+        args,
+        bits,
+        start,
+        one_offsets,
+        one_rows,
+        one_values,
+        one_elements,
+        two_offsets,
+        two_rows,
+        two_values,
+        two_elements,
+        out_offsets,
+        out_rows,
+        out_values,
+        out_elements,
+    )
+}

@@ -290,7 +290,7 @@ fn step_from<'a>(
 }
 
 // The steps from step k on, left of them, from the front of a tray that holds n rows of m elements: the trays take turns, and the
-// last step writes the output.
+// last step writes the output. What the trays hold then is left to it: its caller clears them.
 pub fn steps(
     recipe: &[u32],
     k: usize,

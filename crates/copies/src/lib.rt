@@ -183,12 +183,12 @@ fn clear_i32(slots: &mut [i32])
 }
 
 // Sets every byte of a bitmap to 0.
-fn clear_u8(slots: &mut [u8])
-    ensures { λ _. ⌜ now (slots .exit) ≡ replicate (length (now (slots .entry))) 0 ⌝ }
+fn clear_u8(bytes: &mut [u8])
+    ensures { λ _. ⌜ now (bytes .exit) ≡ replicate (length (now (bytes .entry))) 0 ⌝ }
 {
     let mut k: usize = 0;
-    while k < slots.len() {
-        slots[k] = 0;
+    while k < bytes.len() {
+        bytes[k] = 0;
         k += 1;
     }
 }

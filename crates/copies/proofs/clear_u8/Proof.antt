@@ -7,16 +7,16 @@ use Rattle.copies.proofs.clear_u8.Statement.{statement}
 use Rattle.copies.proofs.clear_u8.Tie as tie
 
 abbrev Inv-loop : tie.InvT-loop
-Inv-loop slots₀ k₀ slots k = Clearing 0 slots₀ slots k
+Inv-loop bytes₀ k₀ bytes k = Clearing 0 bytes₀ bytes k
 
 abbrev μ-loop : tie.MeasureT-loop
-μ-loop slots₀ k₀ slots k = length slots₀ - k
+μ-loop bytes₀ k₀ bytes k = length bytes₀ - k
 
 loop-holds : tie.Need-loop-holds Inv-loop μ-loop
 loop-holds c = clear-begun _ _
 
-slice-write-slots : tie.Need-slice-write-slots Inv-loop μ-loop
-slice-write-slots c = search needs
+slice-write-bytes : tie.Need-slice-write-bytes Inv-loop μ-loop
+slice-write-bytes c = search needs
 
 add-k : tie.Need-add-k Inv-loop μ-loop
 add-k c = omega (arith, c)
@@ -40,7 +40,7 @@ clear-u8-spec =
     Inv-loop
     μ-loop
     loop-holds
-    slice-write-slots
+    slice-write-bytes
     add-k
     loop-less
     loop-again

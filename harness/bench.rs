@@ -1,17 +1,25 @@
 //! Time of the port and of the plain Rust on the same calls, from the same driver, in the same
-//! buffers. The buffers are not cleared between calls.
+//! buffers. The plain Rust is timed twice: as it reads and writes numbers in place, and as it
+//! decodes them inside, which the entries of the port must. The buffers are not cleared between
+//! calls.
 
+use crate::decoded;
 use crate::entry::{Case, Entry, MOST_ROWS, MOST_VALUES};
 use crate::generate::{input_of, lend, shuffle, Layout, Room};
 use crate::library::Library;
-use crate::model::{Element, Role, Row, Shown};
+use crate::model::{Element, Operation, RecipeShown, Role, Row, Shown};
 use crate::plain;
+use crate::recipe_generate::{lend_recipe, recipe_input};
 use crate::rng::Rng;
 use std::hint::black_box;
 use std::time::{Duration, Instant};
 
-const ROUNDS: usize = 9;
-const ROUND_TIME: Duration = Duration::from_millis(4);
+/// A line has as many alternating rounds as fit its time, between these; short rounds, for what
+/// else runs on the machine stops long ones.
+const LEAST_ROUNDS: usize = 21;
+const MOST_ROUNDS: usize = 60;
+const LINE_TIME: Duration = Duration::from_millis(400);
+const ROUND_TIME: Duration = Duration::from_micros(700);
 const MOST_REPEATS: u128 = 20_000;
 
 /// What stands in the bitmaps.
@@ -87,28 +95,80 @@ fn argument_of(role: Role, length: usize, row: &Row, rng: &mut Rng) -> i64 {
     }
 }
 
-fn load(entry: Entry, length: usize, nulls: Nulls) -> Case {
-    let mut rng = Rng::new(1, "bench");
-    let rows = rows_of(entry, length, nulls, &mut rng);
+/// The argument columns of these roles, in turn null at other rows.
+fn columns_of(
+    roles: &[Role],
+    rows: &[Row],
+    length: usize,
+    nulls: Nulls,
+    rng: &mut Rng,
+) -> Vec<Vec<Element>> {
     let column = |(place, role): (usize, &Role)| -> Vec<Element> {
         let value = |(at, row): (usize, &Row)| {
-            (!nulls.is_null(at, 5 + place)).then(|| argument_of(*role, length, row, &mut rng))
+            (!nulls.is_null(at, (5 + place) % 8)).then(|| argument_of(*role, length, row, rng))
         };
         rows.iter().enumerate().map(value).collect()
     };
-    let arguments = entry.roles().iter().enumerate().map(column).collect();
-    let mut lists = vec![rows];
-    if entry.lists() == 2 {
-        lists.push(right_of(&lists[0], nulls, &mut rng));
-    }
-    let layout = Layout {
+    roles.iter().enumerate().map(column).collect()
+}
+
+fn layout_of(nulls: Nulls) -> Layout {
+    Layout {
         absent_bitmaps: nulls == Nulls::NoBitmaps,
         under_null_rows: usize::from(nulls == Nulls::OneInEight),
         numbers_under_nulls: true,
         ..Layout::default()
-    };
-    let input = input_of(entry, &Shown { lists, arguments }, &[layout], &mut rng);
+    }
+}
+
+fn load(entry: Entry, length: usize, nulls: Nulls) -> Case {
+    if entry.is_recipe() {
+        return load_recipe(length, nulls);
+    }
+
+    let mut rng = Rng::new(1, "bench");
+    let rows = rows_of(entry, length, nulls, &mut rng);
+    let arguments = columns_of(entry.roles(), &rows, length, nulls, &mut rng);
+    let mut lists = vec![rows];
+    if entry.lists() == 2 {
+        lists.push(right_of(&lists[0], nulls, &mut rng));
+    }
+    let input = input_of(entry, &Shown { lists, arguments }, &[layout_of(nulls)], &mut rng);
     lend(&input, Room::Exact, &mut rng)
+}
+
+/// The columns of the recipe below.
+const RECIPE_ROLES: [Role; 8] = [
+    Role::From,
+    Role::To,
+    Role::Stride,
+    Role::Old,
+    Role::New,
+    Role::Limit,
+    Role::Count,
+    Role::Fill,
+];
+
+/// Reverse, pop front, slice, replace, remove, resize, pop back, reverse: eight steps, each linear.
+const RECIPE: [[u32; 4]; 8] = [
+    [0, 0, 0, 0],
+    [2, 0, 0, 0],
+    [4, 0, 1, 2],
+    [7, 3, 4, 5],
+    [8, 3, 5, 0],
+    [6, 6, 7, 0],
+    [3, 0, 0, 0],
+    [0, 0, 0, 0],
+];
+
+fn load_recipe(length: usize, nulls: Nulls) -> Case {
+    let mut rng = Rng::new(1, "bench");
+    let rows = rows_of(Entry::of(Operation::Resize), length, nulls, &mut rng);
+    let second = right_of(&rows, nulls, &mut rng);
+    let columns = columns_of(&RECIPE_ROLES, &rows, length, nulls, &mut rng);
+    let shown = RecipeShown { steps: RECIPE.to_vec(), lists: [rows, second], columns };
+    let input = recipe_input(&shown, &[layout_of(nulls)], &mut rng);
+    lend_recipe(&input, Room::Exact, &mut rng)
 }
 
 /// Nanoseconds a call, over this many calls.
@@ -123,61 +183,85 @@ fn time(library: &Library, case: &mut Case, repeats: u128) -> f64 {
     start.elapsed().as_nanos() as f64 / repeats as f64
 }
 
-fn repeats_for(libraries: [&Library; 2], case: &mut Case) -> u128 {
-    let one = libraries.map(|library| time(library, case, 2)).into_iter().fold(1.0, f64::max);
+fn repeats_for(libraries: &[&Library], case: &mut Case) -> u128 {
+    let times = libraries.iter().map(|library| time(library, case, 2));
+    let one = times.fold(1.0, f64::max);
     (ROUND_TIME.as_nanos() / one as u128).clamp(1, MOST_REPEATS)
 }
 
-fn median(mut times: Vec<f64>) -> f64 {
-    times.sort_by(f64::total_cmp);
-    times[times.len() / 2]
-}
-
-/// Both libraries must give the same bytes before they are timed.
-fn check_equal(libraries: [&Library; 2], case: &Case) {
-    let results = libraries.map(|library| {
+/// All libraries must give the same bytes before they are timed.
+fn check_equal(libraries: &[&Library], case: &Case) {
+    let mut results = libraries.iter().map(|library| {
         let mut case = case.clone();
         time(library, &mut case, 1);
         (case.outputs, case.counts)
     });
-    assert!(results[0] == results[1], "both sides of the benchmark agree");
+    let first = results.next();
+    assert!(results.all(|one| Some(one) == first), "all sides of the benchmark agree");
 }
 
-fn print_line(name: &str, libraries: [&Library; 2], entry: Entry, length: usize, nulls: Nulls) {
+/// Times the port, which is the first library, and the others beside it.
+fn print_line(name: &str, libraries: &[&Library], entry: Entry, length: usize, nulls: Nulls) {
     let mut case = load(entry, length, nulls);
     check_equal(libraries, &case);
     let repeats = repeats_for(libraries, &mut case);
-    let mut times = [Vec::new(), Vec::new()];
-    for _ in 0..ROUNDS {
-        for (side, library) in libraries.iter().enumerate() {
-            times[side].push(time(library, &mut case, repeats));
+    let mut least = vec![f64::INFINITY; libraries.len()];
+    let start = Instant::now();
+    for round in 0..MOST_ROUNDS {
+        if round >= LEAST_ROUNDS && start.elapsed() > LINE_TIME {
+            break;
+        }
+        for (least, library) in least.iter_mut().zip(libraries) {
+            *least = least.min(time(library, &mut case, repeats));
         }
     }
-    let [port, plain] = times.map(median);
-    let rows = case.inputs[0].len() / 4 - 1;
-    let nulls = nulls.name();
-    let (port_us, plain_us, ratio) = (port / 1000.0, plain / 1000.0, port / plain);
-    println!(
-        "{name:<22} {length:>6} {rows:>6} {nulls:>7} {port_us:>12.2} {plain_us:>12.2} {ratio:>8.2}"
-    );
+    let offsets = usize::from(entry.is_recipe());
+    let rows = case.inputs[offsets].len() / 4 - 1;
+    print!("{name:<22} {length:>6} {rows:>6} {:>7}", nulls.name());
+    for time in &least {
+        print!(" {:>10.2}", time / 1000.0);
+    }
+    for time in &least[1..] {
+        print!(" {:>9.2}", least[0] / time);
+    }
+    println!();
+}
+
+fn print_lines(name: &str, libraries: &[&Library], entry: Entry) {
+    for length in [8, 100, 4000] {
+        for nulls in Nulls::ALL {
+            print_line(name, libraries, entry, length, nulls);
+        }
+    }
+}
+
+fn print_heading(times: &[&str], ratios: &[&str]) {
+    print!("{:<22} {:>6} {:>6} {:>7}", "operation", "length", "rows", "nulls");
+    times.iter().for_each(|name| print!(" {name:>10}"));
+    ratios.iter().for_each(|name| print!(" {name:>9}"));
+    println!();
 }
 
 pub fn print(port: &Library) {
-    println!("microseconds a call, median of {ROUNDS} alternating rounds");
-    println!("the buffers are not cleared between calls");
     println!(
-        "{:<22} {:>6} {:>6} {:>7} {:>12} {:>12} {:>8}",
-        "operation", "length", "rows", "nulls", "port", "plain", "ratio"
+        "microseconds a call, the least of {LEAST_ROUNDS} to {MOST_ROUNDS} alternating rounds"
     );
-    let by_set = Library { list: Some(plain::distinct_by_set), ..Library::EMPTY };
-    let distinct = ("distinct / hash set", Entry::List(1), &by_set);
-    let lines = Entry::all().map(|entry| (entry.name(), entry, &plain::LIBRARY));
-    for (name, entry, plain) in lines.chain([distinct]).filter(|line| port.has(line.1)) {
-        for length in [8, 100, 4000] {
-            for nulls in Nulls::ALL {
-                print_line(name, [port, plain], entry, length, nulls);
-            }
-        }
+    println!("in place: the plain Rust reads and writes numbers where they lie");
+    println!("decoded: it decodes into arrays on the stack, and encodes, as the port does");
+    println!("the buffers are not cleared between calls");
+    print_heading(&["port", "in place", "decoded"], &["/in place", "/decoded"]);
+    for entry in port.operations() {
+        print_lines(entry.name(), &[port, &plain::LIBRARY, &decoded::LIBRARY], entry);
+    }
+    let recipe = Entry::Recipe(RECIPE_ROLES.len() as u32);
+    if port.has(recipe) {
+        print_lines("recipe of 8 steps", &[port, &plain::LIBRARY, &decoded::LIBRARY], recipe);
+    }
+    let distinct = Entry::List(1);
+    if port.has(distinct) {
+        let by_set = Library { list: Some(plain::distinct_by_set), ..Library::EMPTY };
+        print_heading(&["port", "hash set"], &["/hash set"]);
+        print_lines("distinct", &[port, &by_set], distinct);
     }
     port.print_absent();
 }

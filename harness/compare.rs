@@ -2,8 +2,10 @@
 //! around each lent slice. A case that differs is printed whole.
 
 use crate::coverage::{self, Coverage};
-use crate::entry::{decode_i32, decode_i64, Case, Content, Expected, Input, SliceKind};
+use crate::entry::{decode_i32, decode_i64, decode_tally, decode_u32};
+use crate::entry::{Case, Content, Expected, Input, SliceKind, TALLY, TALLY_BYTES};
 use crate::library::Library;
+use crate::recipe_coverage;
 use std::borrow::Cow;
 use std::ops::Range;
 
@@ -66,12 +68,14 @@ impl Arena {
     }
 }
 
-/// What a library gave: the number, and if it accepted, its counts and the slots they speak of.
+/// What a library gave: the number, and if it accepted, its counts and the slots they speak of; the
+/// tally after a recipe.
 #[derive(Clone, PartialEq, Debug)]
 pub struct Observed {
     pub number: u32,
     pub counts: Vec<u64>,
     pub written: Vec<Vec<u8>>,
+    pub tally: Option<[u64; 2]>,
 }
 
 /// Makes calls, compares them and keeps the record of the group that is running.
@@ -124,9 +128,10 @@ impl<'a> Checker<'a> {
         let number = call(self.library, case, &mut inputs_after, &mut after);
 
         let mut wanted = lent;
-        for (slice, bytes) in expected.written.iter().chain([&expected.counts]).enumerate() {
+        for (slice, bytes) in expected.written.iter().enumerate() {
             wanted.write(slice, bytes);
         }
+        wanted.write(case.outputs.len(), &expected.counts);
         let mut faults = Vec::new();
         if number != expected.number {
             faults.push(format!("answered {number}, expected {}", expected.number));
@@ -181,6 +186,9 @@ impl<'a> Checker<'a> {
     fn record_coverage(&mut self, case: &Case, expected: &Expected) {
         self.covered(case, "calls", "");
         self.covered(case, "answer", expected.number.to_string());
+        if case.entry.is_recipe() {
+            return self.record_recipe(case, expected);
+        }
         if !matches!(expected.number, 0 | 3..=9) {
             return;
         }
@@ -195,6 +203,12 @@ impl<'a> Checker<'a> {
         }
         if expected.number == 0 {
             self.record_accepted(case, &input, expected);
+        }
+    }
+
+    fn record_recipe(&mut self, case: &Case, expected: &Expected) {
+        for (kind, subject) in recipe_coverage::met(case, expected) {
+            self.covered(case, kind, subject);
         }
     }
 
@@ -222,21 +236,24 @@ fn call(library: &Library, case: &Case, inputs: &mut Arena, outputs: &mut Arena)
 }
 
 fn observed(case: &Case, number: u32, after: &Arena) -> Observed {
-    if number != 0 {
-        return Observed { number, counts: Vec::new(), written: Vec::new() };
-    }
     let slices = after.slices();
     let (counts, outputs) = slices.split_last().expect("counts are always lent");
+    let tally = outputs.get(TALLY).filter(|bytes| bytes.len() >= TALLY_BYTES);
+    let tally = tally.map(|bytes| decode_tally(bytes));
+    if number != 0 {
+        return Observed { number, counts: Vec::new(), written: Vec::new(), tally };
+    }
     let needed = case.entry.count_bytes().min(counts.len());
     let mut counts: Vec<u64> =
         decode_i64(&counts[..needed]).into_iter().map(|count| count as u64).collect();
     counts.resize(case.entry.count_bytes() / 8, 0);
     let slots = case.entry.written_slots(&counts);
-    let kinds = case.entry.outputs().iter();
+    let kinds = case.entry.outputs()[case.entry.results()].iter();
+    let outputs = &outputs[case.entry.results()];
     let written = kinds.zip(outputs).zip(slots).map(|((kind, bytes), slots)| {
         bytes[..bytes.len().min(slots.saturating_mul(kind.width))].to_vec()
     });
-    Observed { number, written: written.collect(), counts }
+    Observed { number, written: written.collect(), counts, tally }
 }
 
 // Printing.
@@ -244,12 +261,9 @@ fn observed(case: &Case, number: u32, after: &Arena) -> Observed {
 /// Where the outputs are not what they should be.
 fn output_faults(case: &Case, expected: &Expected, wanted: &Arena, after: &Arena) -> Vec<String> {
     let mut faults = Vec::new();
-    let written = expected.written.iter().chain([&expected.counts]).map(Vec::len);
-    let mut written: Vec<usize> = written.collect();
-    written.resize(wanted.spans.len(), 0);
-    if expected.number != 0 {
-        written.fill(0);
-    }
+    let mut written: Vec<usize> = expected.written.iter().map(Vec::len).collect();
+    written.resize(case.outputs.len(), 0);
+    written.push(expected.counts.len());
     let pairs = wanted.slices().into_iter().zip(after.slices());
     for (slice, (wanted, after)) in pairs.enumerate() {
         let Some(byte) = wanted.iter().zip(after).position(|(one, other)| one != other) else {
@@ -275,10 +289,14 @@ const COUNTS: SliceKind =
 /// The numbers of a slice, and the bytes of a ragged end.
 fn show(kind: SliceKind, bytes: &[u8]) -> String {
     let ragged = &bytes[bytes.len() - bytes.len() % kind.width..];
-    let slots = match kind.width {
-        4 => format!("{:?}", decode_i32(bytes)),
-        8 => format!("{:?}", decode_i64(bytes)),
-        _ => format!("{bytes:02x?}"),
+    let slots = match kind.content {
+        Content::Offsets => format!("{:?}", decode_i32(bytes)),
+        Content::Numbers => format!("{:?}", decode_u32(bytes)),
+        Content::Values | Content::RowValues => format!("{:?}", decode_i64(bytes)),
+        Content::Tally if bytes.len() >= TALLY_BYTES => {
+            format!("{:?} and bytes {:02x?}", decode_tally(bytes), &bytes[TALLY_BYTES..])
+        }
+        Content::Tally | Content::Bits => format!("{bytes:02x?}"),
     };
     if ragged.is_empty() {
         slots

@@ -12,6 +12,7 @@ use crate::model::{
     self, bitmap_bytes, is_too_short, is_valid, ArgumentColumn, Element, ListColumn, Made,
     Operation, Role, Row, Shown,
 };
+use crate::recipe_coverage;
 use std::borrow::Cow;
 use std::collections::BTreeMap;
 
@@ -41,7 +42,7 @@ fn chosen<const N: usize>(subjects: [&'static str; N], holds: [bool; N]) -> Vec<
 
 // Row counts.
 
-const ROW_COUNTS: [(usize, &str); 10] = [
+pub const ROW_COUNTS: [(usize, &str); 10] = [
     (0, "0"),
     (1, "1"),
     (7, "7"),
@@ -61,7 +62,7 @@ pub fn row_count(input: &Input) -> Option<&'static str> {
 
 // Layouts.
 
-const LIST_LAYOUTS: [&str; 13] = [
+pub const LIST_LAYOUTS: [&str; 13] = [
     "first offset 0",
     "first offset above 0",
     "null row over values",
@@ -77,7 +78,7 @@ const LIST_LAYOUTS: [&str; 13] = [
     "absent element bitmap",
 ];
 
-const ARGUMENT_LAYOUTS: [&str; 7] = [
+pub const ARGUMENT_LAYOUTS: [&str; 7] = [
     "0 under a null",
     "negative number under a null",
     "number beyond 32 bits under a null",
@@ -124,7 +125,7 @@ fn untaken_layouts(input: &Input) -> impl Iterator<Item = &'static str> + use<'_
     })
 }
 
-fn list_layouts(list: &ListColumn) -> Vec<&'static str> {
+pub fn list_layouts(list: &ListColumn) -> Vec<&'static str> {
     let rows = list.offsets.len() - 1;
     let (first, last) = (list.offsets[0], list.offsets[rows]);
     let places = |row: usize| list.offsets[row] as usize..list.offsets[row + 1] as usize;
@@ -147,7 +148,7 @@ fn list_layouts(list: &ListColumn) -> Vec<&'static str> {
     chosen(LIST_LAYOUTS, holds)
 }
 
-fn argument_layouts(argument: &ArgumentColumn) -> Vec<&'static str> {
+pub fn argument_layouts(argument: &ArgumentColumn) -> Vec<&'static str> {
     let rows = argument.values.len();
     let hides = |is: &dyn Fn(i64) -> bool| {
         (0..rows).any(|row| !is_valid(&argument.bits, row) && is(argument.values[row]))
@@ -861,7 +862,7 @@ fn demanded_orders(entry: Entry) -> Vec<String> {
 }
 
 /// 1 before 2 before 3, each in every column in which it can hold.
-fn demanded_column_orders(entry: Entry) -> Vec<String> {
+pub fn demanded_column_orders(entry: Entry) -> Vec<String> {
     let mut orders = Vec::new();
     let harms = Harm::of(entry);
     for one in &harms {
@@ -929,6 +930,13 @@ impl Coverage {
                 }
             }
         }
+        if library.has(Entry::Recipe(0)) {
+            for (kind, subject) in recipe_coverage::demanded() {
+                if !self.reached("recipe", kind, &subject) {
+                    missing.push(format!("recipe: {kind} {subject}"));
+                }
+            }
+        }
         if !self.reached("unknown", "answer", "102") {
             missing.push("unknown operations: answer 102".to_string());
         }
@@ -962,8 +970,8 @@ impl Coverage {
         if self.reached("union", "calls", "") {
             println!("not reachable, and not demanded:");
             println!(
-                "  union, answer 8: its result would exceed 2147483647 elements, and the entry \
-                 takes 16384 values for it and in each list"
+                "  union, alone or in a recipe, answer 8: its result would exceed 2147483647 \
+                 elements, and the entry takes 16384 values for it and in each list"
             );
         }
     }

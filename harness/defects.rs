@@ -1,5 +1,5 @@
-//! The names of the deliberately wrong versions of the library, which mock.rs and mock_rows.rs ask
-//! for.
+//! The names of the deliberately wrong versions of the library, which mock.rs, mock_rows.rs and
+//! mock_recipe.rs ask for.
 
 use crate::entry::Entry;
 use std::sync::OnceLock;
@@ -156,6 +156,12 @@ const DEFECTS: &[(&str, &[&str])] = &[
             "tail-inner-offset-cleared",
         ],
     ),
+    (RECIPE, RECIPE_STEP_DEFECTS),
+    (RECIPE, MALFORMED_DEFECTS),
+    (RECIPE, RECIPE_COLUMN_DEFECTS),
+    (RECIPE, TRAY_DEFECTS),
+    (RECIPE, TALLY_DEFECTS),
+    (RECIPE, OPERATION_DEFECTS_IN_RECIPES),
 ];
 
 /// Prints each wrong version with the operation whose groups must report it.
@@ -163,7 +169,7 @@ pub fn print() {
     for (operation, names) in DEFECTS {
         names.iter().for_each(|name| println!("{name} {operation}"));
     }
-    for entry in Entry::all() {
+    for entry in Entry::all().chain([Entry::Recipe(0)]) {
         EVERYWHERE.iter().for_each(|name| println!("{name} {}", entry.name()));
     }
 }
@@ -171,7 +177,9 @@ pub fn print() {
 /// No operation is named.
 const ANY: &str = "";
 
-/// Those that the groups of every operation must report.
+const RECIPE: &str = "recipe";
+
+/// Those that the groups of every operation must report, and those of recipes.
 const EVERYWHERE: &[&str] = &[
     "first-offset-taken-as-0",
     "bits-highest-first",
@@ -365,6 +373,150 @@ const LIMIT_DEFECTS: &[&str] = &[
     "limit-in-32-bits",
     "limit-over-all-rows",
     "limit-counts-elements",
+];
+
+/// What is carried from step to step, and what comes out.
+const RECIPE_STEP_DEFECTS: &[&str] = &[
+    "recipe-does-step-one-and-copies",
+    "recipe-copies",
+    "recipe-does-the-last-step-only",
+    "recipe-always-from-the-first-list",
+    "recipe-steps-past-16-copy",
+    "recipe-last-of-32-copies",
+    "recipe-refused-step-skipped",
+    "recipe-row-refusals-before-any-9",
+    "recipe-9-before-row-refusals",
+    "recipe-null-row-values-counted-when-carried",
+    "recipe-nulls-valid-when-carried",
+    "recipe-null-rows-valid-when-carried",
+    "recipe-no-steps-as-they-lie",
+    "recipe-no-steps-without-9",
+    "recipe-no-steps-malformed",
+    "recipe-elements-of-the-first-list",
+    "recipe-null-rows-of-the-first-list",
+    "recipe-null-elements-not-counted",
+    "recipe-second-list-is-the-first",
+    "recipe-second-list-is-the-carried",
+    "recipe-union-sides-exchanged",
+    "recipe-intersect-sides-exchanged",
+];
+
+/// Malformed recipes.
+const MALFORMED_DEFECTS: &[&str] = &[
+    "recipe-length-rounded-down",
+    "recipe-33-steps-accepted",
+    "recipe-32-steps-refused",
+    "recipe-steps-not-counted",
+    "recipe-code-11-accepted",
+    "recipe-codes-not-tested",
+    "recipe-nine-columns-accepted",
+    "recipe-eight-columns-refused",
+    "recipe-columns-not-counted",
+    "recipe-absent-column-accepted",
+    "recipe-column-one-past-accepted",
+    "recipe-column-of-eight",
+    "recipe-unused-number-not-tested",
+    "recipe-last-unused-number-not-tested",
+    "recipe-first-unused-number-not-tested",
+    "recipe-unused-number-tested-as-column",
+    "recipe-only-first-step-tested",
+    "recipe-numbers-cut-to-a-byte",
+    "recipe-ragged-numbers-give-10",
+    "recipe-1-before-10",
+    "recipe-3-before-10",
+    "recipe-10-after-3",
+];
+
+/// A recipe's columns.
+const RECIPE_COLUMN_DEFECTS: &[&str] = &[
+    "recipe-columns-by-step-number",
+    "recipe-columns-in-order",
+    "recipe-last-two-columns-exchanged",
+    "recipe-arguments-row-by-row",
+    "recipe-argument-bits-from-0",
+    "recipe-argument-bits-from-a-byte",
+    "recipe-argument-bitmap-for-all-rows",
+    "recipe-argument-length-not-tested",
+    "recipe-longer-arguments-accepted",
+    "recipe-one-value-a-column-accepted",
+    "recipe-arguments-not-tested-where-unused",
+    "recipe-second-list-not-tested",
+    "recipe-second-list-tested-where-used",
+    "recipe-second-rows-not-counted",
+    "argument-bitmap-not-tested",
+    "2-before-1",
+    "3-before-2",
+];
+
+const TRAY_DEFECTS: &[&str] = &[
+    "recipe-trays-not-zeroed",
+    "recipe-trays-not-zeroed-after-refusal",
+    "recipe-trays-not-zeroed-after-10",
+    "recipe-trays-not-zeroed-after-own-answers",
+    "recipe-unwritten-trays-not-zeroed",
+    "recipe-tray-two-not-zeroed",
+    "recipe-tray-bits-not-zeroed",
+    "recipe-tray-tail-not-zeroed",
+    "recipe-trays-exchanged",
+    "recipe-room-of-the-other-tray-tested",
+    "recipe-room-of-tray-two-tested",
+    "recipe-room-of-the-output-tested",
+    "recipe-room-of-the-output-for-trays",
+    "recipe-tray-room-not-tested",
+    "recipe-output-used-as-a-tray",
+    "recipe-last-step-needs-a-tray",
+    "recipe-tray-size-not-tested",
+];
+
+const TALLY_DEFECTS: &[&str] = &[
+    "recipe-refused-counted-as-finished",
+    "recipe-refused-counted-in-both",
+    "recipe-9-counted-as-finished",
+    "recipe-10-not-in-tally",
+    "recipe-tally-swapped",
+    "recipe-tally-wraps",
+    "recipe-tally-stops-at-2-to-the-63",
+    "recipe-tally-stops-one-early",
+    "recipe-tally-in-32-bits",
+    "recipe-tally-tail-cleared",
+    "recipe-tally-counts-own-answers",
+    "recipe-short-tally-accepted",
+];
+
+/// Wrong versions of operations that recipes must report by themselves.
+const OPERATION_DEFECTS_IN_RECIPES: &[&str] = &[
+    "reverse-of-two-unchanged",
+    "distinct-keeps-last",
+    "pops-swapped",
+    "pop-keeps-single-element",
+    "to-minus-1-excluded",
+    "stride-0-before-bounds",
+    "stride-size-before-direction",
+    "4-only-in-first-row",
+    "absent-stride-follows-bounds",
+    "last-bad-row-decides",
+    "resize-8-missing",
+    "resize-null-fill-is-0",
+    "resize-8-before-7",
+    "replace-null-from-gives-null",
+    "remove-null-unchanged",
+    "limit-over-all-rows",
+    "union-right-first",
+    "intersect-left-walked",
+    "right-first-offset-taken-as-0",
+    "right-null-rows-shown",
+    "null-row-values-kept",
+    "room-for-input-demanded",
+    "no-offset-for-no-rows",
+    "9-writes-offsets",
+    "ragged-accepted",
+    "short-counts-accepted",
+    "size-one-over-accepted",
+    "101-before-100",
+    "short-values-accepted",
+    "short-element-bitmap-accepted",
+    "count-tail-cleared",
+    "null-elements-not-counted",
 ];
 
 /// Result form and room.

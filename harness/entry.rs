@@ -2,15 +2,20 @@
 //! gives by itself (100, 101, 102). A case is one call, as bytes.
 //!
 //! An operation is added by its line in `OPERATIONS`, an entry by its arm in each function of
-//! `Entry`.
+//! `Entry`. The recipe's entry reaches no operation of its own; its trays and its tally, which go
+//! in and come back, stand among the outputs.
 
-use crate::model::{self, ArgumentColumn, ListColumn, Operation, ResultForm, Role, Slots};
+use crate::model::{
+    self, ArgumentColumn, ListColumn, Operation, Recipe, RecipeRefusal, ResultForm, Role, Slots,
+};
+use std::ops::Range;
 
 pub const RAGGED: u32 = 100;
 pub const OVER_SIZE: u32 = 101;
 pub const NO_SUCH_OPERATION: u32 = 102;
 
-/// An entry with the operation code that it is given.
+/// An entry with the operation code that it is given; a recipe's with the number of its argument
+/// columns.
 #[derive(Clone, Copy, PartialEq, Eq, Debug)]
 pub enum Entry {
     List(u32),
@@ -19,6 +24,7 @@ pub enum Entry {
     Lists(u32),
     ListWith(u32),
     ListRepeat,
+    Recipe(u32),
 }
 
 /// Every operation of the port, with the entry that reaches it and its name.
@@ -47,6 +53,8 @@ pub enum Content {
     Values,
     RowValues,
     Bits,
+    Numbers,
+    Tally,
 }
 
 /// One slice of an entry: bytes a slot, and the most slots that the entry takes (bitmaps may have
@@ -64,6 +72,10 @@ pub const MOST_VALUES: usize = 16384;
 
 /// The most lists in the outer rows of list-repeat.
 pub const MOST_INNER_ROWS: usize = 16384;
+
+/// The most numbers of a recipe, and the most values in its argument columns.
+pub const MOST_NUMBERS: usize = 1024;
+pub const MOST_ARGUMENTS: usize = 32768;
 
 const fn offsets(name: &'static str, most_rows: usize) -> SliceKind {
     SliceKind { name, content: Content::Offsets, width: 4, most: Some(most_rows + 1) }
@@ -118,6 +130,47 @@ const LIST_OF_LISTS_ANSWER: [SliceKind; 6] = [
     bits("output elements"),
 ];
 
+const RECIPE_INPUTS: [SliceKind; 11] = [
+    SliceKind { name: "numbers", content: Content::Numbers, width: 4, most: Some(MOST_NUMBERS) },
+    offsets("offsets", MOST_ROWS),
+    bits("rows"),
+    values("values"),
+    bits("elements"),
+    offsets("second offsets", MOST_ROWS),
+    bits("second rows"),
+    values("second values"),
+    bits("second elements"),
+    SliceKind {
+        name: "arguments",
+        content: Content::RowValues,
+        width: 8,
+        most: Some(MOST_ARGUMENTS),
+    },
+    bits("argument bits"),
+];
+/// Two trays of four slices each, the output, and the tally, of which the first 16 bytes are taken.
+const RECIPE_OUTPUTS: [SliceKind; 13] = [
+    offsets("tray one offsets", MOST_ROWS),
+    bits("tray one rows"),
+    values("tray one values"),
+    bits("tray one elements"),
+    offsets("tray two offsets", MOST_ROWS),
+    bits("tray two rows"),
+    values("tray two values"),
+    bits("tray two elements"),
+    offsets("output offsets", MOST_ROWS),
+    bits("output rows"),
+    values("output values"),
+    bits("output elements"),
+    SliceKind { name: "tally", content: Content::Tally, width: 1, most: None },
+];
+
+/// The slices of a recipe's trays among its outputs, those of its result, and its tally.
+pub const TRAYS: Range<usize> = 0..8;
+pub const RECIPE_RESULT: Range<usize> = 8..12;
+pub const TALLY: usize = 12;
+pub const TALLY_BYTES: usize = 16;
+
 impl Entry {
     /// Every operation of the port, as the entry that reaches it.
     pub fn all() -> impl Iterator<Item = Entry> {
@@ -139,7 +192,14 @@ impl Entry {
         self.operation().expect("a code that the entry knows")
     }
 
+    pub fn is_recipe(self) -> bool {
+        matches!(self, Entry::Recipe(_))
+    }
+
     pub fn name(self) -> &'static str {
+        if self.is_recipe() {
+            return "recipe";
+        }
         let line = OPERATIONS.iter().find(|(entry, _, _)| *entry == self);
         line.map_or("unknown", |(_, _, name)| name)
     }
@@ -150,14 +210,14 @@ impl Entry {
             Entry::List(_) => Some(Entry::List(code)),
             Entry::Lists(_) => Some(Entry::Lists(code)),
             Entry::ListWith(_) => Some(Entry::ListWith(code)),
-            Entry::AnyValue | Entry::Element | Entry::ListRepeat => None,
+            Entry::AnyValue | Entry::Element | Entry::ListRepeat | Entry::Recipe(_) => None,
         }
     }
 
     /// How many list columns come first among the inputs.
     pub fn lists(self) -> usize {
         match self {
-            Entry::Lists(_) => 2,
+            Entry::Lists(_) | Entry::Recipe(_) => 2,
             _ => 1,
         }
     }
@@ -173,16 +233,30 @@ impl Entry {
             Entry::Element => &INDEXES,
             Entry::ListWith(_) => &ARGUMENTS,
             Entry::ListRepeat => &TIMES,
+            Entry::Recipe(_) => &RECIPE_INPUTS[9..],
             Entry::List(_) | Entry::AnyValue | Entry::Lists(_) => &[],
         }
     }
 
-    /// How many argument columns are lent, among them those that the operation does not take.
+    /// How many argument columns are lent, among them those that the operation does not take; those
+    /// of a recipe lie in one slice.
     pub fn arguments(self) -> usize {
         self.argument_kinds().len() / 2
     }
 
+    /// How many of them are looked at.
+    pub fn taken(self) -> usize {
+        if self.is_recipe() {
+            1
+        } else {
+            self.roles().len()
+        }
+    }
+
     pub fn inputs(self) -> Vec<SliceKind> {
+        if self.is_recipe() {
+            return RECIPE_INPUTS.to_vec();
+        }
         [&LISTS[..4 * self.lists()], self.argument_kinds()].concat()
     }
 
@@ -191,15 +265,25 @@ impl Entry {
             Entry::List(_) | Entry::Lists(_) | Entry::ListWith(_) => &LIST_ANSWER,
             Entry::AnyValue | Entry::Element => &VALUE_ANSWER,
             Entry::ListRepeat => &LIST_OF_LISTS_ANSWER,
+            Entry::Recipe(_) => &RECIPE_OUTPUTS,
         }
     }
 
-    /// The bytes of the counts that an accepted call writes: as many counts as output slices.
-    pub fn count_bytes(self) -> usize {
-        8 * self.outputs().len()
+    /// The outputs that hold the result.
+    pub fn results(self) -> Range<usize> {
+        if self.is_recipe() {
+            RECIPE_RESULT
+        } else {
+            0..self.outputs().len()
+        }
     }
 
-    /// The slots of each output that a result with these counts takes.
+    /// The bytes of the counts that an accepted call writes: as many counts as result slices.
+    pub fn count_bytes(self) -> usize {
+        8 * self.results().len()
+    }
+
+    /// The slots of each result slice that a result with these counts takes.
     pub fn written_slots(self, counts: &[u64]) -> Vec<usize> {
         let counts: Vec<usize> = counts.iter().map(|count| *count as usize).collect();
         let offsets_and_bits = |rows: usize| [rows.saturating_add(1), model::bitmap_bytes(rows)];
@@ -216,10 +300,12 @@ impl Entry {
     }
 }
 
-/// The columns of a call, among them argument columns that its operation does not take.
+/// The columns of a call, among them argument columns that its operation does not take; for a
+/// recipe its numbers, and all argument columns as one.
 #[derive(Clone, Debug)]
 pub struct Input {
     pub entry: Entry,
+    pub numbers: Vec<u32>,
     pub lists: Vec<ListColumn>,
     pub arguments: Vec<ArgumentColumn>,
 }
@@ -227,12 +313,24 @@ pub struct Input {
 impl Input {
     /// The argument columns that the operation takes.
     pub fn taken(&self) -> &[ArgumentColumn] {
-        &self.arguments[..self.entry.roles().len()]
+        &self.arguments[..self.entry.taken()]
+    }
+
+    /// The recipe that the call brings, if it is one.
+    pub fn recipe(&self) -> Option<Recipe<'_>> {
+        let Entry::Recipe(columns) = self.entry else {
+            return None;
+        };
+        let (numbers, lists) = (&self.numbers, &self.lists);
+        Some(Recipe { numbers, columns, lists, arguments: &self.arguments[0] })
     }
 
     /// The slices of all columns, in the order of the entry's inputs.
     pub fn encode(&self) -> Vec<Vec<u8>> {
         let mut slices = Vec::new();
+        if self.entry.is_recipe() {
+            slices.push(encode_u32(&self.numbers));
+        }
         for list in &self.lists {
             slices.push(encode_i32(&list.offsets));
             slices.push(list.rows.clone());
@@ -247,7 +345,8 @@ impl Input {
     }
 
     fn decode(entry: Entry, slices: &[Vec<u8>]) -> Input {
-        let (lists, arguments) = slices.split_at(4 * entry.lists());
+        let (numbers, columns) = slices.split_at(usize::from(entry.is_recipe()));
+        let (lists, arguments) = columns.split_at(4 * entry.lists());
         let list = |part: &[Vec<u8>]| ListColumn {
             offsets: decode_i32(&part[0]),
             rows: part[1].clone(),
@@ -260,6 +359,7 @@ impl Input {
         };
         Input {
             entry,
+            numbers: numbers.iter().flat_map(|bytes| decode_u32(bytes)).collect(),
             lists: lists.chunks(4).map(list).collect(),
             arguments: arguments.chunks(2).map(argument).collect(),
         }
@@ -275,8 +375,8 @@ pub struct Case {
     pub counts: Vec<u8>,
 }
 
-/// What a call must answer, and the bytes that it must write at the front of each output and of
-/// the counts.
+/// What a call must answer, and the bytes that it must write at the front of each output, if it
+/// writes any, and of the counts.
 #[derive(Clone, Debug, PartialEq)]
 pub struct Expected {
     pub number: u32,
@@ -307,12 +407,13 @@ impl Case {
 
     /// The answer that the entry gives before the columns are looked at.
     fn own_answer(&self) -> Option<u32> {
-        if self.entry.operation().is_none() {
+        if self.entry.operation().is_none() && !self.entry.is_recipe() {
             return Some(NO_SUCH_OPERATION);
         }
         let slices = self.slices();
         let ragged = slices.iter().any(|(kind, bytes)| bytes.len() % kind.width != 0);
-        if ragged || self.counts.len() < self.entry.count_bytes() {
+        let short_tally = self.entry.is_recipe() && self.outputs[TALLY].len() < TALLY_BYTES;
+        if ragged || self.counts.len() < self.entry.count_bytes() || short_tally {
             return Some(RAGGED);
         }
         let over = |(kind, bytes): &(SliceKind, &Vec<u8>)| {
@@ -325,8 +426,17 @@ impl Case {
         Input::decode(self.entry, &self.inputs)
     }
 
+    /// The slots of these outputs.
+    fn lengths(&self, outputs: Range<usize>) -> Vec<usize> {
+        let kinds = self.entry.outputs()[outputs.clone()].iter();
+        kinds.zip(&self.outputs[outputs]).map(|(kind, bytes)| bytes.len() / kind.width).collect()
+    }
+
     /// What the call must answer and write.
     pub fn expected(&self) -> Expected {
+        if self.entry.is_recipe() {
+            return self.expected_of_recipe();
+        }
         if let Some(number) = self.own_answer() {
             return Expected::refusal(number);
         }
@@ -334,14 +444,50 @@ impl Case {
             return Expected::refusal(NO_SUCH_OPERATION);
         };
         let input = self.decode();
-        let kinds = self.entry.outputs().iter();
-        let lengths: Vec<usize> =
-            kinds.zip(&self.outputs).map(|(kind, bytes)| bytes.len() / kind.width).collect();
+        let lengths = self.lengths(self.entry.results());
         match model::outcome(operation, &input.lists, input.taken(), &lengths) {
             Ok(form) => Expected::accepted(&form),
             Err(number) => Expected::refusal(number),
         }
     }
+
+    /// The trays are all zero after any call; the tally stays where the entry itself answers.
+    fn expected_of_recipe(&self) -> Expected {
+        let zeros = |tray: &Vec<u8>| vec![0; tray.len()];
+        let trays: Vec<Vec<u8>> = self.outputs[TRAYS].iter().map(zeros).collect();
+        if let Some(number) = self.own_answer() {
+            return Expected { written: trays, ..Expected::refusal(number) };
+        }
+        let outcome = self.recipe_outcome();
+        let tally = model::tally_after(self.tally(), outcome.is_ok());
+        let tally = tally.iter().flat_map(|count| count.to_le_bytes()).collect();
+        let result = match outcome {
+            Ok(form) => Expected::accepted(&form),
+            Err(refusal) => Expected::refusal(refusal.number),
+        };
+        let no_result = vec![Vec::new(); RECIPE_RESULT.len() - result.written.len()];
+        let written = [trays, result.written, no_result, vec![tally]].concat();
+        Expected { written, ..result }
+    }
+
+    /// What a recipe that the entry takes comes to.
+    pub fn recipe_outcome(&self) -> Result<ResultForm, RecipeRefusal> {
+        let input = self.decode();
+        let recipe = input.recipe().expect("the call of a recipe");
+        let room: Vec<u64> = self.lengths(0..TALLY).iter().map(|slots| *slots as u64).collect();
+        model::recipe_outcome(&recipe, [&room[..4], &room[4..8], &room[8..]])
+    }
+
+    /// The recipes finished and refused before the call.
+    pub fn tally(&self) -> [u64; 2] {
+        decode_tally(&self.outputs[TALLY])
+    }
+}
+
+/// The two counts of a tally that is long enough.
+pub fn decode_tally(bytes: &[u8]) -> [u64; 2] {
+    let counts = decode_i64(&bytes[..TALLY_BYTES]);
+    [counts[0] as u64, counts[1] as u64]
 }
 
 fn encode_slots(slots: &Slots) -> Vec<u8> {
@@ -356,6 +502,10 @@ pub fn encode_i32(numbers: &[i32]) -> Vec<u8> {
     numbers.iter().flat_map(|number| number.to_le_bytes()).collect()
 }
 
+pub fn encode_u32(numbers: &[u32]) -> Vec<u8> {
+    numbers.iter().flat_map(|number| number.to_le_bytes()).collect()
+}
+
 pub fn encode_i64(numbers: &[i64]) -> Vec<u8> {
     numbers.iter().flat_map(|number| number.to_le_bytes()).collect()
 }
@@ -364,6 +514,11 @@ pub fn encode_i64(numbers: &[i64]) -> Vec<u8> {
 pub fn decode_i32(bytes: &[u8]) -> Vec<i32> {
     let number = |chunk: &[u8]| i32::from_le_bytes([chunk[0], chunk[1], chunk[2], chunk[3]]);
     bytes.chunks_exact(4).map(number).collect()
+}
+
+/// The whole numbers in the bytes; a ragged end is left out.
+pub fn decode_u32(bytes: &[u8]) -> Vec<u32> {
+    decode_i32(bytes).into_iter().map(|number| number as u32).collect()
 }
 
 /// The whole numbers in the bytes; a ragged end is left out.

@@ -4,6 +4,7 @@
 use crate::entry::{Case, Entry, Input, MOST_INNER_ROWS, MOST_VALUES};
 use crate::model::{self, bitmap_bytes, ArgumentColumn, Element, ListColumn, Made};
 use crate::model::{Operation, Role, Row, Shown};
+use crate::recipe_generate::{lend_recipe, random_recipe, recipe_input};
 use crate::rng::Rng;
 
 pub const EXTREMES: [i64; 7] = [i64::MIN, i64::MIN + 1, -1, 0, 1, i64::MAX - 1, i64::MAX];
@@ -30,7 +31,7 @@ fn random_value(rng: &mut Rng) -> i64 {
     }
 }
 
-fn random_element(null_eighths: usize, rng: &mut Rng) -> Element {
+pub fn random_element(null_eighths: usize, rng: &mut Rng) -> Element {
     if rng.chance(null_eighths, 8) {
         None
     } else {
@@ -354,18 +355,29 @@ pub fn accepted_columns(
 ) -> Vec<Vec<Element>> {
     let roles = operation.roles();
     let null_eighths = rng.pick(&[0, 0, 1, 4]);
+    let mut columns = full_columns(operation, lists, null_eighths, rng);
+    if roles.last() == Some(&Role::Limit) && rng.chance(1, 4) {
+        let limit = or_null(null_eighths, rng, |rng| random_argument(Role::Limit, &[], rng));
+        columns[roles.len() - 1] = vec![limit];
+    }
+    columns
+}
+
+/// The same, with a value for each row in every column.
+pub fn full_columns(
+    operation: Operation,
+    lists: &[Vec<Row>],
+    null_eighths: usize,
+    rng: &mut Rng,
+) -> Vec<Vec<Element>> {
     let mut left = Left { inner_rows: MOST_INNER_ROWS as u64, elements: MOST_VALUES as u64 };
-    let mut columns = vec![Vec::new(); roles.len()];
+    let mut columns = vec![Vec::new(); operation.roles().len()];
     for row in 0..lists[0].len() {
         let rows: Vec<&Row> = lists.iter().map(|list| &list[row]).collect();
         let arguments = accepted_arguments(operation, &rows, null_eighths, &mut left, rng);
         for (column, argument) in columns.iter_mut().zip(arguments) {
             column.push(argument);
         }
-    }
-    if roles.last() == Some(&Role::Limit) && rng.chance(1, 4) {
-        let limit = or_null(null_eighths, rng, |rng| random_argument(Role::Limit, &[], rng));
-        columns[roles.len() - 1] = vec![limit];
     }
     columns
 }
@@ -509,7 +521,7 @@ pub fn input_of(entry: Entry, shown: &Shown, layouts: &[Layout], rng: &mut Rng) 
     while arguments.len() < entry.arguments() {
         arguments.push(untaken_column(shown.lists[0].len(), rng));
     }
-    Input { entry, lists, arguments }
+    Input { entry, numbers: Vec::new(), lists, arguments }
 }
 
 /// A layout for each column.
@@ -517,8 +529,12 @@ pub fn random_layouts(entry: Entry, rng: &mut Rng) -> Vec<Layout> {
     (0..entry.lists() + entry.arguments()).map(|_| random_layout(rng)).collect()
 }
 
-/// Random columns for an operation, in random layouts.
+/// Random columns for an operation, or a random recipe, in random layouts.
 pub fn random_input(entry: Entry, shape: RowShape, rng: &mut Rng) -> Input {
+    if entry.is_recipe() {
+        let shown = random_recipe(shape, rng);
+        return recipe_input(&shown, &random_layouts(entry, rng), rng);
+    }
     let shown = random_shown_or_refused(entry, shape, rng);
     let layouts = random_layouts(entry, rng);
     input_of(entry, &shown, &layouts, rng)
@@ -537,7 +553,9 @@ impl Column {
     pub fn name(self, entry: Entry) -> &'static str {
         match self {
             Column::List(0) => "list",
+            Column::List(_) if entry.is_recipe() => "second list",
             Column::List(_) => "right list",
+            Column::Argument(_) if entry.is_recipe() => "arguments",
             Column::Argument(at) => entry.roles()[at].name(),
         }
     }
@@ -545,7 +563,7 @@ impl Column {
     /// The columns that the operation takes.
     fn all(entry: Entry) -> Vec<Column> {
         let lists = (0..entry.lists()).map(Column::List);
-        lists.chain((0..entry.roles().len()).map(Column::Argument)).collect()
+        lists.chain((0..entry.taken()).map(Column::Argument)).collect()
     }
 }
 
@@ -785,7 +803,7 @@ pub enum Room {
 }
 
 /// The longest bitmap that is lent for a result: enough for the most values, and some more.
-const MOST_BITMAP_BYTES: usize = 4096;
+pub const MOST_BITMAP_BYTES: usize = 4096;
 
 /// Slots for a result that no slice has room for: few, or all that the entry takes.
 fn too_few(most: usize, rng: &mut Rng) -> usize {
@@ -812,7 +830,7 @@ pub fn needed_slots(input: &Input) -> Vec<usize> {
     input.entry.written_slots(&counts[..input.entry.outputs().len()])
 }
 
-fn room_for(needed: usize, slice: usize, room: Room, rng: &mut Rng) -> usize {
+pub fn room_for(needed: usize, slice: usize, room: Room, rng: &mut Rng) -> usize {
     match room {
         Room::Exact => needed,
         Room::Longer(more) => needed + more,
@@ -829,6 +847,9 @@ fn room_for(needed: usize, slice: usize, room: Room, rng: &mut Rng) -> usize {
 /// The call on these columns, with outputs of the given room that hold random bytes; no output is
 /// larger than the entry takes.
 pub fn lend(input: &Input, room: Room, rng: &mut Rng) -> Case {
+    if input.entry.is_recipe() {
+        return lend_recipe(input, room, rng);
+    }
     let needed = needed_slots(input);
     let mut outputs = Vec::new();
     for (slice, kind) in input.entry.outputs().iter().enumerate() {

@@ -3,15 +3,17 @@
 
 use crate::compare::{Checker, Observed};
 use crate::entry::{Case, Content, Entry, Input, SliceKind, MOST_ROWS, MOST_VALUES};
+use crate::entry::{TALLY, TALLY_BYTES};
 use crate::exhaustive::{every_argument, every_limit_length, every_sum};
 use crate::exhaustive::{short_columns, short_offsets};
 use crate::generate::*;
 use crate::model::{Operation, Role, Row, Shown};
+use crate::recipe_groups;
 use crate::rng::Rng;
 use crate::worked;
 
 type Applies = fn(Entry) -> bool;
-type Run = fn(&mut Checker, Entry, &mut Rng, u64);
+pub type Run = fn(&mut Checker, Entry, &mut Rng, u64);
 
 pub struct Group {
     pub name: String,
@@ -73,6 +75,10 @@ pub fn all() -> Vec<Group> {
                 groups.push(Group { name, entry, run, shares });
             }
         }
+    }
+    for (name, run, shares) in recipe_groups::ALL {
+        let (name, entry) = (format!("recipe: {name}"), Entry::Recipe(0));
+        groups.push(Group { name, entry, run, shares });
     }
     for (name, entry) in CODED {
         let (name, run) = (format!("{name}: unknown operations"), unknown_operations as Run);
@@ -200,8 +206,11 @@ struct Refused {
     layout: Layout,
     input: Input,
     case: Case,
-    holding: Vec<(u32, Option<Column>)>,
+    holding: Holding,
 }
+
+/// Refusals whose conditions hold, with the column in which they do.
+pub type Holding = Vec<(u32, Option<Column>)>;
 
 fn order_of_refusals(checker: &mut Checker, entry: Entry, rng: &mut Rng, calls: u64) {
     while checker.calls < calls.max(1200) {
@@ -214,20 +223,21 @@ fn order_of_refusals(checker: &mut Checker, entry: Entry, rng: &mut Rng, calls: 
         let of_rows = rng.pick(&[&[0][..], refusals(entry)].concat());
         for number in [9, of_rows, 3, 2, 1, 101, 100, 102] {
             if !rng.chance(1, 3) && refused.add(number, rng) {
-                check_first(checker, &refused, number);
+                let entry = refused.input.entry;
+                check_first(checker, entry, &refused.case, &refused.holding);
             }
         }
     }
 }
 
-fn check_first(checker: &mut Checker, refused: &Refused, number: u32) {
-    let (case, entry) = (&refused.case, refused.input.entry);
-    checker.check(case);
-    let first = case.expected().number == number;
-    checker.require(first, case, "the model does not give the refusal that comes first");
-    let Some(((_, column), others)) = refused.holding.split_last() else {
+/// The last of the conditions that hold is the one that is answered.
+pub fn check_first(checker: &mut Checker, entry: Entry, case: &Case, holding: &Holding) {
+    let Some(((number, column), others)) = holding.split_last() else {
         return;
     };
+    checker.check(case);
+    let first = case.expected().number == *number;
+    checker.require(first, case, "the model does not give the refusal that comes first");
     for (other, other_column) in others {
         checker.coverage.count(entry.name(), "order", format!("{number} before {other}"));
         if let (Some(column), Some(other_column)) = (column, other_column) {
@@ -266,19 +276,9 @@ impl Refused {
     }
 
     fn damage(&mut self, number: u32, rng: &mut Rng) -> Option<Column> {
-        let mut harms = Harm::of(self.input.entry);
-        harms.retain(|harm| harm.refusal() == Some(number) && harm.is_possible(&self.input));
-        if harms.is_empty() {
-            return None;
-        }
-        // Columns have equal chances, whatever can be done to them.
-        let mut columns: Vec<Column> = harms.iter().map(|harm| harm.column).collect();
-        columns.dedup();
-        let column = rng.pick(&columns);
-        harms.retain(|harm| harm.column == column);
-        rng.pick(&harms).apply(&mut self.input, rng);
+        let column = damage_some_column(&mut self.input, number, rng);
         self.case.inputs = self.input.encode();
-        Some(column)
+        column
     }
 
     fn refuse_some_row(&mut self, number: u32, rng: &mut Rng) -> bool {
@@ -292,6 +292,22 @@ impl Refused {
         self.case.inputs = self.input.encode();
         refused
     }
+}
+
+/// Does some damage that brings this refusal, and gives the column that it is done to.
+pub fn damage_some_column(input: &mut Input, number: u32, rng: &mut Rng) -> Option<Column> {
+    let mut harms = Harm::of(input.entry);
+    harms.retain(|harm| harm.refusal() == Some(number) && harm.is_possible(input));
+    if harms.is_empty() {
+        return None;
+    }
+    // Columns have equal chances, whatever can be done to them.
+    let mut columns: Vec<Column> = harms.iter().map(|harm| harm.column).collect();
+    columns.dedup();
+    let column = rng.pick(&columns);
+    harms.retain(|harm| harm.column == column);
+    rng.pick(&harms).apply(input, rng);
+    Some(column)
 }
 
 /// Cuts one output, which was lent exactly, by one slot or to nothing.
@@ -362,13 +378,13 @@ fn check_lengths(checker: &mut Checker, input: &Input, rng: &mut Rng) {
 
 /// A slice of numbers of a case, by its place among the inputs or the outputs.
 #[derive(Clone, Copy)]
-enum NumberSlice {
+pub enum NumberSlice {
     Input(usize),
     Output(usize),
 }
 
 impl NumberSlice {
-    fn all(entry: Entry) -> Vec<(NumberSlice, SliceKind)> {
+    pub fn all(entry: Entry) -> Vec<(NumberSlice, SliceKind)> {
         let inputs = entry.inputs().into_iter().enumerate();
         let outputs = entry.outputs().iter().copied().enumerate();
         let mut all: Vec<_> = inputs.map(|(at, kind)| (NumberSlice::Input(at), kind)).collect();
@@ -377,7 +393,7 @@ impl NumberSlice {
         all
     }
 
-    fn of(self, case: &mut Case) -> &mut Vec<u8> {
+    pub fn of(self, case: &mut Case) -> &mut Vec<u8> {
         match self {
             NumberSlice::Input(at) => &mut case.inputs[at],
             NumberSlice::Output(at) => &mut case.outputs[at],
@@ -386,25 +402,27 @@ impl NumberSlice {
 }
 
 /// Fills a slice of numbers to this many slots.
-fn grow(bytes: &mut Vec<u8>, slots: usize, kind: SliceKind, rng: &mut Rng) {
+pub fn grow(bytes: &mut Vec<u8>, slots: usize, kind: SliceKind, rng: &mut Rng) {
     let more = (slots * kind.width).saturating_sub(bytes.len());
     bytes.extend(rng.bytes(more));
 }
 
 /// Makes some slice of numbers larger than the entry takes.
-fn over_size(case: &mut Case, rng: &mut Rng) -> bool {
+pub fn over_size(case: &mut Case, rng: &mut Rng) -> bool {
     let (slice, kind) = rng.pick(&NumberSlice::all(case.entry));
     let slots = kind.most.unwrap_or(0) + rng.pick(&[1, 1, 2, 4096, 20000]);
     grow(slice.of(case), slots, kind, rng);
     true
 }
 
-/// Makes some slice of numbers ragged, or the counts too short.
-fn make_ragged(case: &mut Case, rng: &mut Rng) -> bool {
+/// Makes some slice of numbers ragged, or the counts or the tally too short.
+pub fn make_ragged(case: &mut Case, rng: &mut Rng) -> bool {
     let slices = NumberSlice::all(case.entry);
-    let at = rng.below(slices.len() + 1);
+    let at = rng.below(slices.len() + 1 + usize::from(case.entry.is_recipe()));
     if at == slices.len() {
         case.counts.truncate(rng.below(case.entry.count_bytes()));
+    } else if at > slices.len() {
+        case.outputs[TALLY].truncate(rng.below(TALLY_BYTES));
     } else {
         let (slice, kind) = slices[at];
         let more = 1 + rng.below(kind.width - 1);
@@ -467,7 +485,7 @@ fn last_row(rows: &[Row], left: usize) -> Row {
     Some(last)
 }
 
-fn counts_of_every_length(checker: &mut Checker, entry: Entry, rng: &mut Rng) {
+pub fn counts_of_every_length(checker: &mut Checker, entry: Entry, rng: &mut Rng) {
     for length in 0..entry.count_bytes() + 10 {
         let input = random_input(entry, RowShape { count: 3, ..small_shape(rng) }, rng);
         let mut case = lend(&input, Room::Longer(1), rng);
@@ -482,7 +500,7 @@ fn counts_of_every_length(checker: &mut Checker, entry: Entry, rng: &mut Rng) {
 }
 
 /// One slice with each ragged end, longer and shorter, alone and beside each slice over size.
-fn ragged_slice(
+pub fn ragged_slice(
     checker: &mut Checker,
     entry: Entry,
     slice: NumberSlice,
@@ -509,7 +527,7 @@ fn ragged_slice(
 }
 
 /// One slice a slot over size, or far over.
-fn slice_over_size(
+pub fn slice_over_size(
     checker: &mut Checker,
     entry: Entry,
     slice: NumberSlice,
@@ -524,7 +542,7 @@ fn slice_over_size(
     }
 }
 
-fn check_answer(checker: &mut Checker, case: &Case, number: u32) {
+pub fn check_answer(checker: &mut Checker, case: &Case, number: u32) {
     let observed = checker.check(case);
     checker.require(observed.number == number, case, &format!("{number} must be answered here"));
 }
@@ -586,7 +604,7 @@ fn random_case(entry: Entry, rng: &mut Rng) -> Case {
 }
 
 /// Now and then some bytes that are no whole number.
-fn ragged_end(kind: SliceKind, rng: &mut Rng) -> usize {
+pub fn ragged_end(kind: SliceKind, rng: &mut Rng) -> usize {
     if rng.chance(1, 128) {
         rng.below(kind.width)
     } else {
@@ -594,7 +612,7 @@ fn ragged_end(kind: SliceKind, rng: &mut Rng) -> usize {
     }
 }
 
-fn random_slice(kind: SliceKind, rows: usize, rng: &mut Rng) -> Vec<u8> {
+pub fn random_slice(kind: SliceKind, rows: usize, rng: &mut Rng) -> Vec<u8> {
     let mut bytes = match kind.content {
         Content::Offsets => random_offsets(rows, rng),
         Content::Values => {
@@ -611,6 +629,8 @@ fn random_slice(kind: SliceKind, rows: usize, rng: &mut Rng) -> Vec<u8> {
             let slots = rng.below(3);
             rng.bytes(slots)
         }
+        Content::Numbers => recipe_groups::random_numbers(rng),
+        Content::Tally => unreachable!("a tally is no input"),
     };
     let more = ragged_end(kind, rng);
     bytes.extend(rng.bytes(more));

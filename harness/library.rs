@@ -1,7 +1,7 @@
 //! A library under test: the entries as safe functions on byte slices. The port, the plain Rust
-//! and the mock each give one of these. A function takes the code, if there is one, then the input
-//! slices and the output slices in the order in which `entry.rs` lists them, then the counts. A
-//! library may lack entries.
+//! and the mock each give one of these. A function takes the code, if there is one, or the number
+//! of a recipe's columns, then the input slices and the output slices in the order in which
+//! `entry.rs` lists them, then the counts. A library may lack entries.
 
 use crate::entry::Entry;
 
@@ -17,6 +17,7 @@ pub struct Library {
     pub lists: Option<Coded<8, 4>>,
     pub list_with: Option<Coded<10, 4>>,
     pub list_repeat: Option<Plain<6, 6>>,
+    pub recipe: Option<Coded<11, 13>>,
 }
 
 fn inputs<'a, const N: usize>(slices: &[&'a [u8]]) -> [&'a [u8]; N] {
@@ -42,6 +43,7 @@ impl Library {
         lists: None,
         list_with: None,
         list_repeat: None,
+        recipe: None,
     };
 
     pub fn has(&self, entry: Entry) -> bool {
@@ -52,6 +54,7 @@ impl Library {
             Entry::Lists(_) => self.lists.is_some(),
             Entry::ListWith(_) => self.list_with.is_some(),
             Entry::ListRepeat => self.list_repeat.is_some(),
+            Entry::Recipe(_) => self.recipe.is_some(),
         }
     }
 
@@ -60,9 +63,10 @@ impl Library {
         Entry::all().filter(|entry| self.has(*entry))
     }
 
-    /// Names the operations that the library has no entry for, if there are any.
+    /// Names the operations that the library has no entry for, if there are any, or recipes.
     pub fn print_absent(&self) {
-        let absent = Entry::all().filter(|entry| !self.has(*entry)).map(Entry::name);
+        let entries = Entry::all().chain([Entry::Recipe(0)]);
+        let absent = entries.filter(|entry| !self.has(*entry)).map(Entry::name);
         let absent: Vec<&str> = absent.collect();
         if !absent.is_empty() {
             println!("not run, no entry in the archive: {}", absent.join(", "));
@@ -86,6 +90,9 @@ impl Library {
                 present(self.list_with)(code, inputs(lent), outputs(results), counts)
             }
             Entry::ListRepeat => present(self.list_repeat)(inputs(lent), outputs(results), counts),
+            Entry::Recipe(columns) => {
+                present(self.recipe)(columns, inputs(lent), outputs(results), counts)
+            }
         }
     }
 }

@@ -6,6 +6,7 @@
 //!     harness --group NAME           one group alone, with its calls of the whole run
 //!     harness --operation NAME       the groups of one operation
 //!     harness --plain                the plain Rust instead of the port
+//!     harness --decoded              the plain Rust that decodes inside instead of the port
 //!     harness --stop                 ends at the first difference
 //!     harness --trace                names each call before it is made
 //!     harness groups | bench | example
@@ -16,10 +17,15 @@
 //! boundary numbers in generate.rs; a new entry its slices in entry.rs, library.rs and port.rs. The
 //! entries that the archive has are listed at the end of port.rs: the groups of the others are not
 //! run, but for the plain Rust.
+//!
+//! Recipes are no operation: they are read in model.rs, made in recipe_generate.rs, and have their
+//! groups in recipe_groups.rs, what these must reach in recipe_coverage.rs, and their wrong
+//! versions in mock_recipe.rs; `--operation recipe` runs their groups.
 
 mod bench;
 mod compare;
 mod coverage;
+mod decoded;
 #[cfg(mock)]
 mod defects;
 mod entry;
@@ -31,10 +37,15 @@ mod library;
 #[cfg(mock)]
 mod mock;
 #[cfg(mock)]
+mod mock_recipe;
+#[cfg(mock)]
 mod mock_rows;
 mod model;
 mod plain;
 mod port;
+mod recipe_coverage;
+mod recipe_generate;
+mod recipe_groups;
 mod rng;
 mod worked;
 
@@ -52,7 +63,7 @@ struct Options {
     seed: u64,
     group: Option<String>,
     operation: Option<String>,
-    plain: bool,
+    library: &'static Library,
     stop: bool,
     trace: bool,
 }
@@ -65,8 +76,8 @@ fn number(text: Option<String>, option: &str) -> Result<u64, String> {
 fn parse(mut words: impl Iterator<Item = String>) -> Result<Options, String> {
     let (calls, seed) = (DEFAULT_CALLS, DEFAULT_SEED);
     let (group, operation) = (None, None);
-    let mut options =
-        Options { calls, seed, group, operation, plain: false, stop: false, trace: false };
+    let library = &port::LIBRARY;
+    let mut options = Options { calls, seed, group, operation, library, stop: false, trace: false };
     while let Some(word) = words.next() {
         match word.as_str() {
             "--calls" => options.calls = number(words.next(), "--calls")?,
@@ -75,7 +86,8 @@ fn parse(mut words: impl Iterator<Item = String>) -> Result<Options, String> {
             "--operation" => {
                 options.operation = Some(words.next().ok_or("--operation wants a name")?);
             }
-            "--plain" => options.plain = true,
+            "--plain" => options.library = &plain::LIBRARY,
+            "--decoded" => options.library = &decoded::LIBRARY,
             "--stop" => options.stop = true,
             "--trace" => options.trace = true,
             other => return Err(format!("unknown word '{other}'")),
@@ -130,11 +142,11 @@ fn run_groups(checker: &mut Checker, options: &Options, tally: &mut Tally) {
     }
 }
 
-/// The benchmark's baseline must be right too: all groups once, with a tenth of the random calls.
-fn check_plain(options: &Options, tally: &mut Tally) {
+/// The benchmark's baselines must be right too: all groups once, with a tenth of the random calls.
+fn check_plain(name: &str, library: &Library, option: &str, options: &Options, tally: &mut Tally) {
     let (seed, random_calls) = (options.seed, options.calls / 10);
-    let replay = format!("--plain --seed {seed} --calls {random_calls}");
-    let mut checker = Checker::new(&plain::LIBRARY, replay, options.trace, options.stop);
+    let replay = format!("{option} --seed {seed} --calls {random_calls}");
+    let mut checker = Checker::new(library, replay, options.trace, options.stop);
     let (mut calls, mut differences) = (0, 0);
     for group in groups::all() {
         group.run(&mut checker, seed, random_calls);
@@ -142,7 +154,7 @@ fn check_plain(options: &Options, tally: &mut Tally) {
         differences += checker.differences;
     }
     let detail = format!("{calls} calls, {differences} differences");
-    tally.add("plain Rust: all groups", differences == 0, detail);
+    tally.add(&format!("{name}: all groups"), differences == 0, detail);
 }
 
 fn check_coverage(coverage: &Coverage, library: &Library, tally: &mut Tally) {
@@ -157,12 +169,14 @@ fn check_coverage(coverage: &Coverage, library: &Library, tally: &mut Tally) {
 fn run(options: &Options) -> ExitCode {
     println!("seed {}, {} random calls", options.seed, options.calls);
     let mut tally = Tally::default();
-    let library = if options.plain { &plain::LIBRARY } else { &port::LIBRARY };
+    let library = options.library;
     let replay = format!("--seed {} --calls {}", options.seed, options.calls);
     let mut checker = Checker::new(library, replay, options.trace, options.stop);
     run_groups(&mut checker, options, &mut tally);
     if !options.is_part() {
-        check_plain(options, &mut tally);
+        check_plain("plain Rust", &plain::LIBRARY, "--plain", options, &mut tally);
+        let name = "plain Rust, decoding inside";
+        check_plain(name, &decoded::LIBRARY, "--decoded", options, &mut tally);
         check_coverage(&checker.coverage, library, &mut tally);
         library.print_absent();
     }

@@ -5,6 +5,7 @@
 
 use crate::defects::{defect, is, NULL_ROWS};
 use crate::library::Library;
+use crate::mock_recipe::recipe;
 use crate::mock_rows::{
     distinct, intersect, is_beyond, place_of, pop, remove, replace, resize, reverse, slice, union,
 };
@@ -20,6 +21,7 @@ pub const LIBRARY: Library = Library {
     lists: Some(lists),
     list_with: Some(list_with),
     list_repeat: Some(list_repeat),
+    recipe: Some(recipe),
 };
 
 /// How many lists an entry takes, with argument columns behind them, and the kind of its answer.
@@ -29,7 +31,7 @@ struct Shape {
 }
 
 #[derive(Clone, Copy, PartialEq)]
-enum Answer {
+pub enum Answer {
     Values,
     Lists,
     Nested,
@@ -40,8 +42,8 @@ const SLICE_WITHOUT_STRIDE: u32 = 5;
 const RESIZE: u32 = 6;
 const REPLACE: u32 = 7;
 const REMOVE: u32 = 8;
-const UNION: u32 = 9;
-const INTERSECT: u32 = 10;
+pub const UNION: u32 = 9;
+pub const INTERSECT: u32 = 10;
 const RESIZE_WITHOUT_FILL: u32 = 11;
 /// Operations that have an entry of their own, and no code.
 const ANY_VALUE: u32 = 1000;
@@ -144,7 +146,7 @@ fn answer(
 }
 
 /// How many argument columns an operation takes.
-fn taken(op: u32) -> usize {
+pub fn taken(op: u32) -> usize {
     match op {
         SLICE | REPLACE => 3,
         SLICE_WITHOUT_STRIDE | RESIZE | REMOVE => 2,
@@ -209,7 +211,7 @@ fn own_answer(
 
 // Columns.
 
-fn numbers(bytes: &[u8], width: usize) -> Vec<i64> {
+pub fn numbers(bytes: &[u8], width: usize) -> Vec<i64> {
     let number = |chunk: &[u8]| {
         let sign = if chunk[width - 1] >= 128 { 0xff } else { 0 };
         let mut eight = [sign; 8];
@@ -219,7 +221,7 @@ fn numbers(bytes: &[u8], width: usize) -> Vec<i64> {
     bytes.chunks_exact(width).map(number).collect()
 }
 
-fn bit(bitmap: &[u8], position: usize) -> bool {
+pub fn bit(bitmap: &[u8], position: usize) -> bool {
     if bitmap.is_empty() {
         return !is("empty-bitmap-all-null");
     }
@@ -265,13 +267,13 @@ impl Item {
     }
 }
 
-struct Argument<'a> {
-    values: Vec<i64>,
-    bits: &'a [u8],
+pub struct Argument<'a> {
+    pub values: Vec<i64>,
+    pub bits: &'a [u8],
 }
 
 impl<'a> Argument<'a> {
-    fn new(part: &[&'a [u8]]) -> Self {
+    pub fn new(part: &[&'a [u8]]) -> Self {
         Argument { values: numbers(part[0], 8), bits: part[1] }
     }
 
@@ -285,16 +287,16 @@ impl<'a> Argument<'a> {
     }
 }
 
-struct Column<'a> {
+pub struct Column<'a> {
     is_right: bool,
-    offsets: Vec<i64>,
+    pub offsets: Vec<i64>,
     rows: &'a [u8],
     values: Vec<i64>,
     elements: &'a [u8],
 }
 
 impl<'a> Column<'a> {
-    fn new(at: usize, part: &[&'a [u8]]) -> Self {
+    pub fn new(at: usize, part: &[&'a [u8]]) -> Self {
         let (offsets, values) = (numbers(part[0], 4), numbers(part[2], 8));
         Column { is_right: at == 1, offsets, rows: part[1], values, elements: part[3] }
     }
@@ -318,7 +320,7 @@ impl<'a> Column<'a> {
             && !(is("fall-at-null-row-missed") && !bit(self.rows, row))
     }
 
-    fn bad_offsets(&self) -> bool {
+    pub fn bad_offsets(&self) -> bool {
         if self.is_right_with("right-offsets-not-tested") {
             return false;
         }
@@ -335,7 +337,7 @@ impl<'a> Column<'a> {
             || *last > most
     }
 
-    fn short_bitmap(&self) -> bool {
+    pub fn short_bitmap(&self) -> bool {
         let rows = self.row_count() + usize::from(is("row-bitmap-for-one-more-row"));
         let last = self.offsets.last().map_or(0, |last| *last as usize);
         let values = if is("element-bitmap-to-last-offset") { last } else { self.values.len() };
@@ -344,11 +346,11 @@ impl<'a> Column<'a> {
         short && !self.is_right_with("right-bitmaps-not-tested")
     }
 
-    fn is_valid(&self, row: usize) -> bool {
+    pub fn is_valid(&self, row: usize) -> bool {
         bit(self.rows, row) || is(NULL_ROWS) || self.is_right_with("right-null-rows-shown")
     }
 
-    fn range(&self, row: usize) -> Range<usize> {
+    pub fn range(&self, row: usize) -> Range<usize> {
         let from_0 =
             is("first-offset-taken-as-0") || self.is_right_with("right-first-offset-taken-as-0");
         let shift = if from_0 { self.offsets[0] } else { 0 };
@@ -377,9 +379,9 @@ impl<'a> Column<'a> {
 // Calls.
 
 /// A row that was made; a null row may wrongly hold elements.
-struct MadeRow {
-    valid: bool,
-    items: Vec<Item>,
+pub struct MadeRow {
+    pub valid: bool,
+    pub items: Vec<Item>,
 }
 
 enum Made {
@@ -391,11 +393,11 @@ enum Made {
 /// What a row becomes: None for a null.
 type Outcome = Result<Option<Vec<Item>>, u32>;
 
-struct Call<'a> {
-    op: u32,
-    lists: Vec<Column<'a>>,
+pub struct Call<'a> {
+    pub op: u32,
+    pub lists: Vec<Column<'a>>,
     /// All that are lent.
-    arguments: Vec<Argument<'a>>,
+    pub arguments: Vec<Argument<'a>>,
 }
 
 impl Call<'_> {
@@ -510,7 +512,7 @@ impl Call<'_> {
         column.item(if one { 0 } else { row })
     }
 
-    fn made_lists(&self) -> Result<Vec<MadeRow>, u32> {
+    pub fn made_lists(&self) -> Result<Vec<MadeRow>, u32> {
         if matches!(self.op, RESIZE | RESIZE_WITHOUT_FILL) {
             self.resize_refusal()?;
         }
@@ -821,7 +823,7 @@ impl Call<'_> {
 // Results.
 
 /// The outputs of a call; a value answer has only values and row bits.
-struct Output<'a> {
+pub struct Output<'a> {
     answer: Answer,
     offsets: &'a mut [u8],
     rows: &'a mut [u8],
@@ -878,7 +880,7 @@ fn nulls(valid: &[bool]) -> u64 {
 }
 
 impl<'a> Output<'a> {
-    fn new(answer: Answer, outputs: &'a mut [&mut [u8]], counts: &'a mut [u8]) -> Self {
+    pub fn new(answer: Answer, outputs: &'a mut [&mut [u8]], counts: &'a mut [u8]) -> Self {
         let mut slices: Vec<&mut [u8]> = outputs.iter_mut().map(|slice| &mut **slice).collect();
         let order: &[usize] = match answer {
             Answer::Values => &[4, 1],
@@ -893,7 +895,7 @@ impl<'a> Output<'a> {
         Output { answer, offsets, rows, inner_offsets, inner_rows, values, elements, counts }
     }
 
-    fn refused(&mut self, number: u32) {
+    pub fn refused(&mut self, number: u32) {
         match (defect(), number) {
             ("refusal-writes-counts", 1..=9) => put(self.counts, 0, &[0; 8]),
             ("refusal-clears-outputs", 1..=9) => self.values.fill(0),
@@ -971,7 +973,7 @@ impl<'a> Output<'a> {
         (items.len() as u64, nulls)
     }
 
-    fn write_lists(&mut self, call: &Call, rows: &[MadeRow]) -> u32 {
+    pub fn write_lists(&mut self, call: &Call, rows: &[MadeRow]) -> u32 {
         let items: Vec<Item> = rows.iter().flat_map(|row| row.items.iter().copied()).collect();
         if !self.rows_fit(rows.len()) || !self.elements_fit(call, items.len()) {
             return 9;

@@ -4,6 +4,9 @@
 //!
 //! An operation is added by a variant of `Operation`, its columns and refusals, an arm of `make`
 //! or of the row functions, and the function that says what one row becomes.
+//!
+//! A recipe carries rows through these operations; it is read from the definition that document 01
+//! gives of it on rows.
 
 /// A value, or None for a null.
 pub type Element = Option<i64>;
@@ -663,5 +666,207 @@ pub fn outcome(
         Ok(result_form(&made))
     } else {
         Err(9)
+    }
+}
+
+// Recipes.
+
+/// The operations by the codes of a recipe's steps.
+pub const CODES: [Operation; 11] = [
+    Operation::Reverse,
+    Operation::Distinct,
+    Operation::PopFront,
+    Operation::PopBack,
+    Operation::Slice,
+    Operation::SliceWithoutStride,
+    Operation::Resize,
+    Operation::Replace,
+    Operation::Remove,
+    Operation::Union,
+    Operation::Intersect,
+];
+
+pub const MOST_STEPS: usize = 32;
+
+pub const MOST_COLUMNS: u32 = 8;
+
+/// A recipe as it is lent: the numbers of its steps, how many argument columns there are, its two
+/// lists, and the one slice in which all its argument columns lie.
+#[derive(Clone, Copy)]
+pub struct Recipe<'a> {
+    pub numbers: &'a [u32],
+    pub columns: u32,
+    pub lists: &'a [ListColumn],
+    pub arguments: &'a ArgumentColumn,
+}
+
+/// What a recipe shows: its steps, what both lists show, and its argument columns.
+#[derive(Clone, Debug)]
+pub struct RecipeShown {
+    pub steps: Vec<[u32; 4]>,
+    pub lists: [Vec<Row>; 2],
+    pub columns: Vec<Vec<Element>>,
+}
+
+/// A way in which a recipe is malformed.
+#[derive(Clone, Copy, PartialEq, Eq, Debug)]
+pub enum Malformed {
+    Length,
+    Steps,
+    Code,
+    Columns,
+    AbsentColumn,
+    UnusedNumber,
+}
+
+/// Where a step writes.
+#[derive(Clone, Copy, PartialEq, Eq, Debug)]
+pub enum Place {
+    TrayOne,
+    TrayTwo,
+    Output,
+}
+
+/// The refusal of a recipe; the step that it comes from, counted from 1, or 0 where it comes before
+/// the steps or there are none; and the place that is too short, if it is 9.
+#[derive(Clone, Copy, PartialEq, Eq, Debug)]
+pub struct RecipeRefusal {
+    pub number: Refusal,
+    pub step: usize,
+    pub place: Option<Place>,
+}
+
+/// Every way in which a recipe is malformed: length not a multiple of 4, over 32 steps, code over
+/// 10, over eight columns, a used column that isn't there, an unused number not 0.
+pub fn malformed(numbers: &[u32], columns: u32) -> Vec<Malformed> {
+    let mut ways = Vec::new();
+    let mut add = |holds: bool, way: Malformed| ways.extend(holds.then_some(way));
+    let steps: Vec<&[u32]> = numbers.chunks_exact(4).collect();
+    let split = |step: &[u32]| {
+        let used = CODES.get(step[0] as usize).map(|operation| operation.roles().len());
+        used.map(|used| (step[1..1 + used].to_vec(), step[1 + used..].to_vec()))
+    };
+    let split: Vec<_> = steps.iter().filter_map(|step| split(step)).collect();
+    add(numbers.len() % 4 != 0, Malformed::Length);
+    add(steps.len() > MOST_STEPS, Malformed::Steps);
+    add(steps.iter().any(|step| step[0] > 10), Malformed::Code);
+    add(columns > MOST_COLUMNS, Malformed::Columns);
+    let absent = split.iter().any(|(used, _)| used.iter().any(|number| *number >= columns));
+    add(absent, Malformed::AbsentColumn);
+    let unused = split.iter().any(|(_, unused)| unused.iter().any(|number| *number != 0));
+    add(unused, Malformed::UnusedNumber);
+    ways
+}
+
+/// The refusal of a recipe's columns, of which the argument columns are one: 1, then 2, then 3,
+/// where row counts differ or the arguments' length is not columns times rows.
+pub fn recipe_column_refusal(recipe: &Recipe) -> Option<Refusal> {
+    let (lists, arguments) = (recipe.lists, recipe.arguments);
+    if lists.iter().any(has_bad_offsets) {
+        return Some(1);
+    }
+    let short_arguments = is_too_short(&arguments.bits, arguments.values.len());
+    if lists.iter().any(has_short_bitmap) || short_arguments {
+        return Some(2);
+    }
+    let rows = lists[0].offsets.len() - 1;
+    let unequal = lists[1].offsets.len() - 1 != rows;
+    if unequal || arguments.values.len() as u128 != u128::from(recipe.columns) * rows as u128 {
+        return Some(3);
+    }
+    None
+}
+
+/// What a well-formed recipe shows whose columns are not refused.
+pub fn recipe_shown(recipe: &Recipe) -> RecipeShown {
+    let rows = shown_rows(&recipe.lists[0]);
+    let arguments = shown_arguments(recipe.arguments);
+    let column = |number: usize| arguments[number * rows.len()..][..rows.len()].to_vec();
+    RecipeShown {
+        steps: recipe.numbers.chunks(4).map(|step| [step[0], step[1], step[2], step[3]]).collect(),
+        columns: (0..recipe.columns as usize).map(column).collect(),
+        lists: [rows, shown_rows(&recipe.lists[1])],
+    }
+}
+
+/// Steps 1, 3, 5.. write tray one, 2, 4, 6.. tray two, the last the output.
+pub fn place_of_step(step: usize, steps: usize) -> Place {
+    if step == steps {
+        Place::Output
+    } else if step % 2 == 1 {
+        Place::TrayOne
+    } else {
+        Place::TrayTwo
+    }
+}
+
+/// What a step makes of the carried rows, or what its operation refuses after 3 and before 9.
+pub fn step_made(shown: &RecipeShown, step: &[u32; 4], carried: &[Row]) -> Result<Made, Refusal> {
+    let operation = CODES[step[0] as usize];
+    let mut lists = vec![carried.to_vec()];
+    if matches!(operation, Operation::Union | Operation::Intersect) {
+        lists.push(shown.lists[1].clone());
+    }
+    let used = &step[1..1 + operation.roles().len()];
+    let arguments = used.iter().map(|number| shown.columns[*number as usize].clone()).collect();
+    make(operation, &Shown { lists, arguments })
+}
+
+/// Carries rows from step to step, and gives those that the last one makes. The result form of what
+/// each step makes must fit the place that it writes.
+pub fn carry(
+    shown: &RecipeShown,
+    mut fits: impl FnMut(Place, &[u64]) -> bool,
+) -> Result<Vec<Row>, RecipeRefusal> {
+    let mut carried = shown.lists[0].clone();
+    let steps = shown.steps.len();
+    for (at, step) in shown.steps.iter().enumerate() {
+        let place = place_of_step(at + 1, steps);
+        let refusal = |number, place| RecipeRefusal { number, step: at + 1, place };
+        let made = step_made(shown, step, &carried).map_err(|number| refusal(number, None))?;
+        let too_short = refusal(9, Some(place));
+        carried = match made {
+            _ if !fits(place, &slots_needed(&made)) => return Err(too_short),
+            Made::Lists(rows) => rows,
+            _ => return Err(too_short),
+        };
+    }
+    if steps == 0 && !fits(Place::Output, &list_slots(carried.len() as u128, elements_in(&carried)))
+    {
+        return Err(RecipeRefusal { number: 9, step: 0, place: Some(Place::Output) });
+    }
+    Ok(carried)
+}
+
+/// The refusal of a recipe before its steps: 10 before all else, then 1, 2, 3.
+pub fn refusal_before_steps(recipe: &Recipe) -> Option<Refusal> {
+    if malformed(recipe.numbers, recipe.columns).is_empty() {
+        recipe_column_refusal(recipe)
+    } else {
+        Some(10)
+    }
+}
+
+/// The whole call of a recipe, with this many slots in tray one, tray two and the output: what is
+/// written into the output, or the refusal.
+pub fn recipe_outcome(recipe: &Recipe, room: [&[u64]; 3]) -> Result<ResultForm, RecipeRefusal> {
+    if let Some(number) = refusal_before_steps(recipe) {
+        return Err(RecipeRefusal { number, step: 0, place: None });
+    }
+    let fits = |place: Place, needed: &[u64]| {
+        needed.iter().zip(room[place as usize]).all(|(needed, lent)| needed <= lent)
+    };
+    carry(&recipe_shown(recipe), fits).map(|rows| list_form(&rows))
+}
+
+/// An accepted call adds 1 to the first count, a refused one to the second, unless that count
+/// stands at its largest value.
+pub fn tally_after(tally: [u64; 2], accepted: bool) -> [u64; 2] {
+    let [finished, refused] = tally;
+    let one_more = |count: u64| if count == u64::MAX { count } else { count + 1 };
+    if accepted {
+        [one_more(finished), refused]
+    } else {
+        [finished, one_more(refused)]
     }
 }

@@ -1,9 +1,11 @@
 //! The same calls in plain safe Rust, with the signatures of the entries: the baseline of the
-//! benchmark. It reads and writes numbers in place, as arrays of bytes, and allocates nothing. One
-//! walk over the rows counts what an operation makes of them, a second one writes it.
+//! benchmark. One walk over the rows counts what an operation makes of them, a second one writes
+//! it; nothing is allocated. The operations are written over numbers held in any way; the entries
+//! here read and write them in place, as arrays of bytes, and those of `decoded.rs` as integers.
 
 use crate::library::Library;
 use std::collections::HashSet;
+use std::hash::Hash;
 
 pub const LIBRARY: Library = Library {
     list: Some(list),
@@ -12,6 +14,7 @@ pub const LIBRARY: Library = Library {
     lists: Some(lists),
     list_with: Some(list_with),
     list_repeat: Some(list_repeat),
+    recipe: Some(recipe),
 };
 
 type Bytes4 = [u8; 4];
@@ -31,8 +34,55 @@ const INTERSECT: u32 = 10;
 const RESIZE_WITHOUT_FILL: u32 = 11;
 /// Distinct with a set on the heap, for the benchmark; no entry takes this code.
 const DISTINCT_BY_SET: u32 = 100;
+/// What a recipe of no steps does; no entry takes this code.
+const COPY: u32 = 101;
 
 const MOST_ELEMENTS: u64 = 2147483647;
+
+// Numbers.
+
+/// An offset as a column holds it.
+pub trait Offset: Copy {
+    fn of(number: i32) -> Self;
+    fn number(self) -> i32;
+}
+
+/// A value as a column holds it; the default is 0.
+pub trait Value: Copy + Default + Eq + Hash {
+    fn number(self) -> i64;
+}
+
+impl Offset for Bytes4 {
+    fn of(number: i32) -> Self {
+        number.to_le_bytes()
+    }
+
+    fn number(self) -> i32 {
+        i32::from_le_bytes(self)
+    }
+}
+
+impl Offset for i32 {
+    fn of(number: i32) -> Self {
+        number
+    }
+
+    fn number(self) -> i32 {
+        self
+    }
+}
+
+impl Value for Bytes8 {
+    fn number(self) -> i64 {
+        i64::from_le_bytes(self)
+    }
+}
+
+impl Value for i64 {
+    fn number(self) -> i64 {
+        self
+    }
+}
 
 // Columns.
 
@@ -44,23 +94,26 @@ fn too_short(bitmap: &[u8], positions: usize) -> bool {
     !bitmap.is_empty() && bitmap.len() < positions.div_ceil(8)
 }
 
-/// A list column, its numbers still as bytes.
+/// A list column.
 #[derive(Clone, Copy)]
-struct Column<'a> {
-    offsets: &'a [Bytes4],
-    rows: &'a [u8],
-    values: &'a [Bytes8],
-    elements: &'a [u8],
+pub struct Column<'a, O, V> {
+    pub offsets: &'a [O],
+    pub rows: &'a [u8],
+    pub values: &'a [V],
+    pub elements: &'a [u8],
 }
 
-impl<'a> Column<'a> {
-    fn new([offsets, rows, values, elements]: [&'a [u8]; 4]) -> Self {
+impl<'a> Column<'a, Bytes4, Bytes8> {
+    /// Its numbers still as bytes.
+    fn in_place([offsets, rows, values, elements]: [&'a [u8]; 4]) -> Self {
         let (offsets, values) = (offsets.as_chunks().0, values.as_chunks().0);
         Column { offsets, rows, values, elements }
     }
+}
 
+impl<'a, O: Offset, V: Value> Column<'a, O, V> {
     fn offset(&self, row: usize) -> i32 {
-        i32::from_le_bytes(self.offsets[row])
+        self.offsets[row].number()
     }
 
     fn row_count(&self) -> usize {
@@ -70,7 +123,7 @@ impl<'a> Column<'a> {
     fn bad_offsets(&self) -> bool {
         let mut previous = 0;
         for offset in self.offsets {
-            let offset = i32::from_le_bytes(*offset);
+            let offset = offset.number();
             if offset < previous {
                 return true;
             }
@@ -84,7 +137,7 @@ impl<'a> Column<'a> {
     }
 
     /// A row, or None for a null row.
-    fn row(&self, row: usize) -> Option<Row<'a>> {
+    fn row(&self, row: usize) -> Option<Row<'a, V>> {
         bit(self.rows, row).then(|| {
             let (start, end) = (self.offset(row) as usize, self.offset(row + 1) as usize);
             Row { values: &self.values[start..end], elements: self.elements, start }
@@ -92,28 +145,31 @@ impl<'a> Column<'a> {
     }
 }
 
-/// An argument column; one value may be used for all rows.
+/// An argument column, and where it starts in its bitmap; one value may be used for all rows.
 #[derive(Clone, Copy)]
-struct Argument<'a> {
-    values: &'a [Bytes8],
-    bits: &'a [u8],
+pub struct Argument<'a, V> {
+    pub values: &'a [V],
+    pub bits: &'a [u8],
+    pub start: usize,
 }
 
-impl<'a> Argument<'a> {
-    fn new([values, bits]: [&'a [u8]; 2]) -> Self {
-        Argument { values: values.as_chunks().0, bits }
+impl<'a> Argument<'a, Bytes8> {
+    fn in_place([values, bits]: [&'a [u8]; 2]) -> Self {
+        Argument { values: values.as_chunks().0, bits, start: 0 }
     }
+}
 
+impl<V: Value> Argument<'_, V> {
     fn short_bitmap(&self) -> bool {
         too_short(self.bits, self.values.len())
     }
 
-    fn element(&self, row: usize) -> Option<Bytes8> {
-        bit(self.bits, row).then(|| self.values[row])
+    fn element(&self, row: usize) -> Option<V> {
+        bit(self.bits, self.start + row).then(|| self.values[row])
     }
 
     fn number(&self, row: usize) -> Option<i64> {
-        self.element(row).map(i64::from_le_bytes)
+        self.element(row).map(V::number)
     }
 
     fn limit(&self, row: usize) -> Option<usize> {
@@ -124,23 +180,23 @@ impl<'a> Argument<'a> {
 
 /// The values of one row, and where they start in the element bitmap.
 #[derive(Clone, Copy)]
-struct Row<'a> {
-    values: &'a [Bytes8],
+struct Row<'a, V> {
+    values: &'a [V],
     elements: &'a [u8],
     start: usize,
 }
 
-impl<'a> Row<'a> {
+impl<'a, V: Value> Row<'a, V> {
     fn len(&self) -> usize {
         self.values.len()
     }
 
-    fn element(&self, place: usize) -> Option<Bytes8> {
+    fn element(&self, place: usize) -> Option<V> {
         bit(self.elements, self.start + place).then(|| self.values[place])
     }
 
     /// Whether an element is among those before a place.
-    fn holds(&self, end: usize, element: Option<Bytes8>) -> bool {
+    fn holds(&self, end: usize, element: Option<V>) -> bool {
         if self.elements.is_empty() {
             element.is_some_and(|value| self.values[..end].contains(&value))
         } else {
@@ -159,7 +215,7 @@ impl<'a> Row<'a> {
     }
 
     /// The first places that hold an element.
-    fn matches(self, old: Option<Bytes8>, limit: usize) -> impl Iterator<Item = usize> + 'a {
+    fn matches(self, old: Option<V>, limit: usize) -> impl Iterator<Item = usize> + 'a {
         (0..self.len()).filter(move |&place| self.element(place) == old).take(limit)
     }
 }
@@ -167,27 +223,28 @@ impl<'a> Row<'a> {
 // What an operation makes of a row.
 
 /// Takes the elements of one row after another.
-trait Sink {
+trait Sink<V> {
     /// The elements of a row at these places.
-    fn places(&mut self, row: Row, places: impl Iterator<Item = usize>);
+    fn places(&mut self, row: Row<V>, places: impl Iterator<Item = usize>);
 
     /// One element a number of times.
-    fn fill(&mut self, element: Option<Bytes8>, times: usize);
+    fn fill(&mut self, element: Option<V>, times: usize);
 }
 
 /// A list operation with its columns, of which it may take fewer.
-struct Call<'a> {
-    code: u32,
-    list: Column<'a>,
-    right: Option<Column<'a>>,
-    arguments: &'a [Argument<'a>],
+pub struct Call<'a, O, V> {
+    pub code: u32,
+    pub list: Column<'a, O, V>,
+    pub right: Option<Column<'a, O, V>>,
+    pub arguments: &'a [Argument<'a, V>],
 }
 
-impl Call<'_> {
+impl<O: Offset, V: Value> Call<'_, O, V> {
     /// Gives the elements of a row to the sink, or a refusal; None for a null row.
-    fn make(&self, at: usize, sink: &mut impl Sink) -> Option<Result<(), u32>> {
+    fn make(&self, at: usize, sink: &mut impl Sink<V>) -> Option<Result<(), u32>> {
         let row = self.list.row(at)?;
         match (self.code, self.arguments) {
+            (COPY, _) => sink.places(row, 0..row.len()),
             (REVERSE, _) => sink.places(row, (0..row.len()).rev()),
             (DISTINCT, _) => sink.places(row, row.first_occurrences()),
             (DISTINCT_BY_SET, _) => sink.places(row, row.first_occurrences_by_set()),
@@ -278,7 +335,7 @@ impl Call<'_> {
         }
     }
 
-    fn resized_elements(&self, count: &Argument) -> Result<usize, u32> {
+    fn resized_elements(&self, count: &Argument<V>) -> Result<usize, u32> {
         let mut sum = 0u64;
         for row in 0..self.list.row_count() {
             let Some(count) = count.number(row).filter(|_| bit(self.list.rows, row)) else {
@@ -325,7 +382,13 @@ fn slice_plan(length: usize, from: i64, to: i64, stride: i64) -> Result<SlicePla
     }
 }
 
-fn slice(row: Row, from: i64, to: i64, stride: i64, sink: &mut impl Sink) -> Result<(), u32> {
+fn slice<V: Value>(
+    row: Row<V>,
+    from: i64,
+    to: i64,
+    stride: i64,
+    sink: &mut impl Sink<V>,
+) -> Result<(), u32> {
     let SlicePlan { start, stride, count } = slice_plan(row.len(), from, to, stride)?;
     if stride == 1 {
         sink.places(row, start as usize..start as usize + count);
@@ -335,7 +398,7 @@ fn slice(row: Row, from: i64, to: i64, stride: i64, sink: &mut impl Sink) -> Res
     Ok(())
 }
 
-fn resize(row: Row, count: i64, fill: Option<Bytes8>, sink: &mut impl Sink) {
+fn resize<V: Value>(row: Row<V>, count: i64, fill: Option<V>, sink: &mut impl Sink<V>) {
     let count = count as usize;
     let kept = count.min(row.len());
     sink.places(row, 0..kept);
@@ -343,11 +406,11 @@ fn resize(row: Row, count: i64, fill: Option<Bytes8>, sink: &mut impl Sink) {
 }
 
 /// The row with an element, or nothing, in the place of each match.
-fn exchange(
-    row: Row,
+fn exchange<V: Value>(
+    row: Row<V>,
     matches: impl Iterator<Item = usize>,
-    new: Option<Option<Bytes8>>,
-    sink: &mut impl Sink,
+    new: Option<Option<V>>,
+    sink: &mut impl Sink<V>,
 ) {
     let mut rest = 0;
     for place in matches {
@@ -364,15 +427,15 @@ struct Counter {
     elements: usize,
 }
 
-impl Sink for Counter {
-    fn places(&mut self, _: Row, places: impl Iterator<Item = usize>) {
+impl<V> Sink<V> for Counter {
+    fn places(&mut self, _: Row<V>, places: impl Iterator<Item = usize>) {
         self.elements += match places.size_hint() {
             (least, Some(most)) if least == most => least,
             _ => places.count(),
         };
     }
 
-    fn fill(&mut self, _: Option<Bytes8>, times: usize) {
+    fn fill(&mut self, _: Option<V>, times: usize) {
         self.elements += times;
     }
 }
@@ -437,47 +500,41 @@ impl<'a> BitWriter<'a> {
     }
 }
 
-fn write_counts(counts: &mut [u8], numbers: &[u64]) {
-    for (slot, number) in counts.as_chunks_mut().0.iter_mut().zip(numbers) {
-        *slot = number.to_le_bytes();
-    }
-}
-
 /// Offsets from 0 and row bits, written row by row.
-struct RowWriter<'a> {
-    offsets: &'a mut [Bytes4],
+struct RowWriter<'a, O> {
+    offsets: &'a mut [O],
     bits: BitWriter<'a>,
     rows: usize,
 }
 
-impl<'a> RowWriter<'a> {
-    fn new(offsets: &'a mut [Bytes4], bits: &'a mut [u8]) -> Self {
-        offsets[0] = [0; 4];
+impl<'a, O: Offset> RowWriter<'a, O> {
+    fn new(offsets: &'a mut [O], bits: &'a mut [u8]) -> Self {
+        offsets[0] = O::of(0);
         RowWriter { offsets, bits: BitWriter::new(bits), rows: 0 }
     }
 
     fn push(&mut self, valid: bool, end: usize) {
         self.bits.push(std::iter::once(valid));
         self.rows += 1;
-        self.offsets[self.rows] = (end as i32).to_le_bytes();
+        self.offsets[self.rows] = O::of(end as i32);
     }
 }
 
 /// Values and their bits, written element by element.
-struct ElementWriter<'a> {
-    values: &'a mut [Bytes8],
+struct ElementWriter<'a, V> {
+    values: &'a mut [V],
     bits: BitWriter<'a>,
     elements: usize,
 }
 
-impl<'a> ElementWriter<'a> {
-    fn new(values: &'a mut [Bytes8], bits: &'a mut [u8]) -> Self {
+impl<'a, V> ElementWriter<'a, V> {
+    fn new(values: &'a mut [V], bits: &'a mut [u8]) -> Self {
         ElementWriter { values, bits: BitWriter::new(bits), elements: 0 }
     }
 }
 
-impl Sink for ElementWriter<'_> {
-    fn places(&mut self, row: Row, places: impl Iterator<Item = usize>) {
+impl<V: Value> Sink<V> for ElementWriter<'_, V> {
+    fn places(&mut self, row: Row<V>, places: impl Iterator<Item = usize>) {
         let slots = self.values[self.elements..].iter_mut();
         let mut written = 0;
         if row.elements.is_empty() {
@@ -497,7 +554,7 @@ impl Sink for ElementWriter<'_> {
         self.elements += written;
     }
 
-    fn fill(&mut self, element: Option<Bytes8>, times: usize) {
+    fn fill(&mut self, element: Option<V>, times: usize) {
         let end = self.elements + times;
         self.values[self.elements..end].fill(element.unwrap_or_default());
         match element {
@@ -508,188 +565,96 @@ impl Sink for ElementWriter<'_> {
     }
 }
 
+/// The room for a list answer.
+pub struct Lists<'a, O, V> {
+    pub offsets: &'a mut [O],
+    pub rows: &'a mut [u8],
+    pub values: &'a mut [V],
+    pub elements: &'a mut [u8],
+}
+
+/// The room for the outer rows of a list-of-lists answer.
+pub struct Outer<'a, O> {
+    pub offsets: &'a mut [O],
+    pub rows: &'a mut [u8],
+}
+
 /// Whether offsets and row bits, or values and element bits, are long enough.
-fn rows_fit(offsets: &[Bytes4], bits: &[u8], rows: usize) -> bool {
+fn rows_fit<O>(offsets: &[O], bits: &[u8], rows: usize) -> bool {
     rows < offsets.len() && rows.div_ceil(8) <= bits.len()
 }
 
-fn elements_fit(values: &[Bytes8], bits: &[u8], elements: usize) -> bool {
+fn elements_fit<V>(values: &[V], bits: &[u8], elements: usize) -> bool {
     elements <= values.len() && elements.div_ceil(8) <= bits.len()
 }
 
-/// Writes the rows that a list operation makes.
-fn write_lists(call: &Call, outputs: [&mut [u8]; 4], counts: &mut [u8]) -> u32 {
-    if let Some(number) = call.refusal() {
-        return number;
-    }
+/// Writes the rows that a list operation makes, and gives the counts or the refusal.
+pub fn write_lists<O: Offset, V: Value>(
+    call: &Call<O, V>,
+    room: Lists<O, V>,
+) -> Result<[u64; 4], u32> {
+    call.refusal().map_or(Ok(()), Err)?;
+    write_rows(call, room)
+}
+
+/// The same for columns that are not refused.
+fn write_rows<O: Offset, V: Value>(
+    call: &Call<O, V>,
+    room: Lists<O, V>,
+) -> Result<[u64; 4], u32> {
     let rows = call.list.row_count();
-    let elements = match call.elements() {
-        Ok(elements) => elements,
-        Err(number) => return number,
-    };
-    let [offsets, row_bits, values, element_bits] = outputs;
-    let (offsets, values) = (offsets.as_chunks_mut().0, values.as_chunks_mut().0);
-    if !rows_fit(offsets, row_bits, rows) || !elements_fit(values, element_bits, elements) {
-        return 9;
+    let elements = call.elements()?;
+    if !rows_fit(room.offsets, room.rows, rows)
+        || !elements_fit(room.values, room.elements, elements)
+    {
+        return Err(9);
     }
-    let mut row_writer = RowWriter::new(offsets, row_bits);
-    let mut element_writer = ElementWriter::new(&mut values[..elements], element_bits);
+    let mut row_writer = RowWriter::new(room.offsets, room.rows);
+    let mut element_writer = ElementWriter::new(&mut room.values[..elements], room.elements);
     for row in 0..rows {
         let valid = call.make(row, &mut element_writer).is_some();
         row_writer.push(valid, element_writer.elements);
     }
     let (null_rows, null_elements) = (row_writer.bits.finish(), element_writer.bits.finish());
-    write_counts(counts, &[rows as u64, elements as u64, null_rows, null_elements]);
-    0
+    Ok([rows as u64, elements as u64, null_rows, null_elements])
 }
 
-/// Writes one value a row.
-fn write_values(
+/// Writes one value a row, and gives the counts or the refusal.
+fn write_values<V: Value>(
     rows: usize,
-    value: impl Fn(usize) -> Option<Bytes8>,
-    [out_values, out_rows]: [&mut [u8]; 2],
-    counts: &mut [u8],
-) -> u32 {
-    let slots = out_values.as_chunks_mut().0;
-    if !elements_fit(slots, out_rows, rows) {
-        return 9;
+    value: impl Fn(usize) -> Option<V>,
+    out_values: &mut [V],
+    out_rows: &mut [u8],
+) -> Result<[u64; 2], u32> {
+    if !elements_fit(out_values, out_rows, rows) {
+        return Err(9);
     }
     let mut bits = BitWriter::new(out_rows);
-    bits.push(slots[..rows].iter_mut().enumerate().map(|(row, slot)| {
+    bits.push(out_values[..rows].iter_mut().enumerate().map(|(row, slot)| {
         let value = value(row);
         *slot = value.unwrap_or_default();
         value.is_some()
     }));
-    write_counts(counts, &[rows as u64, bits.finish()]);
-    0
+    Ok([rows as u64, bits.finish()])
 }
 
-// Entries.
-
-/// A slice of numbers: its bytes, the bytes of a slot and the most slots.
-type Numbers = (usize, usize, usize);
-
-fn offsets_of(bytes: &[u8]) -> Numbers {
-    (bytes.len(), 4, 4097)
-}
-
-fn inner_offsets_of(bytes: &[u8]) -> Numbers {
-    (bytes.len(), 4, 16385)
-}
-
-fn values_of(bytes: &[u8]) -> Numbers {
-    (bytes.len(), 8, 16384)
-}
-
-fn row_values_of(bytes: &[u8]) -> Numbers {
-    (bytes.len(), 8, 4096)
-}
-
-/// The answer that the entry itself gives, from its slices of numbers, the bytes of the counts and
-/// those that are needed.
-fn own_answer(numbers: &[Numbers], counts: usize, needed: usize) -> Option<u32> {
-    if numbers.iter().any(|(bytes, width, _)| bytes % width != 0) || counts < needed {
-        Some(100)
-    } else if numbers.iter().any(|(bytes, width, most)| bytes / width > *most) {
-        Some(101)
-    } else {
-        None
-    }
-}
-
-pub fn list(code: u32, list: [&[u8]; 4], outputs: [&mut [u8]; 4], counts: &mut [u8]) -> u32 {
-    if code > POP_BACK {
-        return 102;
-    }
-    let numbers =
-        [offsets_of(list[0]), values_of(list[2]), offsets_of(outputs[0]), values_of(outputs[2])];
-    if let Some(number) = own_answer(&numbers, counts.len(), 32) {
-        return number;
-    }
-    let call = Call { code, list: Column::new(list), right: None, arguments: &[] };
-    write_lists(&call, outputs, counts)
-}
-
-/// Distinct with a set on the heap, for the benchmark.
-pub fn distinct_by_set(
-    _: u32,
-    list: [&[u8]; 4],
-    outputs: [&mut [u8]; 4],
-    counts: &mut [u8],
-) -> u32 {
-    let list = Column::new(list);
-    let call = Call { code: DISTINCT_BY_SET, list, right: None, arguments: &[] };
-    write_lists(&call, outputs, counts)
-}
-
-pub fn lists(code: u32, inputs: [&[u8]; 8], outputs: [&mut [u8]; 4], counts: &mut [u8]) -> u32 {
-    if code != UNION && code != INTERSECT {
-        return 102;
-    }
-    let [l0, l1, l2, l3, r0, r1, r2, r3] = inputs;
-    let numbers = [
-        offsets_of(l0),
-        values_of(l2),
-        offsets_of(r0),
-        values_of(r2),
-        offsets_of(outputs[0]),
-        values_of(outputs[2]),
-    ];
-    if let Some(number) = own_answer(&numbers, counts.len(), 32) {
-        return number;
-    }
-    let (list, right) = (Column::new([l0, l1, l2, l3]), Column::new([r0, r1, r2, r3]));
-    write_lists(&Call { code, list, right: Some(right), arguments: &[] }, outputs, counts)
-}
-
-pub fn list_with(
-    code: u32,
-    inputs: [&[u8]; 10],
-    outputs: [&mut [u8]; 4],
-    counts: &mut [u8],
-) -> u32 {
-    let taken = match code {
-        SLICE | REPLACE => 3,
-        SLICE_WITHOUT_STRIDE | RESIZE | REMOVE => 2,
-        RESIZE_WITHOUT_FILL => 1,
-        _ => return 102,
-    };
-    let [offsets, rows, values, elements, first, b1, second, b2, third, b3] = inputs;
-    let numbers = [
-        offsets_of(offsets),
-        values_of(values),
-        row_values_of(first),
-        row_values_of(second),
-        row_values_of(third),
-        offsets_of(outputs[0]),
-        values_of(outputs[2]),
-    ];
-    if let Some(number) = own_answer(&numbers, counts.len(), 32) {
-        return number;
-    }
-    let list = Column::new([offsets, rows, values, elements]);
-    let arguments = [[first, b1], [second, b2], [third, b3]];
-    let arguments = &arguments.map(Argument::new)[..taken];
-    write_lists(&Call { code, list, right: None, arguments }, outputs, counts)
-}
-
-pub fn any_value(list: [&[u8]; 4], outputs: [&mut [u8]; 2], counts: &mut [u8]) -> u32 {
-    let numbers = [offsets_of(list[0]), values_of(list[2]), row_values_of(outputs[0])];
-    if let Some(number) = own_answer(&numbers, counts.len(), 16) {
-        return number;
-    }
-    let column = Column::new(list);
+/// The first valid element of each row.
+pub fn write_any_values<O: Offset, V: Value>(
+    column: Column<O, V>,
+    out_values: &mut [V],
+    out_rows: &mut [u8],
+) -> Result<[u64; 2], u32> {
     if column.bad_offsets() {
-        return 1;
+        return Err(1);
     }
     if column.short_bitmap() {
-        return 2;
+        return Err(2);
     }
     let value = |at| {
         let row = column.row(at)?;
         (0..row.len()).find_map(|place| row.element(place))
     };
-    write_values(column.row_count(), value, outputs, counts)
+    write_values(column.row_count(), value, out_values, out_rows)
 }
 
 /// The place that an index names in a row of this length.
@@ -704,45 +669,43 @@ fn place_of(length: usize, index: i32) -> Option<usize> {
     }
 }
 
-pub fn element(inputs: [&[u8]; 6], outputs: [&mut [u8]; 2], counts: &mut [u8]) -> u32 {
-    let [offsets, rows, values, elements, indexes, index_bits] = inputs;
-    let numbers =
-        [offsets_of(offsets), values_of(values), row_values_of(indexes), row_values_of(outputs[0])];
-    if let Some(number) = own_answer(&numbers, counts.len(), 16) {
-        return number;
-    }
-    let column = Column::new([offsets, rows, values, elements]);
-    let indexes = Argument::new([indexes, index_bits]);
+/// The element of each row that its index names.
+pub fn write_elements<O: Offset, V: Value>(
+    column: Column<O, V>,
+    indexes: Argument<V>,
+    out_values: &mut [V],
+    out_rows: &mut [u8],
+) -> Result<[u64; 2], u32> {
     if column.bad_offsets() {
-        return 1;
+        return Err(1);
     }
     if column.short_bitmap() || indexes.short_bitmap() {
-        return 2;
+        return Err(2);
     }
     let rows = column.row_count();
     if indexes.values.len() != rows {
-        return 3;
+        return Err(3);
     }
-    let index = |row: usize| i64::from_le_bytes(indexes.values[row]);
-    let both_valid = |row: usize| bit(column.rows, row) && bit(index_bits, row);
-    if (0..rows).any(|row| both_valid(row) && i32::try_from(index(row)).is_err()) {
-        return 4;
+    let both_valid = |row: usize| bit(column.rows, row) && bit(indexes.bits, row);
+    let fits = |row: usize| i32::try_from(indexes.values[row].number()).is_ok();
+    if (0..rows).any(|row| both_valid(row) && !fits(row)) {
+        return Err(4);
     }
     let value = |at| {
         let row = column.row(at)?;
         let index = indexes.number(at)? as i32;
         row.element(place_of(row.len(), index)?)
     };
-    write_values(rows, value, outputs, counts)
+    write_values(rows, value, out_values, out_rows)
 }
 
 /// How often a list is repeated, or None for a null count.
-fn repeat_count(times: Argument, row: usize) -> Option<u64> {
+fn repeat_count<V: Value>(times: Argument<V>, row: usize) -> Option<u64> {
     times.number(row).map(|times| times.max(0) as u64)
 }
 
 /// The lists in all outer rows, and the values in them; each stops at its largest value.
-fn repeated(column: Column, times: Argument) -> (u64, u64) {
+fn repeated<O: Offset, V: Value>(column: Column<O, V>, times: Argument<V>) -> (u64, u64) {
     let (mut inner_rows, mut elements) = (0u64, 0u64);
     for row in 0..column.row_count() {
         let times = repeat_count(times, row).unwrap_or(0);
@@ -753,58 +716,37 @@ fn repeated(column: Column, times: Argument) -> (u64, u64) {
     (inner_rows, elements)
 }
 
-pub fn list_repeat(inputs: [&[u8]; 6], outputs: [&mut [u8]; 6], counts: &mut [u8]) -> u32 {
-    let [offsets, rows, values, elements, times, times_bits] = inputs;
-    let numbers = [
-        offsets_of(offsets),
-        values_of(values),
-        row_values_of(times),
-        offsets_of(outputs[0]),
-        inner_offsets_of(outputs[2]),
-        values_of(outputs[4]),
-    ];
-    if let Some(number) = own_answer(&numbers, counts.len(), 48) {
-        return number;
-    }
-    let column = Column::new([offsets, rows, values, elements]);
-    let times = Argument::new([times, times_bits]);
+/// Each list as many times as its count says, as the lists of an outer row.
+pub fn write_repeated<O: Offset, V: Value>(
+    column: Column<O, V>,
+    times: Argument<V>,
+    outer: Outer<O>,
+    inner: Lists<O, V>,
+) -> Result<[u64; 6], u32> {
     if column.bad_offsets() {
-        return 1;
+        return Err(1);
     }
     if column.short_bitmap() || times.short_bitmap() {
-        return 2;
+        return Err(2);
     }
-    if times.values.len() != column.row_count() {
-        return 3;
+    let rows = column.row_count();
+    if times.values.len() != rows {
+        return Err(3);
     }
     let (inner_rows, elements) = repeated(column, times);
     if inner_rows > MOST_ELEMENTS || elements > MOST_ELEMENTS {
-        return 8;
+        return Err(8);
     }
-    write_repeated(column, times, inner_rows as usize, elements as usize, outputs, counts)
-}
-
-fn write_repeated(
-    column: Column,
-    times: Argument,
-    inner_rows: usize,
-    elements: usize,
-    outputs: [&mut [u8]; 6],
-    counts: &mut [u8],
-) -> u32 {
-    let rows = column.row_count();
-    let [offsets, row_bits, inner_offsets, inner_bits, values, element_bits] = outputs;
-    let (offsets, inner_offsets) = (offsets.as_chunks_mut().0, inner_offsets.as_chunks_mut().0);
-    let values = values.as_chunks_mut().0;
-    if !rows_fit(offsets, row_bits, rows)
-        || !rows_fit(inner_offsets, inner_bits, inner_rows)
-        || !elements_fit(values, element_bits, elements)
+    if !rows_fit(outer.offsets, outer.rows, rows)
+        || !rows_fit(inner.offsets, inner.rows, inner_rows as usize)
+        || !elements_fit(inner.values, inner.elements, elements as usize)
     {
-        return 9;
+        return Err(9);
     }
-    let mut outer = RowWriter::new(offsets, row_bits);
-    let mut inner = RowWriter::new(inner_offsets, inner_bits);
-    let mut element_writer = ElementWriter::new(&mut values[..elements], element_bits);
+    let mut outer = RowWriter::new(outer.offsets, outer.rows);
+    let mut lists = RowWriter::new(inner.offsets, inner.rows);
+    let slots = &mut inner.values[..elements as usize];
+    let mut element_writer = ElementWriter::new(slots, inner.elements);
     for at in 0..rows {
         let times = repeat_count(times, at);
         let row = column.row(at);
@@ -812,13 +754,440 @@ fn write_repeated(
             if let Some(row) = row {
                 element_writer.places(row, 0..row.len());
             }
-            inner.push(row.is_some(), element_writer.elements);
+            lists.push(row.is_some(), element_writer.elements);
         }
-        outer.push(times.is_some(), inner.rows);
+        outer.push(times.is_some(), lists.rows);
     }
     let null_rows = outer.bits.finish();
-    let (null_inner_rows, null_elements) = (inner.bits.finish(), element_writer.bits.finish());
-    let (rows, elements, inner_rows) = (rows as u64, elements as u64, inner_rows as u64);
-    write_counts(counts, &[rows, elements, null_rows, null_elements, inner_rows, null_inner_rows]);
-    0
+    let (null_inner_rows, null_elements) = (lists.bits.finish(), element_writer.bits.finish());
+    Ok([rows as u64, elements, null_rows, null_elements, inner_rows, null_inner_rows])
+}
+
+// What an entry itself refuses, by the sizes of its slices.
+
+pub const MOST_OFFSETS: usize = 4097;
+pub const MOST_INNER_OFFSETS: usize = 16385;
+pub const MOST_VALUES: usize = 16384;
+pub const MOST_ROWS: usize = 4096;
+
+/// A slice of numbers: its bytes, the bytes of a slot and the most slots.
+type Numbers = (usize, usize, usize);
+
+fn offsets_of(bytes: &[u8]) -> Numbers {
+    (bytes.len(), 4, MOST_OFFSETS)
+}
+
+fn inner_offsets_of(bytes: &[u8]) -> Numbers {
+    (bytes.len(), 4, MOST_INNER_OFFSETS)
+}
+
+fn values_of(bytes: &[u8]) -> Numbers {
+    (bytes.len(), 8, MOST_VALUES)
+}
+
+fn row_values_of(bytes: &[u8]) -> Numbers {
+    (bytes.len(), 8, MOST_ROWS)
+}
+
+/// From the slices of numbers, the bytes of the counts and those that are needed.
+fn check_sizes(numbers: &[Numbers], counts: &[u8], needed: usize) -> Result<(), u32> {
+    if numbers.iter().any(|(bytes, width, _)| bytes % width != 0) || counts.len() < needed {
+        Err(100)
+    } else if numbers.iter().any(|(bytes, width, most)| bytes / width > *most) {
+        Err(101)
+    } else {
+        Ok(())
+    }
+}
+
+type Inputs<'a, 'b, const N: usize> = &'a [&'b [u8]; N];
+type Outputs<'a, 'b, const N: usize> = &'a [&'b mut [u8]; N];
+
+pub fn check_list(
+    code: u32,
+    inputs: Inputs<4>,
+    outputs: Outputs<4>,
+    counts: &[u8],
+) -> Result<(), u32> {
+    if code > POP_BACK {
+        return Err(102);
+    }
+    let numbers = [
+        offsets_of(inputs[0]),
+        values_of(inputs[2]),
+        offsets_of(outputs[0]),
+        values_of(outputs[2]),
+    ];
+    check_sizes(&numbers, counts, 32)
+}
+
+pub fn check_lists(
+    code: u32,
+    inputs: Inputs<8>,
+    outputs: Outputs<4>,
+    counts: &[u8],
+) -> Result<(), u32> {
+    if code != UNION && code != INTERSECT {
+        return Err(102);
+    }
+    let numbers = [
+        offsets_of(inputs[0]),
+        values_of(inputs[2]),
+        offsets_of(inputs[4]),
+        values_of(inputs[6]),
+        offsets_of(outputs[0]),
+        values_of(outputs[2]),
+    ];
+    check_sizes(&numbers, counts, 32)
+}
+
+/// Gives the number of argument columns that the operation takes.
+pub fn check_list_with(
+    code: u32,
+    inputs: Inputs<10>,
+    outputs: Outputs<4>,
+    counts: &[u8],
+) -> Result<usize, u32> {
+    let taken = match code {
+        SLICE | REPLACE => 3,
+        SLICE_WITHOUT_STRIDE | RESIZE | REMOVE => 2,
+        RESIZE_WITHOUT_FILL => 1,
+        _ => return Err(102),
+    };
+    let numbers = [
+        offsets_of(inputs[0]),
+        values_of(inputs[2]),
+        row_values_of(inputs[4]),
+        row_values_of(inputs[6]),
+        row_values_of(inputs[8]),
+        offsets_of(outputs[0]),
+        values_of(outputs[2]),
+    ];
+    check_sizes(&numbers, counts, 32).map(|()| taken)
+}
+
+pub fn check_any_value(inputs: Inputs<4>, outputs: Outputs<2>, counts: &[u8]) -> Result<(), u32> {
+    let numbers = [offsets_of(inputs[0]), values_of(inputs[2]), row_values_of(outputs[0])];
+    check_sizes(&numbers, counts, 16)
+}
+
+pub fn check_element(inputs: Inputs<6>, outputs: Outputs<2>, counts: &[u8]) -> Result<(), u32> {
+    let numbers = [
+        offsets_of(inputs[0]),
+        values_of(inputs[2]),
+        row_values_of(inputs[4]),
+        row_values_of(outputs[0]),
+    ];
+    check_sizes(&numbers, counts, 16)
+}
+
+pub fn check_list_repeat(inputs: Inputs<6>, outputs: Outputs<6>, counts: &[u8]) -> Result<(), u32> {
+    let numbers = [
+        offsets_of(inputs[0]),
+        values_of(inputs[2]),
+        row_values_of(inputs[4]),
+        offsets_of(outputs[0]),
+        inner_offsets_of(outputs[2]),
+        values_of(outputs[4]),
+    ];
+    check_sizes(&numbers, counts, 48)
+}
+
+// Entries.
+
+/// What an entry returns: 0, the counts being written, or a refusal.
+pub fn answer<const N: usize>(result: Result<[u64; N], u32>, counts: &mut [u8]) -> u32 {
+    match result {
+        Ok(numbers) => {
+            for (slot, number) in counts.as_chunks_mut().0.iter_mut().zip(numbers) {
+                *slot = number.to_le_bytes();
+            }
+            0
+        }
+        Err(number) => number,
+    }
+}
+
+fn lists_in_place<'a>(
+    [offsets, rows, values, elements]: [&'a mut [u8]; 4],
+) -> Lists<'a, Bytes4, Bytes8> {
+    let (offsets, values) = (offsets.as_chunks_mut().0, values.as_chunks_mut().0);
+    Lists { offsets, rows, values, elements }
+}
+
+pub fn list(code: u32, inputs: [&[u8]; 4], outputs: [&mut [u8]; 4], counts: &mut [u8]) -> u32 {
+    let result = check_list(code, &inputs, &outputs, counts).and_then(|()| {
+        let list = Column::in_place(inputs);
+        let call = Call { code, list, right: None, arguments: &[] };
+        write_lists(&call, lists_in_place(outputs))
+    });
+    answer(result, counts)
+}
+
+/// Distinct with a set on the heap, for the benchmark.
+pub fn distinct_by_set(
+    _: u32,
+    inputs: [&[u8]; 4],
+    outputs: [&mut [u8]; 4],
+    counts: &mut [u8],
+) -> u32 {
+    let list = Column::in_place(inputs);
+    let call = Call { code: DISTINCT_BY_SET, list, right: None, arguments: &[] };
+    answer(write_lists(&call, lists_in_place(outputs)), counts)
+}
+
+pub fn lists(code: u32, inputs: [&[u8]; 8], outputs: [&mut [u8]; 4], counts: &mut [u8]) -> u32 {
+    let result = check_lists(code, &inputs, &outputs, counts).and_then(|()| {
+        let [l0, l1, l2, l3, r0, r1, r2, r3] = inputs;
+        let list = Column::in_place([l0, l1, l2, l3]);
+        let right = Some(Column::in_place([r0, r1, r2, r3]));
+        write_lists(&Call { code, list, right, arguments: &[] }, lists_in_place(outputs))
+    });
+    answer(result, counts)
+}
+
+pub fn list_with(
+    code: u32,
+    inputs: [&[u8]; 10],
+    outputs: [&mut [u8]; 4],
+    counts: &mut [u8],
+) -> u32 {
+    let result = check_list_with(code, &inputs, &outputs, counts).and_then(|taken| {
+        let [offsets, rows, values, elements, first, b1, second, b2, third, b3] = inputs;
+        let list = Column::in_place([offsets, rows, values, elements]);
+        let arguments = [[first, b1], [second, b2], [third, b3]];
+        let arguments = &arguments.map(Argument::in_place)[..taken];
+        write_lists(&Call { code, list, right: None, arguments }, lists_in_place(outputs))
+    });
+    answer(result, counts)
+}
+
+pub fn any_value(inputs: [&[u8]; 4], outputs: [&mut [u8]; 2], counts: &mut [u8]) -> u32 {
+    let result = check_any_value(&inputs, &outputs, counts).and_then(|()| {
+        let [values, rows] = outputs;
+        write_any_values(Column::in_place(inputs), values.as_chunks_mut().0, rows)
+    });
+    answer(result, counts)
+}
+
+pub fn element(inputs: [&[u8]; 6], outputs: [&mut [u8]; 2], counts: &mut [u8]) -> u32 {
+    let result = check_element(&inputs, &outputs, counts).and_then(|()| {
+        let [offsets, rows, values, elements, indexes, index_bits] = inputs;
+        let column = Column::in_place([offsets, rows, values, elements]);
+        let indexes = Argument::in_place([indexes, index_bits]);
+        let [values, rows] = outputs;
+        write_elements(column, indexes, values.as_chunks_mut().0, rows)
+    });
+    answer(result, counts)
+}
+
+pub fn list_repeat(inputs: [&[u8]; 6], outputs: [&mut [u8]; 6], counts: &mut [u8]) -> u32 {
+    let result = check_list_repeat(&inputs, &outputs, counts).and_then(|()| {
+        let [offsets, rows, values, elements, times, times_bits] = inputs;
+        let column = Column::in_place([offsets, rows, values, elements]);
+        let times = Argument::in_place([times, times_bits]);
+        let [offsets, rows, inner_offsets, inner_rows, values, elements] = outputs;
+        let outer = Outer { offsets: offsets.as_chunks_mut().0, rows };
+        let inner = lists_in_place([inner_offsets, inner_rows, values, elements]);
+        write_repeated(column, times, outer, inner)
+    });
+    answer(result, counts)
+}
+
+// Recipes.
+
+/// How many argument columns a code takes, if there is such a code.
+fn columns_taken(code: u32) -> Option<usize> {
+    match code {
+        REVERSE | DISTINCT | POP_FRONT | POP_BACK | UNION | INTERSECT => Some(0),
+        SLICE | REPLACE => Some(3),
+        SLICE_WITHOUT_STRIDE | RESIZE | REMOVE => Some(2),
+        _ => None,
+    }
+}
+
+fn step_numbers(step: &[Bytes4; 4]) -> [u32; 4] {
+    step.map(u32::from_le_bytes)
+}
+
+fn is_malformed_step(step: &[Bytes4; 4], columns: u32) -> bool {
+    let [code, numbers @ ..] = step_numbers(step);
+    let Some(taken) = columns_taken(code) else {
+        return true;
+    };
+    let (used, unused) = numbers.split_at(taken);
+    used.iter().any(|number| *number >= columns) || unused.iter().any(|number| *number != 0)
+}
+
+/// The lists and the argument columns of a recipe, of which the latter lie in one slice.
+pub struct RecipeColumns<'a, O, V> {
+    pub list: Column<'a, O, V>,
+    pub second: Column<'a, O, V>,
+    pub arguments: Argument<'a, V>,
+}
+
+impl<'a, O: Offset, V: Value> RecipeColumns<'a, O, V> {
+    fn refusal(&self, columns: u32) -> Option<u32> {
+        let RecipeColumns { list, second, arguments } = self;
+        if list.bad_offsets() || second.bad_offsets() {
+            Some(1)
+        } else if list.short_bitmap() || second.short_bitmap() || arguments.short_bitmap() {
+            Some(2)
+        } else if second.row_count() != list.row_count()
+            || arguments.values.len() != columns as usize * list.row_count()
+        {
+            Some(3)
+        } else {
+            None
+        }
+    }
+
+    fn argument(&self, number: u32) -> Argument<'a, V> {
+        let rows = self.list.row_count();
+        let start = number as usize * rows;
+        let Argument { values, bits, .. } = self.arguments;
+        Argument { values: &values[start..start + rows], bits, start }
+    }
+
+    /// Does a step on the carried rows; an unused number is 0, and its column is not looked at.
+    fn step(
+        &self,
+        step: &[Bytes4; 4],
+        list: Column<O, V>,
+        target: Lists<O, V>,
+    ) -> Result<[u64; 4], u32> {
+        let [code, numbers @ ..] = step_numbers(step);
+        let taken = columns_taken(code).unwrap_or(0);
+        let mut arguments = [Argument { values: &[], bits: &[], start: 0 }; 3];
+        for (argument, number) in arguments.iter_mut().zip(&numbers[..taken]) {
+            *argument = self.argument(*number);
+        }
+        let arguments = &arguments[..taken];
+        write_rows(&Call { code, list, right: Some(self.second), arguments }, target)
+    }
+
+    /// The rows that the step before left in a tray.
+    fn in_tray<'b>(&self, tray: &'b Lists<O, V>) -> Column<'b, O, V> {
+        let offsets = &tray.offsets[..self.list.offsets.len()];
+        Column { offsets, rows: tray.rows, values: tray.values, elements: tray.elements }
+    }
+}
+
+fn reborrow<'a, O, V>(tray: &'a mut Lists<O, V>) -> Lists<'a, O, V> {
+    let Lists { offsets, rows, values, elements } = tray;
+    Lists { offsets, rows, values, elements }
+}
+
+/// Goes through the steps; the last one writes the output.
+fn run_steps<O: Offset, V: Value>(
+    columns: &RecipeColumns<O, V>,
+    steps: &[[Bytes4; 4]],
+    [mut one, mut two]: [Lists<O, V>; 2],
+    output: Lists<O, V>,
+) -> Result<[u64; 4], u32> {
+    let Some((last, others)) = steps.split_last() else {
+        let copy = Call { code: COPY, list: columns.list, right: None, arguments: &[] };
+        return write_rows(&copy, output);
+    };
+    for (at, step) in others.iter().enumerate() {
+        match at {
+            0 => columns.step(step, columns.list, reborrow(&mut one))?,
+            _ if at % 2 == 0 => columns.step(step, columns.in_tray(&two), reborrow(&mut one))?,
+            _ => columns.step(step, columns.in_tray(&one), reborrow(&mut two))?,
+        };
+    }
+    let list = match others.len() {
+        0 => columns.list,
+        done if done % 2 == 0 => columns.in_tray(&two),
+        _ => columns.in_tray(&one),
+    };
+    columns.step(last, list, output)
+}
+
+/// The whole recipe but for the answers of the entry, the trays' zeros and the tally.
+pub fn run_recipe<O: Offset, V: Value>(
+    columns: u32,
+    numbers: &[u8],
+    lent: &RecipeColumns<O, V>,
+    trays: [Lists<O, V>; 2],
+    output: Lists<O, V>,
+) -> Result<[u64; 4], u32> {
+    let numbers: &[Bytes4] = numbers.as_chunks().0;
+    let (steps, rest) = numbers.as_chunks();
+    let malformed = |step: &[Bytes4; 4]| is_malformed_step(step, columns);
+    if !rest.is_empty() || steps.len() > 32 || columns > 8 || steps.iter().any(malformed) {
+        return Err(10);
+    }
+    lent.refusal(columns).map_or(Ok(()), Err)?;
+    run_steps(lent, steps, trays, output)
+}
+
+pub const MOST_NUMBERS: usize = 1024;
+pub const MOST_ARGUMENTS: usize = 32768;
+
+pub fn check_recipe(
+    inputs: Inputs<11>,
+    outputs: Outputs<13>,
+    counts: &[u8],
+) -> Result<(), u32> {
+    let numbers = [
+        (inputs[0].len(), 4, MOST_NUMBERS),
+        offsets_of(inputs[1]),
+        values_of(inputs[3]),
+        offsets_of(inputs[5]),
+        values_of(inputs[7]),
+        (inputs[9].len(), 8, MOST_ARGUMENTS),
+        offsets_of(outputs[0]),
+        values_of(outputs[2]),
+        offsets_of(outputs[4]),
+        values_of(outputs[6]),
+        offsets_of(outputs[8]),
+        values_of(outputs[10]),
+    ];
+    if outputs[12].len() < 16 {
+        return Err(100);
+    }
+    check_sizes(&numbers, counts, 32)
+}
+
+fn add_to_tally(tally: &mut [u8], finished: bool) {
+    let count = &mut tally.as_chunks_mut::<8>().0[usize::from(!finished)];
+    *count = u64::from_le_bytes(*count).saturating_add(1).to_le_bytes();
+}
+
+/// A recipe as its entry answers it, given what runs it on the trays and the output.
+pub fn recipe_by(
+    inputs: [&[u8]; 11],
+    mut outputs: [&mut [u8]; 13],
+    counts: &mut [u8],
+    run: impl FnOnce([&[u8]; 11], [&mut [u8]; 12]) -> Result<[u64; 4], u32>,
+) -> u32 {
+    let checked = check_recipe(&inputs, &outputs, counts);
+    let [written @ .., tally] = &mut outputs;
+    let result = checked.and_then(|()| {
+        let result = run(inputs, written.each_mut().map(|slice| &mut **slice));
+        add_to_tally(tally, result.is_ok());
+        result
+    });
+    outputs[..8].iter_mut().for_each(|slice| slice.fill(0));
+    answer(result, counts)
+}
+
+pub fn recipe(
+    columns: u32,
+    inputs: [&[u8]; 11],
+    outputs: [&mut [u8]; 13],
+    counts: &mut [u8],
+) -> u32 {
+    recipe_by(inputs, outputs, counts, |inputs, outputs| {
+        let [numbers, l0, l1, l2, l3, s0, s1, s2, s3, arguments, argument_bits] = inputs;
+        let [o0, o1, o2, o3, t0, t1, t2, t3, r0, r1, r2, r3] = outputs;
+        let lent = RecipeColumns {
+            list: Column::in_place([l0, l1, l2, l3]),
+            second: Column::in_place([s0, s1, s2, s3]),
+            arguments: Argument::in_place([arguments, argument_bits]),
+        };
+        let trays = [[o0, o1, o2, o3], [t0, t1, t2, t3]].map(lists_in_place);
+        run_recipe(columns, numbers, &lent, trays, lists_in_place([r0, r1, r2, r3]))
+    })
 }

@@ -10,8 +10,9 @@ pub use crate::mock::LIBRARY;
 #[cfg(not(mock))]
 use crate::library::Library;
 
-/// The safe function of an entry: the code, if it takes one, then the names of its input slices,
-/// then those of its output slices; the counts come last.
+/// The safe function of an entry: the code, if it takes one, or the number of columns, then the
+/// names of its input slices, then those of its output slices; the counts come last, and only the
+/// tally behind them.
 #[cfg(not(mock))]
 macro_rules! entry {
     (list) => {
@@ -44,11 +45,24 @@ macro_rules! entry {
             [offsets rows values elements times times_bits]
             [out_offsets out_rows inner_offsets inner_rows out_values out_elements] }
     };
-    ($name:ident = $symbol:ident ($($code:ident)?) [$($input:ident)+] [$($output:ident)+]) => {
+    (recipe) => {
+        entry! { recipe = duthlan_recipe (columns)
+            [numbers offsets rows values elements
+             second_offsets second_rows second_values second_elements arguments argument_bits]
+            [one_offsets one_rows one_values one_elements
+             two_offsets two_rows two_values two_elements
+             out_offsets out_rows out_values out_elements]
+            tally }
+    };
+    ($name:ident = $symbol:ident ($($code:ident)?)
+        [$($input:ident)+] [$($output:ident)+] $($tally:ident)?) => {
         fn $name(
             $($code: u32,)?
             [$($input),+]: [&[u8]; [$(stringify!($input)),+].len()],
-            [$($output),+]: [&mut [u8]; [$(stringify!($output)),+].len()],
+            [$($output,)+ $($tally)?]: [
+                &mut [u8];
+                [$(stringify!($output),)+ $(stringify!($tally))?].len()
+            ],
             counts: &mut [u8],
         ) -> u32 {
             extern "C" {
@@ -57,6 +71,7 @@ macro_rules! entry {
                     $($input: *const u8, _: usize,)+
                     $($output: *mut u8, _: usize,)+
                     counts: *mut u8, _: usize,
+                    $($tally: *mut u8, _: usize,)?
                 ) -> u32;
             }
             // Sound: each pointer and length come from one slice, and no mutable slice overlaps
@@ -67,6 +82,7 @@ macro_rules! entry {
                     $($input.as_ptr(), $input.len(),)+
                     $($output.as_mut_ptr(), $output.len(),)+
                     counts.as_mut_ptr(), counts.len(),
+                    $($tally.as_mut_ptr(), $tally.len(),)?
                 )
             }
         }
@@ -96,4 +112,5 @@ archive! {
     lists
     list_with
     list_repeat
+    recipe
 }

@@ -5,7 +5,8 @@
 //! row that lies over values.
 
 use crate::compare::{Checker, Observed};
-use crate::entry::{encode_i32, encode_i64, Entry, Input};
+use crate::entry::{encode_i32, encode_i64, Case as LentCase, Entry, Expected, Input};
+use crate::entry::{TALLY, TALLY_BYTES};
 use crate::generate::{lend, Room};
 use crate::model::{ArgumentColumn, ListColumn, Operation};
 use crate::rng::Rng;
@@ -133,7 +134,7 @@ fn argument_column(text: &str) -> ArgumentColumn {
 }
 
 fn refused(number: u32) -> Observed {
-    Observed { number, counts: Vec::new(), written: Vec::new() }
+    Observed { number, counts: Vec::new(), written: Vec::new(), tally: None }
 }
 
 /// The answer that an entry with so many outputs gives for these rows, or `refusal n`.
@@ -163,7 +164,7 @@ fn result(text: &str, outputs: usize) -> Observed {
         }
         _ => panic!("an entry has two, four or six outputs"),
     };
-    Observed { number: 0, counts, written }
+    Observed { number: 0, counts, written, tally: None }
 }
 
 // The cases.
@@ -412,7 +413,7 @@ fn worked(
     arguments.resize_with(entry.arguments(), untaken);
     Worked {
         name: format!("{} ({name})", entry.name()),
-        input: Input { entry, lists, arguments },
+        input: Input { entry, numbers: Vec::new(), lists, arguments },
         result: result(wanted, entry.outputs().len()),
     }
 }
@@ -521,6 +522,7 @@ fn laid_out_cases() -> Vec<Worked> {
 fn case_o() -> Worked {
     let input = Input {
         entry: Entry::ListRepeat,
+        numbers: Vec::new(),
         lists: vec![list(&[0, 2, 3], &[0b10], &[8, 8, 4], &[])],
         arguments: vec![argument(&[1, 2], &[])],
     };
@@ -532,7 +534,7 @@ fn case_o() -> Worked {
         encode_i64(&[4, 4]),
         vec![0b11],
     ];
-    let result = Observed { number: 0, counts: vec![2, 2, 0, 0, 3, 1], written };
+    let result = Observed { number: 0, counts: vec![2, 2, 0, 0, 3, 1], written, tally: None };
     Worked { name: "O, as bytes".to_string(), input, result }
 }
 
@@ -548,5 +550,256 @@ pub fn cases(checker: &mut Checker, _entry: Entry, rng: &mut Rng, _calls: u64) {
             let observed = checker.check(&case);
             checker.require(observed == worked.result, &case, &worked.name);
         }
+    }
+}
+
+// Recipes.
+
+/// What it is; the steps; the two lists; the argument columns; the result.
+type RecipeCase =
+    (&'static str, &'static [[u32; 4]], [&'static str; 2], &'static [&'static str], &'static str);
+
+const REVERSE: [u32; 4] = [0, 0, 0, 0];
+const DISTINCT: [u32; 4] = [1, 0, 0, 0];
+const POP_FRONT: [u32; 4] = [2, 0, 0, 0];
+const POP_BACK: [u32; 4] = [3, 0, 0, 0];
+const UNION: [u32; 4] = [9, 0, 0, 0];
+const INTERSECT: [u32; 4] = [10, 0, 0, 0];
+
+/// [10,20,30,40] beside an empty row.
+const T: [&str; 2] = ["[10,20,30,40]", "[]"];
+
+/// Recipes that go through; what is carried is written behind each.
+const OF_STEPS: &[RecipeCase] = &[
+    ("no steps", &[], ["null(8,8), [4,-], []", "[], [], []"], &[], "null, [4,-], []"),
+    ("no steps, no rows", &[], ["", ""], &["", ""], ""),
+    // [40,30,20,10]
+    ("reverse, pop front", &[REVERSE, POP_FRONT], T, &[], "[30,20,10]"),
+    // [10,20,30], [10,20]
+    ("three times pop back", &[POP_BACK, POP_BACK, POP_BACK], T, &[], "[10]"),
+    ("once pop back", &[POP_BACK], T, &[], "[10,20,30]"),
+    // [40,20]
+    ("H, then reverse", &[[4, 2, 0, 1], REVERSE], T, &["1", "-2", "4"], "[20,40]"),
+    ("from and to in one column", &[[5, 0, 0, 0]], T, &["2"], "[20]"),
+    // [2,1,5,-], then the longer is walked: [1,5,-]
+    (
+        "C, what is common, reverse",
+        &[UNION, INTERSECT, REVERSE],
+        ["[2,1,2]", "[1,5,-]"],
+        &[],
+        "[-,5,1]",
+    ),
+    // [2,9,1] has more elements than [2,1]: it is walked
+    ("distinct, E", &[DISTINCT, INTERSECT], ["[1,2,1,2]", "[2,9,1]"], &[], "[2,1]"),
+    ("walked before distinct", &[INTERSECT], ["[1,2,1,2]", "[2,9,1]"], &[], "[1,2]"),
+    // [1,2,-,-], [1,2,5,-]
+    (
+        "L, null by 5 once, without 5",
+        &[[6, 0, 1, 0], [7, 1, 2, 3], [8, 2, 3, 0]],
+        ["[1,2]", "[]"],
+        &["4", "-", "5", "1"],
+        "[1,2,-]",
+    ),
+    // []; stride 0 is not looked at in an empty row
+    (
+        "I, then stride 0 over nothing",
+        &[[5, 0, 1, 0], [4, 0, 2, 3]],
+        T,
+        &["1", "0", "2", "0"],
+        "[]",
+    ),
+    // null; a negative count is not looked at beside a null row
+    ("null, then count -1", &[[8, 0, 1, 0], [6, 2, 0, 0]], T, &["-", "1", "-1"], "null"),
+    // null, [4]
+    (
+        "null over 8,8",
+        &[REVERSE, UNION, REVERSE],
+        ["null(8,8), [4]", "[1], [4,5]"],
+        &[],
+        "null, [5,4]",
+    ),
+    ("second row null", &[REVERSE, UNION], ["[1], [2]", "null(7), [3]"], &[], "null, [2,3]"),
+    // Column 0 is 2, 3 and column 1 is 1, 3.
+    (
+        "two rows, two columns",
+        &[[5, 1, 0, 0]],
+        ["[10,20,30], [1,2,3]", "[], []"],
+        &["2, 3", "1, 3"],
+        "[10,20], [3]",
+    ),
+    (
+        "two rows, nulls in the second column",
+        &[[6, 0, 1, 0], REVERSE],
+        ["[1], [2]", "[], []"],
+        &["2, 2", "-, 9"],
+        "[-,1], [9,2]",
+    ),
+    (
+        "32 times pop back",
+        &[POP_BACK; 32],
+        ["[5,7,7,7,7,7,7,7,7,7,7,7,7,7,7,7,7,7,7,7,7,7,7,7,7,7,7,7,7,7,7,7,7]", "[]"],
+        &[],
+        "[5]",
+    ),
+    ("eight columns", &[[8, 7, 6, 0]], T, &["0", "0", "0", "0", "0", "0", "1", "20"], "[10,30,40]"),
+];
+
+/// Recipes that are refused.
+const OF_REFUSED_STEPS: &[RecipeCase] = &[
+    ("J at step 2", &[REVERSE, [4, 0, 1, 2]], T, &["1", "2", "0"], "refusal 5"),
+    (
+        "to beyond at step 3",
+        &[REVERSE, REVERSE, [5, 0, 1, 0]],
+        T,
+        &["1", "2147483648"],
+        "refusal 4",
+    ),
+    ("stride beyond at step 1", &[[4, 0, 0, 1], REVERSE], T, &["1", "2147483648"], "refusal 6"),
+    ("-1 at step 2", &[POP_FRONT, [6, 0, 0, 0]], T, &["-1"], "refusal 7"),
+    ("2147483648 at step 2", &[POP_FRONT, [6, 0, 0, 0]], T, &["2147483648"], "refusal 8"),
+    ("2147483647 into a tray", &[[6, 0, 0, 0], POP_BACK], T, &["2147483647"], "refusal 9"),
+    // The first of two steps that are refused
+    ("5 before 7", &[[4, 0, 0, 1], [6, 2, 0, 0]], T, &["1", "0", "-1"], "refusal 5"),
+    ("7 before 5", &[[6, 2, 0, 0], [4, 0, 0, 1]], T, &["1", "0", "-1"], "refusal 7"),
+    ("a number too many", &[[0, 0, 0, 1]], T, &["1", "1"], "refusal 10"),
+    ("a stride for code 5", &[[5, 0, 0, 1]], T, &["1", "1"], "refusal 10"),
+    ("resize without fill", &[[11, 0, 0, 0]], T, &["1"], "refusal 10"),
+    ("no such column", &[[8, 0, 2, 0]], T, &["1", "1"], "refusal 10"),
+    ("no columns", &[[6, 0, 0, 0]], T, &[], "refusal 10"),
+    ("nine columns", &[], T, &["1", "1", "1", "1", "1", "1", "1", "1", "1"], "refusal 10"),
+    ("33 steps", &[REVERSE; 33], T, &[], "refusal 10"),
+    ("10 behind a refused step", &[[6, 0, 0, 0], [12, 0, 0, 0]], T, &["-1"], "refusal 10"),
+    ("second list longer", &[REVERSE], ["[1]", "[1], [2]"], &[], "refusal 3"),
+    ("no second row", &[], ["[1]", ""], &[], "refusal 3"),
+];
+
+fn recipe_from_text((name, steps, lists, columns, wanted): &RecipeCase) -> Worked {
+    let columns: Vec<Vec<Item>> = columns.iter().map(|text| parse(text)).collect();
+    let items = columns.concat();
+    let entry = Entry::Recipe(columns.len() as u32);
+    Worked {
+        name: format!("recipe ({name})"),
+        input: Input {
+            entry,
+            numbers: steps.concat(),
+            lists: lists.iter().map(|text| list_column(text)).collect(),
+            arguments: vec![argument(&numbers(&items, i64::MIN), &lent_bitmap(&items))],
+        },
+        result: result(wanted, 4),
+    }
+}
+
+/// Recipes that the notation does not give.
+fn laid_out_recipes() -> Vec<Worked> {
+    let recipe = |name: &str, columns: u32, numbers: &[u32], lists, arguments, wanted: &str| {
+        let (entry, numbers) = (Entry::Recipe(columns), numbers.to_vec());
+        Worked {
+            name: format!("recipe ({name})"),
+            input: Input { entry, numbers, lists, arguments: vec![arguments] },
+            result: result(wanted, 4),
+        }
+    };
+    let seven = || list(&[0, 1], &[], &[7], &[]);
+    let falling = || list(&[1, 0], &[], &[7], &[]);
+    let short = || list(&[0, 1], &[], &[0; 9], &[0xff]);
+    let none = || argument(&[], &[]);
+    let five = &[0, 0, 0, 0, 0];
+    vec![
+        recipe("five numbers", 0, five, vec![seven(), seven()], none(), "refusal 10"),
+        recipe("10 before 1", 0, five, vec![falling(), seven()], none(), "refusal 10"),
+        recipe("10 before 1", 9, &[], vec![seven(), falling()], none(), "refusal 10"),
+        recipe("1 of a list not used", 0, &REVERSE, vec![seven(), falling()], none(), "refusal 1"),
+        recipe("1 before 2", 0, &UNION, vec![short(), falling()], none(), "refusal 1"),
+        recipe("2 of a list not used", 0, &REVERSE, vec![seven(), short()], none(), "refusal 2"),
+        recipe(
+            "2 of all values lent",
+            1,
+            &REVERSE,
+            vec![seven(), seven()],
+            argument(&[1; 9], &[0xff]),
+            "refusal 2",
+        ),
+        recipe("3, a value more", 0, &[], vec![seven(), seven()], argument(&[1], &[]), "refusal 3"),
+        recipe("3, a value fewer", 1, &REVERSE, vec![seven(), seven()], none(), "refusal 3"),
+        recipe(
+            "offsets above 0, null over 8",
+            0,
+            &[],
+            vec![list(&[1, 2, 3], &[0b10], &[6, 8, 4], &[]), list(&[2, 2, 2], &[], &[1, 1], &[])],
+            none(),
+            "null, [4]",
+        ),
+    ]
+}
+
+/// A recipe as it lies in the slices: union, then resize to 2 with 2, of [1,-], a null row over 8,8
+/// and [4], beside [5], [6] and [4].
+fn recipe_as_bytes(tray_values: usize) -> LentCase {
+    let dirty = |bytes: usize| vec![0xaa; bytes];
+    let tray_one = [dirty(16), dirty(1), dirty(8 * tray_values), dirty(1)];
+    let tray_two = [dirty(4), dirty(0), dirty(8), dirty(2)];
+    let output = [dirty(20), dirty(1), dirty(40), dirty(1)];
+    let tally = [encode_i64(&[-1, 3]), dirty(1)].concat();
+    LentCase {
+        entry: Entry::Recipe(1),
+        inputs: vec![
+            encode_i32(&[9, 0, 0, 0, 6, 0, 0, 0]),
+            encode_i32(&[1, 3, 5, 6]),
+            vec![0b101],
+            encode_i64(&[9, 1, 2, 8, 8, 4, 9]),
+            vec![0b1111011],
+            encode_i32(&[0, 1, 2, 3]),
+            vec![],
+            encode_i64(&[5, 6, 4]),
+            vec![],
+            encode_i64(&[2, 2, 2]),
+            vec![],
+        ],
+        outputs: [&tray_one[..], &tray_two, &output, &[tally]].concat(),
+        counts: dirty(33),
+    }
+}
+
+/// The union takes four values in tray one: with four slots the recipe goes through, with three it
+/// gets 9. The count of finished recipes stands at its largest value.
+fn recipes_as_bytes() -> [(LentCase, Expected); 2] {
+    let zeros = |lengths: [usize; 8]| lengths.map(|bytes| vec![0; bytes]);
+    let result = [
+        encode_i32(&[0, 2, 2, 4]),
+        vec![0b101],
+        encode_i64(&[1, 0, 4, 2]),
+        vec![0b1101],
+        encode_i64(&[-1, 3]),
+    ];
+    let accepted = Expected {
+        number: 0,
+        written: [&zeros([16, 1, 32, 1, 4, 0, 8, 2])[..], &result].concat(),
+        counts: encode_i64(&[3, 4, 1, 1]),
+    };
+    let no_result = [vec![], vec![], vec![], vec![], encode_i64(&[-1, 4])];
+    let refused = Expected {
+        number: 9,
+        written: [&zeros([16, 1, 24, 1, 4, 0, 8, 2])[..], &no_result].concat(),
+        counts: Vec::new(),
+    };
+    [(recipe_as_bytes(4), accepted), (recipe_as_bytes(3), refused)]
+}
+
+/// Recipes before which 41 were finished and 6 refused.
+pub fn recipes(checker: &mut Checker, _entry: Entry, rng: &mut Rng, _calls: u64) {
+    let written = OF_STEPS.iter().chain(OF_REFUSED_STEPS).map(recipe_from_text);
+    for worked in written.chain(laid_out_recipes()) {
+        for room in [Room::Exact, Room::Longer(2)] {
+            let mut case = lend(&worked.input, room, rng);
+            case.outputs[TALLY][..TALLY_BYTES].copy_from_slice(&encode_i64(&[41, 6]));
+            let tally = if worked.result.number == 0 { [42, 6] } else { [41, 7] };
+            let wanted = Observed { tally: Some(tally), ..worked.result.clone() };
+            let observed = checker.check(&case);
+            checker.require(observed == wanted, &case, &worked.name);
+        }
+    }
+    for (case, wanted) in recipes_as_bytes() {
+        checker.check(&case);
+        checker.require(case.expected() == wanted, &case, "recipe (as bytes)");
     }
 }

@@ -39,6 +39,7 @@ use Rattle.args.specs.declared.Measure.{Measure}
 use Rattle.args.specs.declared.Measure.the-variants as M
 use Rattle.args.proofs.TakenLaws.{taken-own, taken-limit}
 use Rattle.args.proofs.RowLaws.{refusal-made, op-le}
+use Rattle.model.proofs.BoolLaws.{never}
 
 -- ---- one row
 
@@ -268,9 +269,6 @@ module _ (op : ListOp) (c : Column) (x y z : Arguments) (s : Served op (rowCount
       cases false h = rows-measured h
 
 -- a measure tells what the gate does
-never : {A : Type 0} → _≡_ {A = ℕ} 0 1 → A
-never e = let z : ⊥ = omega arith in absurd z
-
 pub measure-refused : {A : Type 0} (k m j : ℕ) (o : Outcome A) → measureOf (gate k (made m)) ≡ M.Refused j → gate k o ≡ refused j
 unfolding gate measureOf
 measure-refused k m j o e = cases (eqb k 0) e

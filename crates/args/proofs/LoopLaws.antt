@@ -22,6 +22,7 @@ use Rattle.args.specs.Made.{rowMadeAt, refusalAt, callRows, measureOf, l
 use Rattle.args.specs.declared.Measure.{Measure}
 use Rattle.args.specs.declared.Measure.the-variants as M
 use Rattle.args.proofs.CallLaws.{stays}
+use Rattle.model.proofs.BoolLaws.{never}
 
 -- ---- by rows: no row before r refuses
 
@@ -59,9 +60,6 @@ pub record Running (K : ℕ → RowCount) (n total r left : ℕ) : Type 0 where
 
 pub running-begun : (K : ℕ → RowCount) (n : ℕ) → Running K n 0 0 n
 running-begun K n = record { same = refl; rows = omega arith }
-
-never : {A : Type 0} → _≡_ {A = ℕ} 0 1 → A
-never e = let z : ⊥ = omega arith in absurd z
 
 is-sum : (t : Sum) (s : ℕ) → summed t ≡ M.Sum s → t ≡ sum s
 unfolding summed

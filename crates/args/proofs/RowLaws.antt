@@ -20,7 +20,7 @@ use Rattle.model.specs.Slice.{Plan, refuse, empty, places, slicePlan}
 use Rattle.index.specs.Plan as I
 use Rattle.index.specs.declared.slice.Stride.{Stride}
 use Rattle.index.specs.declared.slice.Stride.the-variants as S
-use Rattle.rows.proofs.ElementLaws.{unary-le}
+use Rattle.pairs.proofs.ElementLaws.{unary-le}
 use Rattle.rows.proofs.PlanLaws.{plan-in-row, plan-walks}
 use Rattle.rows.proofs.RowOpLaws.{length-replaced, length-removed}
 use Rattle.rows.proofs.StrideLaws.{length-sliced}

@@ -24,6 +24,7 @@ use Rattle.ops.specs.Ops.{callOf, takesOf, secondLimit, thirdLimit}
 use Rattle.ops.specs.declared.ListOp.{ListOp}
 use Rattle.ops.specs.declared.ListOp.the-variants as L
 use Rattle.args.specs.Taken.{cellOf, placeIn, takenAt, Serves, Served, shortIf, wrongIf, argumentsRefusal}
+use Rattle.model.proofs.BoolLaws.{same-number}
 
 -- ---- a cell
 
@@ -82,22 +83,8 @@ none-left false false e = (refl, refl)
 
 there-cases : (limit t : Bool) (n len : ℕ) → eqb len 1 ≡ t → not (limit && t) && not (eqb len n) ≡ false → (r : ℕ) → r < n → pick (limit && t) 0 r < len
 there-cases true true n len e h r l = let k = eqb-true len 1 e in omega arith
-there-cases true false n len e h r l = let k = same len n h in omega arith
-  where
-    same : (a b : ℕ) → not (eqb a b) ≡ false → a ≡ b
-    same a b q = go (eqb a b) refl q
-      where
-        go : (t : Bool) → eqb a b ≡ t → not t ≡ false → a ≡ b
-        go true e q = eqb-true a b e
-        go false e q = absurd (subst T q tt)
-there-cases false t n len e h r l = let k = same len n h in omega arith
-  where
-    same : (a b : ℕ) → not (eqb a b) ≡ false → a ≡ b
-    same a b q = go (eqb a b) refl q
-      where
-        go : (t : Bool) → eqb a b ≡ t → not t ≡ false → a ≡ b
-        go true e q = eqb-true a b e
-        go false e q = absurd (subst T q tt)
+there-cases true false n len e h r l = let k = same-number len n h in omega arith
+there-cases false t n len e h r l = let k = same-number len n h in omega arith
 
 served-if : (on limit : Bool) (n : ℕ) (a : Arguments) → a .bits .start < 8 → shortIf on a ≡ false → wrongIf on limit n (length (a .values)) ≡ false → on ≡ true → Serves limit n a
 unfolding shortIf wrongIf refusal2ᵃ placeIn

@@ -22,6 +22,7 @@ use Rattle.model.proofs.TabLaws.{length-map}
 use Rattle.bitmap.proofs.PackLaws.{counted-nulls}
 use Rattle.column.specs.Put.{HasRoom, Holds}
 use Rattle.column.specs.Answers.{unset, listAnswerFrom, valueAnswerFrom}
+use Rattle.model.proofs.BoolLaws.{and-true}
 
 -- ---- a refusal changes no output
 
@@ -34,10 +35,6 @@ unfolding toldValue answerOf written
 value-refused k q = rw q (record { answer = refl; values = refl; rows = refl })
 
 -- ---- room
-
-and-true : (a b : Bool) → a && b ≡ true → (a ≡ true) × (b ≡ true)
-and-true true b h = (refl, h)
-and-true false b h = absurd (subst T (sym h) tt)
 
 pub has-room : (n m lo lr lv le : ℕ) → fitsIn n m (room lo lr lv le) ≡ true → HasRoom n m lo lr lv le
 has-room n m lo lr lv le h =

@@ -15,10 +15,7 @@ use mir.Facts.{toZ-ofZ, fits-natAbs}
 use lib.ListN.{length, getD, drop, drop-of-length-le}
 use lib.Seq.{drop-cons}
 use Rattle.model.specs.Column.{count, falls, badOffsets, offsetAt}
-
-pub or-false : (a b : Bool) → a || b ≡ false → (a ≡ false) × (b ≡ false)
-or-false true b h = absurd (subst T h tt)
-or-false false b h = (refl, h)
+use Rattle.model.proofs.BoolLaws.{or-none}
 
 pub bad-nil : (l : List ℤ) (n : ℕ) → length l ≡ 0 → badOffsets l n ≡ true
 unfolding badOffsets
@@ -80,8 +77,8 @@ count-mono (negsuc a) (negsuc b) h = omega arith
 falls-mono : (o : ℤ) (os : List ℤ) (n i : ℕ) → falls o os n ≡ false → i < length os → offsetAt (o ∷ os) i ≤ offsetAt (o ∷ os) (suc i)
 unfolding falls
 falls-mono o [] n i h l = omega arith
-falls-mono o (p ∷ os) n zero h l = count-mono o p (or-false (ltZ p o) (falls p os n) h .0)
-falls-mono o (p ∷ os) n (suc i) h l = falls-mono p os n i (or-false (ltZ p o) (falls p os n) h .1) (omega arith)
+falls-mono o (p ∷ os) n zero h l = count-mono o p (or-none (ltZ p o) (falls p os n) h .0)
+falls-mono o (p ∷ os) n (suc i) h l = falls-mono p os n i (or-none (ltZ p o) (falls p os n) h .1) (omega arith)
 
 falls-top : (o : ℤ) (os : List ℤ) (n i : ℕ) → falls o os n ≡ false → i < length (o ∷ os) → offsetAt (o ∷ os) i ≤ n
 unfolding falls
@@ -89,20 +86,20 @@ falls-top o [] n zero h l = ltb-false n (count o) (count-beyond n o ∙ h)
 falls-top o [] n (suc i) h l = omega arith
 falls-top o (p ∷ os) n zero h l =
     let m : count o ≤ count p = falls-mono o (p ∷ os) n 0 h (omega arith) in
-    let t : count p ≤ n = falls-top p os n 0 (or-false (ltZ p o) (falls p os n) h .1) (omega arith) in
+    let t : count p ≤ n = falls-top p os n 0 (or-none (ltZ p o) (falls p os n) h .1) (omega arith) in
     omega arith
-falls-top o (p ∷ os) n (suc i) h l = falls-top p os n i (or-false (ltZ p o) (falls p os n) h .1) (omega arith)
+falls-top o (p ∷ os) n (suc i) h l = falls-top p os n i (or-none (ltZ p o) (falls p os n) h .1) (omega arith)
 
 -- what a check that passed tells of the offsets
 pub mono : (l : List ℤ) (n i : ℕ) → badOffsets l n ≡ false → i + 1 < length l → offsetAt l i ≤ offsetAt l (i + 1)
 unfolding badOffsets
 mono [] n i h k = omega arith
-mono (o ∷ os) n i h k = rw (add-one i) (falls-mono o os n i (or-false (ltZ o (pos 0)) (falls o os n) h .1) (omega arith))
+mono (o ∷ os) n i h k = rw (add-one i) (falls-mono o os n i (or-none (ltZ o (pos 0)) (falls o os n) h .1) (omega arith))
 
 pub top : (l : List ℤ) (n i : ℕ) → badOffsets l n ≡ false → i < length l → offsetAt l i ≤ n
 unfolding badOffsets
 top [] n i h k = omega arith
-top (o ∷ os) n i h k = falls-top o os n i (or-false (ltZ o (pos 0)) (falls o os n) h .1) k
+top (o ∷ os) n i h k = falls-top o os n i (or-none (ltZ o (pos 0)) (falls o os n) h .1) k
 
 pub some-offset : (l : List ℤ) (n : ℕ) → badOffsets l n ≡ false → 0 < length l
 unfolding badOffsets

@@ -41,6 +41,11 @@ pub elem-null : (vs : List ℤ) (eb : Bits) (i : ℕ) → validAt eb i ≡ false
 unfolding elemAt
 elem-null vs eb i h = rw h
 
+-- a bitmap of length 0
+pub elem-plain : (vs : List ℤ) (eb : Bits) (i : ℕ) → length (eb .bytes) ≡ 0 → elemAt vs eb i ≡ val (getD vs i (pos 0))
+unfolding validAt
+elem-plain vs eb i z = elem-valid vs eb i (rw z)
+
 -- ---- one row
 
 row-of : (b : Bool) (es : List Elem) → isRow (pick b (listRow es) nullRow) ≡ b

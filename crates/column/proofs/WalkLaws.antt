@@ -16,9 +16,10 @@ use Rattle.model.proofs.TabLaws.{tab-step, tab-none, length-tab}
 use Rattle.bitmap.proofs.BitLaws.{length-pushBit, length-pushBits}
 use Rattle.column.specs.Put.{Outs, outs, putRow, putRows, Readable, HasRoom, Holds}
 use Rattle.column.specs.Rows.{rowFrom, Between, RoomFor, PutsRow}
-use Rattle.column.proofs.OffsetLaws.{mono, top, or-false}
+use Rattle.column.proofs.OffsetLaws.{mono, top}
 use Rattle.column.proofs.RowLaws.{length-step, length-none}
 use Rattle.column.proofs.PutLaws.{rows-more, walked}
+use Rattle.model.proofs.BoolLaws.{or-none}
 
 -- ---- one row of a column
 
@@ -136,5 +137,5 @@ pub readable : (c : Column) → c .rows .start ≤ 7 → c .elements .start ≤ 
 unfolding columnsRefusal any refusal2
 readable c s t z =
     let n = none-cases (refusal1 c) (shortBits (c .rows) (rowCount (c .offsets)) || shortBits (c .elements) (length (c .values))) z in
-    let b = or-false (shortBits (c .rows) (rowCount (c .offsets))) (shortBits (c .elements) (length (c .values))) (n .1) in
+    let b = or-none (shortBits (c .rows) (rowCount (c .offsets))) (shortBits (c .elements) (length (c .values))) (n .1) in
     record { offsets = n .0; rows = record { small = omega arith; long = b .0 }; elements = record { small = omega arith; long = b .1 } }

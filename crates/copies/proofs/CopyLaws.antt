@@ -17,10 +17,6 @@ length-at c r a b k ea eb e =
     let E = elemAt (c .values) (c .elements) in
     rw (← row-from c r a b ea eb, elems-from (c .rows) r a b E, length-tab E a (lenFrom (c .rows) r a b)) e
 
-pub length-rows : (c : Column) → length (rowsOf c) ≡ rowCount (c .offsets)
-unfolding rowsOf
-length-rows c = length-tab (rowAt c) 0 (rowCount (c .offsets))
-
 -- the rows, counted by the code's n
 module _ (c : Column) (n : ℕ) (e : n ≡ rowCount (c .offsets)) where
   pub rows-at : tab (rowAt c) 0 n ≡ rowsOf c

@@ -182,8 +182,8 @@ fn clear_i32(slots: &mut [i32])
     }
 }
 
-// Sets every byte of a bitmap to 0.
-fn clear_u8(bytes: &mut [u8])
+// Sets every byte to 0.
+pub fn clear_u8(bytes: &mut [u8])
     ensures { λ _. ⌜ now (bytes .exit) ≡ replicate (length (now (bytes .entry))) 0 ⌝ }
 {
     let mut k: usize = 0;

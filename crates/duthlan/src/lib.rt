@@ -1,19 +1,21 @@
-// The C entries. Every parameter but `op` is a slice of bytes, a pointer and a length for C: offsets of four bytes, values of
-// eight, little-endian, and bitmaps. The answer is 0 where the call is accepted, with its counts, eight bytes each, at the front
+// The C entries. Every parameter but `op` and `columns` is a slice of bytes, a pointer and a length for C: offsets of four bytes,
+// values of eight, little-endian, and bitmaps. The answer is 0 where the call is accepted, with its counts, eight bytes each, at the front
 // of `counts`; 1 to 10 for the operation's refusals; and the entry's own, in this order: 102 for no such operation, 100 for a
 // slice of numbers that ends within one or a short `counts`, 101 for more numbers than the arrays here hold. Whatever is refused
-// changes no byte.
+// changes no byte of the outputs and the counts.
 use entries::any_value;
 use entries::element;
 use entries::list;
 use entries::two_lists;
 use entry::sizes;
 ghost use Rattle.entry.specs.Entry.{ListEntry, ValueEntry, decoded, decodedArguments, listSizes, setCall, size, unaryCall, valueSizes};
+ghost use Rattle.entry_recipe.specs.Recipe.{RecipeEntry, pairSizes, recipeSizes};
 ghost use Rattle.entry_repeat.specs.Repeat.{RepeatEntry};
 ghost use Rattle.entry_with.specs.With.{withCall};
 ghost use Rattle.model.specs.Basics.{given};
 ghost use Rattle.model.specs.Limits.{narrow};
 ghost use Rattle.model.specs.Outcome.{anyValueOutcome, elementOutcome, repeatOutcome};
+ghost use Rattle.recipe_bytes.specs.Recipe.{recipeIn};
 ghost use mathlib.Core.List.{_++_};
 
 // Reverse (op 0), distinct (1), pop front (2), pop back (3).
@@ -272,5 +274,69 @@ pub extern "C" fn duthlan_list_repeat(
         &mut oo,
         &mut io,
         &mut ov,
+    )
+}
+
+// A recipe: its numbers, four bytes each, on the first list; the second list serves union and intersect; as many argument columns as
+// `columns` says. The two trays are zero afterwards, whatever comes. The tally is two counts of eight bytes at the front of `tally`,
+// recipes finished and recipes refused; a call that the entry itself refuses is not counted, and 100 is also for a short `tally`.
+#[no_mangle]
+pub extern "C" fn duthlan_recipe(
+    columns: u32,
+    numbers: &[u8],
+    offsets: &[u8],
+    rows: &[u8],
+    values: &[u8],
+    elements: &[u8],
+    second_offsets: &[u8],
+    second_rows: &[u8],
+    second_values: &[u8],
+    second_elements: &[u8],
+    arguments: &[u8],
+    argument_bits: &[u8],
+    one_offsets: &mut [u8],
+    one_rows: &mut [u8],
+    one_values: &mut [u8],
+    one_elements: &mut [u8],
+    two_offsets: &mut [u8],
+    two_rows: &mut [u8],
+    two_values: &mut [u8],
+    two_elements: &mut [u8],
+    out_offsets: &mut [u8],
+    out_rows: &mut [u8],
+    out_values: &mut [u8],
+    out_elements: &mut [u8],
+    counts: &mut [u8],
+    tally: &mut [u8],
+) -> u32
+    ensures { λ n. ⌜ RecipeEntry (recipeIn columns numbers offsets rows values elements «second_offsets» «second_rows» «second_values» «second_elements» arguments «argument_bits») (recipeSizes (size numbers) (size arguments) ++ pairSizes (size offsets) (size values) (size «second_offsets») (size «second_values»)) n «one_offsets» «one_rows» «one_values» «one_elements» «two_offsets» «two_rows» «two_values» «two_elements» «out_offsets» «out_rows» «out_values» «out_elements» counts tally ⌝ }
+{
+    entry_recipe::enter(
+        columns,
+        numbers,
+        offsets,
+        rows,
+        values,
+        elements,
+        second_offsets,
+        second_rows,
+        second_values,
+        second_elements,
+        arguments,
+        argument_bits,
+        one_offsets,
+        one_rows,
+        one_values,
+        one_elements,
+        two_offsets,
+        two_rows,
+        two_values,
+        two_elements,
+        out_offsets,
+        out_rows,
+        out_values,
+        out_elements,
+        counts,
+        tally,
     )
 }

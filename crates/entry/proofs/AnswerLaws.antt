@@ -21,47 +21,45 @@ use Rattle.model.proofs.FormLaws.{length-offsets}
 use Rattle.wire.specs.Bytes.{bytesOf, bytesOf4, bytesOf8, bytesOfCounts}
 use Rattle.entry.specs.Entry.{ListReturns, ValueReturns, numberOf}
 use Rattle.entry.specs.Inner.{Holds, numberIn, countsIn, offsetSlots, valueSlots, slots, Ready, Sent, ValueReady, ValueSent}
+use Rattle.model.proofs.BoolLaws.{never}
 
 -- ---- an outcome's number and counts, and the bytes of what it writes
 
-number-of : {A : Type 0} (f : A → List ℕ) (x : Outcome A) → numberIn (answerOf f x) ≡ numberOf x
+pub number-of : {A : Type 0} (f : A → List ℕ) (x : Outcome A) → numberIn (answerOf f x) ≡ numberOf x
 unfolding numberIn numberOf answerOf
 number-of f (refused k) = refl
 number-of f (made a) = refl
 
-counts-of : {A : Type 0} (f : A → List ℕ) (x : Outcome A) → countsIn (answerOf f x) ≡ written f x
+pub counts-of : {A : Type 0} (f : A → List ℕ) (x : Outcome A) → countsIn (answerOf f x) ≡ written f x
 unfolding countsIn answerOf written
 counts-of f (refused k) = refl
 counts-of f (made a) = refl
 
-bytes-written : {A B : Type 0} (g : List B → List ℕ) (f : A → List B) (x : Outcome A) → g [] ≡ [] → g (written f x) ≡ written (λ a. g (f a)) x
+pub bytes-written : {A B : Type 0} (g : List B → List ℕ) (f : A → List B) (x : Outcome A) → g [] ≡ [] → g (written f x) ≡ written (λ a. g (f a)) x
 unfolding written
 bytes-written g f (refused k) h = h
 bytes-written g f (made a) h = refl
 
 -- no numbers, no bytes
-none4 : bytesOf4 [] ≡ []
+pub none4 : bytesOf4 [] ≡ []
 unfolding bytesOf flatMap
 none4 = refl
 
-none8 : bytesOf8 [] ≡ []
+pub none8 : bytesOf8 [] ≡ []
 unfolding bytesOf flatMap
 none8 = refl
 
-no-counts : bytesOfCounts [] ≡ []
+pub no-counts : bytesOfCounts [] ≡ []
 unfolding bytesOfCounts flatMap
 no-counts = refl
 
 -- ---- a result that was written over a slice is within it, and at its front
 
-within : {A : Type 0} (w d : List A) {e : List A} → e ≡ over w d → length e ≡ length d → length w ≤ length e
+pub within : {A : Type 0} (w d : List A) {e : List A} → e ≡ over w d → length e ≡ length d → length w ≤ length e
 within w d {e} h k = omega (arith, ap length h, length-append w (drop (length w) d), length-drop (length w) d)
 
-front : {A : Type 0} (g : List ℤ → List ℕ) (f : A → List ℤ) (x : Outcome A) (d : List ℤ) {e : List ℤ} (n : ℕ) → g [] ≡ [] → e ≡ over (written f x) d → n ≡ length (written f x) → g (take n e) ≡ written (λ a. g (f a)) x
+pub front : {A : Type 0} (g : List ℤ → List ℕ) (f : A → List ℤ) (x : Outcome A) (d : List ℤ) {e : List ℤ} (n : ℕ) → g [] ≡ [] → e ≡ over (written f x) d → n ≡ length (written f x) → g (take n e) ≡ written (λ a. g (f a)) x
 front g f x d n z h k = ap g (rw h (take-at (written f x) (drop (length (written f x)) d) n (sym k))) ∙ bytes-written g f x z
-
-never : {A : Type 0} → _≡_ {A = ℕ} 0 1 → A
-never e = let z : ⊥ = omega arith in absurd z
 
 -- ---- a list answer is sent
 

@@ -11,6 +11,7 @@ use lib.Seq.{length-take-le}
 use Rattle.model.specs.Basics.{pick, any, All, none, more}
 use Rattle.entry.specs.Inner.{Arrays}
 use Rattle.entry.specs.Entry.{Numbers, mostRows, listSizes, valueSizes, ragged, outsize, sizeRefusal}
+use Rattle.model.proofs.BoolLaws.{or-none}
 
 -- ---- the tests as the code joins them
 
@@ -36,11 +37,7 @@ refused-by ss n k f g h = rw (← f, ← g) h
 
 -- ---- what follows where they refuse nothing
 
-or-none : (a b : Bool) → a || b ≡ false → (a ≡ false) × (b ≡ false)
-or-none true b h = let z : _≡_ {A = ℕ} 0 1 = cc in absurd (omega arith)
-or-none false b h = (refl, h)
-
-pick-none : (b : Bool) (k n : ℕ) → 1 ≤ k → pick b k n ≡ 0 → (b ≡ false) × (n ≡ 0)
+pub pick-none : (b : Bool) (k n : ℕ) → 1 ≤ k → pick b k n ≡ 0 → (b ≡ false) × (n ≡ 0)
 pick-none true k n l h = let z : ⊥ = omega arith in absurd z
 pick-none false k n l h = (refl, h)
 

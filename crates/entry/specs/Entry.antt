@@ -15,7 +15,7 @@ use Rattle.model.specs.Form.{Room, ValueRoom, flat, formOffsets, formRows, form
 use Rattle.model.specs.Rows.{unary, setOp, onLent}
 use Rattle.model.specs.Outcome.{Outcome, refused, made, gate, listOutcome}
 use Rattle.model.specs.Call.{listCounts, valueCounts}
-use Rattle.model.specs.Contract.{Slot, after, room, valueRoom}
+use Rattle.model.specs.Contract.{Slice, after, room, valueRoom}
 use Rattle.model.specs.declared.Unary.{Unary}
 use Rattle.model.specs.declared.Unary.the-variants.{Reverse, Distinct, PopFront, PopBack}
 use Rattle.model.specs.declared.SetOp.{SetOp}
@@ -25,14 +25,14 @@ use Rattle.wire.specs.Bytes.{ints4, ints8, bytesOf4, bytesOf8, bytesOfCounts}
 -- ---- what is lent
 
 -- the column in four slices of bytes as the call begins, and the argument column in two
-abbrev pub decoded : Slot ℕ → Slot ℕ → Slot ℕ → Slot ℕ → Column
+abbrev pub decoded : Slice ℕ → Slice ℕ → Slice ℕ → Slice ℕ → Column
 decoded o r v e = column (ints4 (now (o .entry))) (from 0 (now (r .entry))) (ints8 (now (v .entry))) (from 0 (now (e .entry)))
 
-abbrev pub decodedArguments : Slot ℕ → Slot ℕ → Arguments
+abbrev pub decodedArguments : Slice ℕ → Slice ℕ → Arguments
 decodedArguments v b = arguments (ints8 (now (v .entry))) (from 0 (now (b .entry)))
 
 -- the bytes that a slice has
-abbrev pub size : Slot ℕ → ℕ
+abbrev pub size : Slice ℕ → ℕ
 size s = length (now (s .entry))
 
 -- ---- the entry's own refusals
@@ -121,15 +121,19 @@ pub record ValueReturns (x : Outcome (List Elem)) (n : ℕ) (v v′ r r′ c c�
 
 -- ---- the contracts
 
--- an entry with a list answer: f is what the operation comes to for the lengths lent in numbers, ss are the slices of numbers that
--- it reads; then the number returned, and the outputs and the counts
-abbrev pub ListEntry : Lent (Room → Outcome (List Row)) → List Numbers → ℕ → Slot ℕ → Slot ℕ → Slot ℕ → Slot ℕ → Slot ℕ → Type 0
-ListEntry f ss n o r v e c =
-    ListReturns (entered f (sizeRefusal (ss ++ listSizes (size o) (size v)) (size c) 32) (room (size o / 4) (size r) (size v / 8) (size e))) n
+-- an entry with a list answer: f is what the operation comes to for the lengths lent in numbers, k the refusal of the sizes; then
+-- the number returned, and the outputs and the counts
+abbrev pub ListAnswered : Lent (Room → Outcome (List Row)) → ℕ → ℕ → Slice ℕ → Slice ℕ → Slice ℕ → Slice ℕ → Slice ℕ → Type 0
+ListAnswered f k n o r v e c =
+    ListReturns (entered f k (room (size o / 4) (size r) (size v / 8) (size e))) n
     (now (o .entry)) (now (o .exit)) (now (r .entry)) (now (r .exit)) (now (v .entry)) (now (v .exit)) (now (e .entry)) (now (e .exit)) (now (c .entry)) (now (c .exit))
 
+-- the same, ss being the slices of numbers that the entry reads
+abbrev pub ListEntry : Lent (Room → Outcome (List Row)) → List Numbers → ℕ → Slice ℕ → Slice ℕ → Slice ℕ → Slice ℕ → Slice ℕ → Type 0
+ListEntry f ss n o r v e c = ListAnswered f (sizeRefusal (ss ++ listSizes (size o) (size v)) (size c) 32) n o r v e c
+
 -- an entry with a value answer, the same
-abbrev pub ValueEntry : Lent (ValueRoom → Outcome (List Elem)) → List Numbers → ℕ → Slot ℕ → Slot ℕ → Slot ℕ → Type 0
+abbrev pub ValueEntry : Lent (ValueRoom → Outcome (List Elem)) → List Numbers → ℕ → Slice ℕ → Slice ℕ → Slice ℕ → Type 0
 ValueEntry f ss n v r c =
     ValueReturns (entered f (sizeRefusal (ss ++ valueSizes (size v)) (size c) 16) (valueRoom (size v / 8) (size r))) n
     (now (v .entry)) (now (v .exit)) (now (r .entry)) (now (r .exit)) (now (c .entry)) (now (c .exit))

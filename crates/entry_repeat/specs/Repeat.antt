@@ -8,7 +8,7 @@ use Rattle.model.specs.Bitmap.{pack}
 use Rattle.model.specs.Form.{RepeatRoom, Outer, isOuter, outerLength, inner, flat, offsetsFrom, formOffsets, formRows, formValues, formElements}
 use Rattle.model.specs.Outcome.{Outcome}
 use Rattle.model.specs.Call.{repeatCounts}
-use Rattle.model.specs.Contract.{Slot, after, repeatRoom}
+use Rattle.model.specs.Contract.{Slice, after, repeatRoom}
 use Rattle.wire.specs.Bytes.{bytesOf4, bytesOf8, bytesOfCounts}
 use Rattle.entry.specs.Entry.{Numbers, numbers, listSizes, size, sizeRefusal, entered, numberOf}
 
@@ -36,17 +36,17 @@ pub record RepeatReturns (x : Outcome (List Outer)) (n : ℕ) (o o′ r r′ io 
   pub counts : c′ ≡ after (λ os. bytesOfCounts (repeatCounts os)) x c
 
 -- the same of slices of bytes
-abbrev pub Returned : Outcome (List Outer) → ℕ → Slot ℕ → Slot ℕ → Slot ℕ → Slot ℕ → Slot ℕ → Slot ℕ → Slot ℕ → Type 0
+abbrev pub Returned : Outcome (List Outer) → ℕ → Slice ℕ → Slice ℕ → Slice ℕ → Slice ℕ → Slice ℕ → Slice ℕ → Slice ℕ → Type 0
 Returned x n o r io ir v e c =
     RepeatReturns x n (now (o .entry)) (now (o .exit)) (now (r .entry)) (now (r .exit)) (now (io .entry)) (now (io .exit)) (now (ir .entry)) (now (ir .exit))
     (now (v .entry)) (now (v .exit)) (now (e .entry)) (now (e .exit)) (now (c .entry)) (now (c .exit))
 
 -- the lengths lent, in numbers
-abbrev pub roomIn : Slot ℕ → Slot ℕ → Slot ℕ → Slot ℕ → Slot ℕ → Slot ℕ → RepeatRoom
+abbrev pub roomIn : Slice ℕ → Slice ℕ → Slice ℕ → Slice ℕ → Slice ℕ → Slice ℕ → RepeatRoom
 roomIn o r io ir v e = repeatRoom (size o / 4) (size r) (size io / 4) (size ir) (size v / 8) (size e)
 
 -- the contract: f is what the operation comes to for the lengths lent in numbers, ss are the slices of numbers that the entry
 -- reads; then the number returned, and the outputs and the counts
-abbrev pub RepeatEntry : Lent (RepeatRoom → Outcome (List Outer)) → List Numbers → ℕ → Slot ℕ → Slot ℕ → Slot ℕ → Slot ℕ → Slot ℕ → Slot ℕ → Slot ℕ → Type 0
+abbrev pub RepeatEntry : Lent (RepeatRoom → Outcome (List Outer)) → List Numbers → ℕ → Slice ℕ → Slice ℕ → Slice ℕ → Slice ℕ → Slice ℕ → Slice ℕ → Slice ℕ → Type 0
 RepeatEntry f ss n o r io ir v e c =
     Returned (entered f (sizeRefusal (ss ++ repeatSizes (size o) (size io) (size v)) (size c) 48) (roomIn o r io ir v e)) n o r io ir v e c

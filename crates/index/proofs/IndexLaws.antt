@@ -15,13 +15,14 @@ use Rattle.model.specs.Slice.{fits, inRow}
 use Rattle.index.specs.Place.{indexPlace, indexBound, bound}
 use Rattle.index.specs.declared.Bound.{Bound}
 use Rattle.index.specs.declared.Bound.the-variants as B
-use Rattle.index.proofs.SignedLaws.{never, difference-natural, difference-below-zero, difference-not-below-zero, less-one}
+use Rattle.index.proofs.SignedLaws.{difference-natural, difference-below-zero, difference-not-below-zero, less-one}
+use Rattle.model.proofs.BoolLaws.{never-true}
 
 -- ---- does it fit
 
 pub fits-low : (z : ℤ) → ltZ z (negsuc 2147483647) ≡ true → false ≡ fits narrow z
 unfolding fits
-fits-low (pos i) t = never (sym t)
+fits-low (pos i) t = never-true (sym t)
 fits-low (negsuc i) t = let l = ltb-true 2147483647 i t in sym (lt-leb i 2147483647 l)
 
 pub fits-high : (z : ℤ) → ltZ z (negsuc 2147483647) ≡ false → leZ z (pos 2147483647) ≡ fits narrow z
@@ -73,21 +74,21 @@ pub zero-outside : (z : ℤ) (n : ℕ) → ltZ z (pos 0) ≡ false → ltZ z (po
 unfolding indexPlace bound
 zero-outside (pos zero) n t u = refl
 zero-outside (pos (suc i)) n t u = let l = ltb-true (suc i) 1 u in let e : ⊥ = omega arith in absurd e
-zero-outside (negsuc i) n t u = never t
+zero-outside (negsuc i) n t u = never-true t
 
 one-less : (i : ℕ) → ltZ (pos (suc i)) (pos 1) ≡ false → pos (suc i) -ℤ pos 1 ≡ pos i
 one-less i t = let e : suc i - 1 ≡ i = omega arith in less-one (pos (suc i)) t ∙ ap pos e
 
 pub from-first : (z n : ℤ) → ltZ z (pos 1) ≡ false → ltZ (z -ℤ pos 1) n ≡ true → B.At (z -ℤ pos 1) ≡ bound (indexPlace (count n) z)
 unfolding count indexPlace inRow bound
-from-first (pos zero) n t u = never t
+from-first (pos zero) n t u = never-true t
 from-first (pos (suc i)) (pos n) t u = let l : ltZ (pos i) (pos n) ≡ true = rw (one-less i t) at u in rw (one-less i t, l)
-from-first (pos (suc i)) (negsuc n) t u = let l : ltZ (pos i) (negsuc n) ≡ true = rw (one-less i t) at u in never (sym l)
-from-first (negsuc i) n t u = never t
+from-first (pos (suc i)) (negsuc n) t u = let l : ltZ (pos i) (negsuc n) ≡ true = rw (one-less i t) at u in never-true (sym l)
+from-first (negsuc i) n t u = never-true t
 
 pub past-last : (z n : ℤ) → T (nonNeg n) → ltZ z (pos 1) ≡ false → ltZ (z -ℤ pos 1) n ≡ false → B.Outside ≡ bound (indexPlace (count n) z)
 unfolding count indexPlace inRow bound
-past-last (pos zero) n h t u = never t
+past-last (pos zero) n h t u = never-true t
 past-last (pos (suc i)) (pos n) h t u = let l : ltZ (pos i) (pos n) ≡ false = rw (one-less i t) at u in rw l
 past-last (pos (suc i)) (negsuc n) h t u = absurd h
-past-last (negsuc i) n h t u = never t
+past-last (negsuc i) n h t u = never-true t

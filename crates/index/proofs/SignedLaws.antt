@@ -10,19 +10,17 @@ use borrow.Author.Tests.{ltb-true, ltb-false}
 use mir.Syntax.{Width}
 use mir.Val.{SFits, toZ, ofZ, hbits}
 use mir.Facts.{toZ-ofZ}
+use Rattle.model.proofs.BoolLaws.{never-true}
 
 -- a number that fits is read as it was written
 pub read-back : (w : Width) (z : ℤ) → SFits w z → toZ w (ofZ w z) ≡ z
 read-back w z f = toZ-ofZ {w = w} f
 
-pub never : {A : Type 0} → _≡_ {A = Bool} true false → A
-never e = absurd (subst T e tt)
-
 -- ---- the sign of a number
 
 pub not-below : (z : ℤ) (k : ℕ) → ltZ z (pos k) ≡ false → T (nonNeg z)
 not-below (pos i) k t = tt
-not-below (negsuc i) k t = never t
+not-below (negsuc i) k t = never-true t
 
 -- ---- the difference of two naturals, which a sum of mixed signs computes to
 
@@ -47,7 +45,7 @@ pub difference-below-zero : (a b : ℕ) → ltZ (subℕ a b) (pos 0) ≡ true �
 difference-below-zero a b = difference-cases a b (λ z. ltZ z (pos 0) ≡ true → a < b) (λ l t. l) (λ l t. let z = ltb-true (a - b) 0 t in omega arith)
 
 pub difference-not-below-zero : (a b : ℕ) → ltZ (subℕ a b) (pos 0) ≡ false → b ≤ a
-difference-not-below-zero a b = difference-cases a b (λ z. ltZ z (pos 0) ≡ false → b ≤ a) (λ l t. never t) (λ l t. l)
+difference-not-below-zero a b = difference-cases a b (λ z. ltZ z (pos 0) ≡ false → b ≤ a) (λ l t. never-true t) (λ l t. l)
 
 -- ---- sums that fit
 
@@ -59,7 +57,7 @@ sum-fits w (negsuc a) (negsuc b) f g t h = absurd h
 
 pub less-one : (z : ℤ) → ltZ z (pos 1) ≡ false → z -ℤ pos 1 ≡ pos (mag z - 1)
 less-one (pos i) t = difference-natural i 1 (ltb-false i 1 t)
-less-one (negsuc i) t = never t
+less-one (negsuc i) t = never-true t
 
 pub less-one-fits : (w : Width) (z : ℤ) → SFits w z → ltZ z (pos 1) ≡ false → SFits w (z -ℤ pos 1)
 less-one-fits w z f t = rw (less-one z t) (record { sfits = omega (arith, f .sfits) })

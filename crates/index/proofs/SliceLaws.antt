@@ -20,15 +20,16 @@ use Rattle.index.specs.Plan.{planOf, told, IsPlace, Within, Suits}
 use Rattle.index.specs.declared.Bound.{Bound}
 use Rattle.index.specs.declared.Bound.the-variants as B
 use Rattle.index.specs.declared.slice.SlicePlan.the-variants as P
-use Rattle.index.proofs.SignedLaws.{never, difference-cases, difference-natural, difference-of, difference-small, difference-below-zero, difference-not-below-zero, less-one}
+use Rattle.index.proofs.SignedLaws.{difference-cases, difference-natural, difference-of, difference-small, difference-below-zero, difference-not-below-zero, less-one}
 use Rattle.index.proofs.PlaceLaws.{count-small, from-inside, to-inside, bound-at}
+use Rattle.model.proofs.BoolLaws.{never-true}
 
 -- ---- the length of the row
 
 pub length-some : (n : ℤ) → ltZ n (pos 1) ≡ false → 0 < count n
 unfolding count
 length-some (pos n) t = ltb-false n 1 t
-length-some (negsuc n) t = never t
+length-some (negsuc n) t = never-true t
 
 pub length-none : (n : ℤ) → ltZ n (pos 1) ≡ true → count n ≡ 0
 unfolding count
@@ -59,12 +60,12 @@ from-end (negsuc i) (negsuc n) h t u = absurd h
 pub from-zero : (z : ℤ) (n : ℕ) → ltZ z (pos 0) ≡ false → ltZ z (pos 1) ≡ true → pos 0 ≡ pos (fromPlace n z)
 unfolding fromPlace
 from-zero (pos i) n t u = let l = ltb-true i 1 u in let e : 0 ≡ i - 1 = omega arith in ap pos e
-from-zero (negsuc i) n t u = never t
+from-zero (negsuc i) n t u = never-true t
 
 pub from-start : (z : ℤ) (n : ℕ) → ltZ z (pos 1) ≡ false → z -ℤ pos 1 ≡ pos (fromPlace n z)
 unfolding fromPlace
 from-start (pos i) n t = less-one (pos i) t
-from-start (negsuc i) n t = never t
+from-start (negsuc i) n t = never-true t
 
 pub from-unfit : (n : ℕ) (z : ℤ) → fits narrow z ≡ false → B.Unfit ≡ bound (fromBound narrow n z)
 unfolding fromBound bound
@@ -77,7 +78,7 @@ from-empty-row n z t e = rw (t, le-ltb (fromPlace n z) n (omega arith))
 pub from-at : (n z x : ℤ) → fits narrow z ≡ true → x ≡ pos (fromPlace (count n) z) → ltZ x n ≡ true → B.At x ≡ bound (fromBound narrow (count n) z)
 unfolding fromBound inRow bound count
 from-at (pos n) z x t e l = let h : ltb (fromPlace n z) n ≡ true = rw e at l in rw (t, h) (ap B.At e)
-from-at (negsuc n) z x t e l = let h : _≡_ {A = Bool} false true = rw e at l in never (sym h)
+from-at (negsuc n) z x t e l = let h : _≡_ {A = Bool} false true = rw e at l in never-true (sym h)
 
 pub from-past : (n z x : ℤ) → fits narrow z ≡ true → x ≡ pos (fromPlace (count n) z) → ltZ x n ≡ false → B.Outside ≡ bound (fromBound narrow (count n) z)
 unfolding fromBound inRow bound count
@@ -102,7 +103,7 @@ to-past (pos zero) (pos n) h t = let l = ltb-true (n - 1) 0 (rw (last-place n h)
 to-past (pos (suc i)) (pos n) h t =
     let l = ltb-true (n - 1) (suc i) (rw (last-place n h) at t) in
     rw (clamped-last i n (omega arith), lt-ltb (n - 1) n (omega arith)) (ap B.At (last-place n h))
-to-past (negsuc i) (pos n) h t = let u : ltZ (pos (n - 1)) (negsuc i) ≡ true = rw (last-place n h) at t in never (sym u)
+to-past (negsuc i) (pos n) h t = let u : ltZ (pos (n - 1)) (negsuc i) ≡ true = rw (last-place n h) at t in never-true (sym u)
 to-past z (negsuc n) h t = let e : ⊥ = omega arith in absurd e
 
 pub to-index : (z n : ℤ) → 0 < count n → ltZ (n -ℤ pos 1) z ≡ false → toPlace (count n) z ≡ indexPlace (count n) z
@@ -154,7 +155,7 @@ against-down (negsuc a) b (negsuc k) p q t = absurd (p .natural)
 
 pub against-up : (a b s : ℤ) → IsPlace a → IsPlace b → ltZ s (pos 0) ≡ false → ltZ b a ≡ against (count a) (count b) s
 unfolding against count
-against-up a b (negsuc k) p q t = never t
+against-up a b (negsuc k) p q t = never-true t
 against-up (pos a) (pos b) (pos k) p q t = refl
 against-up (pos a) (negsuc b) (pos k) p q t = absurd (q .natural)
 against-up (negsuc a) b (pos k) p q t = absurd (p .natural)
@@ -202,7 +203,7 @@ steps-fit (negsuc a) b s h = absurd (h .from .natural)
 
 pub divisor-some : (s : ℤ) → SFits w32 s → isZero s ≡ false → 0 < ofZ w32 s
 unfolding isZero
-divisor-some (pos zero) f z = never z
+divisor-some (pos zero) f z = never-true z
 divisor-some (pos (suc k)) f z = omega arith
 divisor-some (negsuc k) f z = omega (arith, f .sfits)
 

@@ -1,4 +1,5 @@
 // Where a 64-bit index points in a row, by signed 32-bit arithmetic. An inner crate, for the operations above it; it asks nothing of them.
+// After extract.rs of datafusion-functions-nested 55.2.0, Apache License 2.0, Apache Software Foundation; changed, see NOTICE.
 pub mod slice;
 
 ghost use Rattle.index.specs.Place.{bound, indexBound, indexPlace};

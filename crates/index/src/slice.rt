@@ -1,4 +1,5 @@
 // The places that a slice takes of a row, by signed 32-bit arithmetic.
+// After extract.rs of datafusion-functions-nested 55.2.0, Apache License 2.0, Apache Software Foundation; changed, see NOTICE.
 use crate::Bound;
 ghost use Prim.Native.Nat.{_<_};
 ghost use Rattle.index.specs.Place.{bound};

@@ -1,3 +1,2 @@
-pub mod UnaryLaws
 pub mod ValueLaws
 pub mod CallLaws

@@ -21,6 +21,8 @@ use Rattle.lists.specs.Made.{anyValueAt, anyValues, elementAtRow, elemen
 use Rattle.rows.proofs.FoundLaws.{four-at}
 use Rattle.rows.specs.Found.{fourAt}
 use Rattle.model.proofs.ColumnLaws.{length-rows, row-at, length-shown, argument-at}
+use Rattle.model.proofs.ColumnLaws.{by-row}
+use Rattle.model.proofs.OutcomeLaws.{early, two-or-on}
 
 -- ---- the calls
 
@@ -31,26 +33,6 @@ any-outcome c l = rw (map-tab anyValueOf (rowAt c) 0 (rowCount (c .offsets)))
 pub length-any : (c : Column) → length (anyValues c) ≡ rowCount (c .offsets)
 unfolding anyValues
 length-any c = length-tab (anyValueAt c) 0 (rowCount (c .offsets))
-
--- a function of row r and of its argument, from what is shown and from the columns
-by-row : {A : Type 0} (f : Row → Elem → A) (c : Column) (a : Arguments) → length (a .values) ≡ rowCount (c .offsets)
-    → tab (λ r. f (rowOf (rowsOf c) r) (argumentOf (shownBy a) r)) 0 (length (rowsOf c)) ≡ tab (λ r. f (rowAt c r) (elemAt (a .values) (a .bits) r)) 0 (rowCount (c .offsets))
-by-row f c a e = rw (length-rows c) (tab-ext _ _ 0 0 (rowCount (c .offsets)) (λ r h. rw (zero-add r, row-at c r h, argument-at a r (rw e h))))
-
--- 1 and 2, with an argument column and without one
-module _ {A : Type 0} (k : ℕ) (o : Outcome A) where
-  early : (x y z : Bool) → k ≡ pick (x || false) 1 (pick ((y || false) || false) 2 0) → (k ≡ 0 → ⊥) → gate (pick (x || false) 1 (pick ((y || false) || (z || false)) 2 0)) o ≡ refused k
-  unfolding gate
-  early true y z q h = ap refused (sym q)
-  early false true z q h = ap refused (sym q)
-  early false false z q h = absurd (h q)
-
-  two-or-on : (x y z : Bool) → k ≡ pick (x || false) 1 (pick ((y || false) || false) 2 0) → k ≡ 0 → gate (pick (x || false) 1 (pick ((y || false) || (z || false)) 2 0)) o ≡ pick z (refused 2) o
-  unfolding gate
-  two-or-on true y z q h = let n : ⊥ = omega arith in absurd n
-  two-or-on false true z q h = let n : ⊥ = omega arith in absurd n
-  two-or-on false false true q h = refl
-  two-or-on false false false q h = refl
 
 module _ (c : Column) (a : Arguments) (l : ValueRoom) where
   pub element-early : (k : ℕ) → k ≡ columnsRefusal (c ∷ []) [] → (k ≡ 0 → ⊥) → elementOutcome narrow c a l ≡ refused k

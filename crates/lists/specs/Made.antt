@@ -2,20 +2,12 @@
 use Prim.Native.Nat.{ℕ}
 use mathlib.Core.List.{List}
 use Rattle.model.specs.Basics.{tab}
-use Rattle.model.specs.Column.{Elem, Row, Column, Arguments, elemAt, rowAt, rowCount}
-use Rattle.model.specs.Elements.{unaryElems}
-use Rattle.model.specs.Rows.{onRow, anyValueOf, elementOf}
+use Rattle.model.specs.Column.{Elem, Column, Arguments, elemAt, rowAt, rowCount}
+use Rattle.model.specs.Rows.{anyValueOf, elementOf}
 use Rattle.model.specs.declared.Optional.{Optional}
 use Rattle.model.specs.declared.Optional.the-variants as O
-use Rattle.model.specs.declared.Unary.{Unary}
 use Rattle.ops.specs.declared.ListOp.{ListOp}
 use Rattle.ops.specs.declared.ListOp.the-variants as L
-
-abbrev pub unaryAt : Unary → Column → ℕ → Row
-unaryAt op c r = onRow (unaryElems op) (rowAt c r)
-
-unfoldable pub unaryRows : Unary → Column → List Row
-unaryRows op c = tab (unaryAt op c) 0 (rowCount (c .offsets))
 
 abbrev pub anyValueAt : Column → ℕ → Elem
 anyValueAt c r = anyValueOf (rowAt c r)

@@ -1,8 +1,8 @@
-// Taking out of rows: one element, the first valid one, or all but the first or the last.
-use crate::walk;
+// Taking out of rows: one element, the first valid one, a slice, or all but the first or the last.
+// After extract.rs of datafusion-functions-nested 55.2.0, Apache License 2.0, Apache Software Foundation; changed, see NOTICE.
+use crate::plain;
 use column::answers;
 use column::checks;
-use column::elements;
 use column::offsets;
 use model::ListAnswer;
 use model::Optional;
@@ -92,6 +92,7 @@ fn write_any_values(
     }
 }
 
+// The first valid element of each row.
 pub fn general_array_any_value(
     offsets: &[i32],
     rows: &[u8],
@@ -219,6 +220,7 @@ fn write_elements(
     }
 }
 
+// The element of each row that its index names.
 pub fn general_array_element(
     offsets: &[i32],
     rows: &[u8],
@@ -274,7 +276,7 @@ fn slice_by(stride: Optional) -> ListOp
     }
 }
 
-// Without a stride, its slices are not looked at.
+// The part of each row between two bounds, by a stride; without a stride, its slices are not looked at.
 pub fn general_array_slice(
     offsets: &[i32],
     rows: &[u8],
@@ -319,6 +321,7 @@ pub fn general_array_slice(
     )
 }
 
+// Each row without its first element.
 pub fn general_pop_front_list(
     offsets: &[i32],
     rows: &[u8],
@@ -331,14 +334,12 @@ pub fn general_pop_front_list(
 ) -> ListAnswer
     ensures { λ a. ⌜ ListAnswers (listOutcome narrow (unary Unary.PopFront (lent offsets rows values elements))) a «out_offsets» «out_rows» «out_values» «out_elements» ⌝ }
 {
-    walk::run(
+    plain::run(
         Unary::PopFront,
         offsets,
         rows,
-        0,
         values,
         elements,
-        0,
         out_offsets,
         out_rows,
         out_values,
@@ -346,6 +347,7 @@ pub fn general_pop_front_list(
     )
 }
 
+// Each row without its last element.
 pub fn general_pop_back_list(
     offsets: &[i32],
     rows: &[u8],
@@ -358,14 +360,12 @@ pub fn general_pop_back_list(
 ) -> ListAnswer
     ensures { λ a. ⌜ ListAnswers (listOutcome narrow (unary Unary.PopBack (lent offsets rows values elements))) a «out_offsets» «out_rows» «out_values» «out_elements» ⌝ }
 {
-    walk::run(
+    plain::run(
         Unary::PopBack,
         offsets,
         rows,
-        0,
         values,
         elements,
-        0,
         out_offsets,
         out_rows,
         out_values,

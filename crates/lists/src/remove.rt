@@ -1,4 +1,5 @@
 // Remove: each row without the first elements that match.
+// After remove.rs of datafusion-functions-nested 55.2.0, Apache License 2.0, Apache Software Foundation; changed, see NOTICE.
 use model::ListAnswer;
 use ops::ListOp;
 ghost use Rattle.model.specs.Contract.{ListAnswers, lent, lentArguments};

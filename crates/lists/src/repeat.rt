@@ -1,4 +1,5 @@
 // List-repeat: each list as many times as its count says.
+// After repeat.rs of datafusion-functions-nested 55.2.0, Apache License 2.0, Apache Software Foundation; changed, see NOTICE.
 use model::RepeatAnswer;
 ghost use Rattle.model.specs.Contract.{RepeatAnswers, lent, lentArguments};
 ghost use Rattle.model.specs.Limits.{narrow};

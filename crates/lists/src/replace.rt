@@ -1,4 +1,5 @@
 // Replace: the first matches of each row become another value.
+// After replace.rs of datafusion-functions-nested 55.2.0, Apache License 2.0, Apache Software Foundation; changed, see NOTICE.
 use model::ListAnswer;
 use ops::ListOp;
 ghost use Rattle.model.specs.Contract.{ListAnswers, lent, lentArguments};

@@ -1,4 +1,5 @@
 // Resize: each row cut, or filled up to its count.
+// After resize.rs of datafusion-functions-nested 55.2.0, Apache License 2.0, Apache Software Foundation; changed, see NOTICE.
 use model::ListAnswer;
 use model::Optional;
 use ops::ListOp;
@@ -18,7 +19,7 @@ fn resize_by(fill: Optional) -> ListOp
     }
 }
 
-// Without a fill, the slices of the default elements are not looked at.
+// Each row cut, or filled, to its count; without a fill, the slices of the default elements are not looked at.
 pub fn general_list_resize(
     offsets: &[i32],
     rows: &[u8],

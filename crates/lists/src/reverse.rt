@@ -1,13 +1,12 @@
 // Reverse: each row's elements, last first.
-use crate::walk;
-use column::elements;
+// After reverse.rs of datafusion-functions-nested 55.2.0, Apache License 2.0, Apache Software Foundation; changed, see NOTICE.
+use crate::plain;
 use model::ListAnswer;
 use model::Unary;
 ghost use Rattle.model.specs.Contract.{ListAnswers, lent};
 ghost use Rattle.model.specs.Limits.{narrow};
 ghost use Rattle.model.specs.Outcome.{listOutcome};
 ghost use Rattle.model.specs.Rows.{unary};
-ghost use mathlib.Core.List.{reverse};
 
 pub fn general_array_reverse(
     offsets: &[i32],
@@ -21,14 +20,12 @@ pub fn general_array_reverse(
 ) -> ListAnswer
     ensures { λ a. ⌜ ListAnswers (listOutcome narrow (unary Unary.Reverse (lent offsets rows values elements))) a «out_offsets» «out_rows» «out_values» «out_elements» ⌝ }
 {
-    walk::run(
+    plain::run(
         Unary::Reverse,
         offsets,
         rows,
-        0,
         values,
         elements,
-        0,
         out_offsets,
         out_rows,
         out_values,

@@ -1,10 +1,10 @@
 // Distinct, union and intersect: first occurrences, by comparing with the elements before.
-use crate::walk;
+// After set_ops.rs of datafusion-functions-nested 55.2.0, Apache License 2.0, Apache Software Foundation; changed, see NOTICE.
+use crate::plain;
 use model::ListAnswer;
 use model::SetOp;
 use model::Unary;
 ghost use Rattle.model.specs.Contract.{ListAnswers, lent};
-ghost use Rattle.model.specs.Elements.{distinct};
 ghost use Rattle.model.specs.Limits.{narrow};
 ghost use Rattle.model.specs.Outcome.{listOutcome};
 ghost use Rattle.model.specs.Rows.{setOp, unary};
@@ -21,14 +21,12 @@ pub fn general_array_distinct(
 ) -> ListAnswer
     ensures { λ a. ⌜ ListAnswers (listOutcome narrow (unary Unary.Distinct (lent offsets rows values elements))) a «out_offsets» «out_rows» «out_values» «out_elements» ⌝ }
 {
-    walk::run(
+    plain::run(
         Unary::Distinct,
         offsets,
         rows,
-        0,
         values,
         elements,
-        0,
         out_offsets,
         out_rows,
         out_values,

@@ -6,9 +6,9 @@ use mathlib.Core.Path.{_≡_, refl, ap, _∙_}
 use mathlib.Core.Bool.{Bool, true, false}
 use native.Mathlib.Nat.{zero-add}
 use lib.ListN.{length}
-use Rattle.model.specs.Basics.{pick}
+use Rattle.model.specs.Basics.{pick, tab}
 use Rattle.model.specs.Bitmap.{validAt}
-use Rattle.model.specs.Column.{nul, val, nullRow, listRow, Column, Arguments, rowCount, lengthAt, elemAt, rowAt, rowsOf, shownBy, EqualRows, EqualArguments}
+use Rattle.model.specs.Column.{Elem, nul, val, Row, nullRow, listRow, Column, Arguments, rowCount, lengthAt, elemAt, rowAt, rowsOf, shownBy, EqualRows, EqualArguments}
 use Rattle.model.specs.Rows.{rowOf, argumentOf}
 use Rattle.model.proofs.TabLaws.{tab-ext, length-tab, getD-tab}
 
@@ -52,3 +52,8 @@ length-shown a = length-tab (elemAt (a .values) (a .bits)) 0 (length (a .values)
 pub argument-at : (a : Arguments) (r : ℕ) → r < length (a .values) → argumentOf (shownBy a) r ≡ elemAt (a .values) (a .bits) r
 unfolding shownBy
 argument-at a r h = getD-tab (elemAt (a .values) (a .bits)) 0 (length (a .values)) r nul h ∙ ap (elemAt (a .values) (a .bits)) (zero-add r)
+
+-- a function of row r and of its argument, from what is shown and from the columns
+pub by-row : {A : Type 0} (f : Row → Elem → A) (c : Column) (a : Arguments) → length (a .values) ≡ rowCount (c .offsets)
+    → tab (λ r. f (rowOf (rowsOf c) r) (argumentOf (shownBy a) r)) 0 (length (rowsOf c)) ≡ tab (λ r. f (rowAt c r) (elemAt (a .values) (a .bits) r)) 0 (rowCount (c .offsets))
+by-row f c a e = rw (length-rows c) (tab-ext _ _ 0 0 (rowCount (c .offsets)) (λ r h. rw (zero-add r, row-at c r h, argument-at a r (rw e h))))

@@ -1,3 +1,4 @@
+pub mod BoolLaws
 pub mod TabLaws
 pub mod ColumnLaws
 pub mod OutcomeLaws

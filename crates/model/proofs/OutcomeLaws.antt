@@ -1,11 +1,12 @@
 -- "A list or argument column is well-formed when neither 1 nor 2 below applies to it": a call on such columns passes those two
 -- refusals.
 use Prim.Native.Nat.{ℕ}
-use mathlib.Core.Path.{_≡_, refl}
-use mathlib.Core.Bool.{Bool, false}
+use mathlib.Core.Path.{_≡_, refl, sym, ap}
+use mathlib.Core.Bool.{Bool, true, false, _||_}
 use mathlib.Core.List.{List}
+use native.Mathlib.Omega.{arith}
 use borrow.Author.Tests.{ne-eqb}
-use Rattle.model.specs.Basics.{any, All, none, more}
+use Rattle.model.specs.Basics.{pick, any, All, none, more}
 use Rattle.model.specs.Column.{Column, Arguments, refusal1, refusal2, refusal2ᵃ, WellFormed, WellFormedᵃ}
 use Rattle.model.specs.Outcome.{Outcome, refused, gate, columnsRefusal}
 
@@ -28,3 +29,18 @@ gate-open k o h = rw h
 pub gate-shut : {A : Type 0} (k : ℕ) (o : Outcome A) → (k ≡ 0 → ⊥) → gate k o ≡ refused k
 unfolding gate
 gate-shut k o h = rw (ne-eqb k 0 h)
+
+-- 1 and 2, with an argument column and without one
+module _ {A : Type 0} (k : ℕ) (o : Outcome A) where
+  pub early : (x y z : Bool) → k ≡ pick (x || false) 1 (pick ((y || false) || false) 2 0) → (k ≡ 0 → ⊥) → gate (pick (x || false) 1 (pick ((y || false) || (z || false)) 2 0)) o ≡ refused k
+  unfolding gate
+  early true y z q h = ap refused (sym q)
+  early false true z q h = ap refused (sym q)
+  early false false z q h = absurd (h q)
+
+  pub two-or-on : (x y z : Bool) → k ≡ pick (x || false) 1 (pick ((y || false) || false) 2 0) → k ≡ 0 → gate (pick (x || false) 1 (pick ((y || false) || (z || false)) 2 0)) o ≡ pick z (refused 2) o
+  unfolding gate
+  two-or-on true y z q h = let n : ⊥ = omega arith in absurd n
+  two-or-on false true z q h = let n : ⊥ = omega arith in absurd n
+  two-or-on false false true q h = refl
+  two-or-on false false false q h = refl

@@ -23,13 +23,11 @@ use Rattle.model.specs.declared.ValueAnswer.{ValueAnswer}
 use Rattle.model.specs.declared.ValueAnswer.the-variants as V′
 use Rattle.model.proofs.TabLaws.{length-map}
 use Rattle.model.proofs.FormLaws.{length-pack, length-offsets}
+use Rattle.model.proofs.BoolLaws.{never}
 
 -- the slots that were written, taken from the slice
 taken : {A : Type 0} (w d d′ : List A) (n : ℕ) → d′ ≡ over w d → n ≡ length w → take n d′ ≡ w
 taken w d d′ n e k = rw e (take-at w (drop (length w) d) n (sym k))
-
-never : {A : Type 0} → _≡_ {A = ℕ} 0 1 → A
-never e = let z : ⊥ = omega arith in absurd z
 
 -- ---- a list answer
 

@@ -84,3 +84,9 @@ tab-of f l d = map-each f l d
 
     map-each : {A B : Type 0} (f : A → B) (l : List A) (d : A) → tab (λ i. f (getD l i d)) 0 (length l) ≡ map f l
     map-each f l d = rw (← map-tab f (λ i. getD l i d) 0 (length l), all l d)
+
+-- element i of a mapped list, past its end too
+pub getD-map : {A B : Type 0} (f : A → B) (l : List A) (i : ℕ) (d : A) → getD (map f l) i (f d) ≡ f (getD l i d)
+getD-map f [] i d = refl
+getD-map f (x ∷ l) zero d = refl
+getD-map f (x ∷ l) (suc i) d = getD-map f l i d

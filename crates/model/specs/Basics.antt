@@ -17,7 +17,7 @@ unfoldable pub any : {A : Type 0} → (A → Bool) → List A → Bool
 any p [] = false
 any p (x ∷ xs) = p x || any p xs
 
--- what a call may or may not be lent
+-- what may be absent: a column that a call may do without, an operation that no code names
 pub data Lent (A : Type 0) : Type 0 where
   absent : Lent A
   given : A → Lent A

@@ -38,6 +38,7 @@ pub record Arguments : Type 0 where
 abbrev pub arguments : List ℤ → Bits → Arguments
 arguments v b = record { values = v; bits = b }
 
+-- one less than the offsets, and none of no offsets
 abbrev pub rowCount : List ℤ → ℕ
 rowCount o = length o - 1
 
@@ -46,6 +47,7 @@ unfoldable pub count : ℤ → ℕ
 count (pos n) = n
 count (negsuc n) = 0
 
+-- offset r as a count; one that is not there counts as 0 (it is refused before)
 abbrev pub offsetAt : List ℤ → ℕ → ℕ
 offsetAt o r = count (getD o r (pos 0))
 
@@ -73,12 +75,12 @@ rowsOf c = tab (rowAt c) 0 (rowCount (c .offsets))
 unfoldable pub shownBy : Arguments → List Elem
 shownBy a = tab (elemAt (a .values) (a .bits)) 0 (length (a .values))
 
--- "1 (offsets empty, first negative, any falling, or last beyond the values)": o is the offset just read and n how many values are
--- lent; some later offset is below the one before it, or the last is above n
+-- o is the offset just read and n how many values are lent: some later offset is below the one before it, or the last is above n
 unfoldable pub falls : ℤ → List ℤ → ℕ → Bool
 falls o [] n = ltZ (pos n) o
 falls o (p ∷ ps) n = ltZ p o || falls p ps n
 
+-- "1 (offsets empty, first negative, any falling, or last beyond the values)"
 unfoldable pub badOffsets : List ℤ → ℕ → Bool
 badOffsets [] n = true
 badOffsets (o ∷ os) n = ltZ o (pos 0) || falls o os n

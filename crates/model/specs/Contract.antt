@@ -22,8 +22,8 @@ use Rattle.model.specs.declared.ValueAnswer.{ValueAnswer}
 use Rattle.model.specs.declared.ValueAnswer.the-variants as V′
 
 -- a slice, at entry and at exit
-abbrev pub Slot : Type 0 → Type 0
-Slot A = Both (RefT (List A)) (RefT (List A))
+abbrev pub Slice : Type 0 → Type 0
+Slice A = Both (RefT (List A)) (RefT (List A))
 
 -- document 01's number and values for each case of an answer
 unfoldable pub told : ListAnswer → Answer
@@ -43,10 +43,10 @@ abbrev pub after : {A B : Type 0} → (A → List B) → Outcome A → List B �
 after f x d = over (written f x) d
 
 -- the column that four slices hold as the call begins
-abbrev pub lent : Slot ℤ → Slot ℕ → Slot ℤ → Slot ℕ → Column
+abbrev pub lent : Slice ℤ → Slice ℕ → Slice ℤ → Slice ℕ → Column
 lent o r v e = column (now (o .entry)) (from 0 (now (r .entry))) (now (v .entry)) (from 0 (now (e .entry)))
 
-abbrev pub lentArguments : Slot ℤ → Slot ℕ → Arguments
+abbrev pub lentArguments : Slice ℤ → Slice ℕ → Arguments
 lentArguments v b = arguments (now (v .entry)) (from 0 (now (b .entry)))
 
 -- an argument column that may be absent
@@ -54,8 +54,13 @@ unfoldable pub lentIf : Optional → Arguments → Lent Arguments
 lentIf O.Absent a = absent
 lentIf O.Lent a = given a
 
+-- the lengths of four output slices
 abbrev pub room : ℕ → ℕ → ℕ → ℕ → Room
 room o r v e = record { offsets = o; rows = r; values = v; elements = e }
+
+-- those that four slices have as the call begins
+abbrev pub roomOf : Slice ℤ → Slice ℕ → Slice ℤ → Slice ℕ → Room
+roomOf o r v e = room (length (now (o .entry))) (length (now (r .entry))) (length (now (v .entry))) (length (now (e .entry)))
 
 abbrev pub valueRoom : ℕ → ℕ → ValueRoom
 valueRoom v r = record { values = v; rows = r }
@@ -87,18 +92,18 @@ pub record RepeatMeets (x : Outcome (List Outer)) (a : RepeatAnswer) (o o′ : L
   pub elements : e′ ≡ after (λ os. formElements (flat (inner os))) x e
 
 -- the contract of a list operation: the answer and the outputs are what f gives for the lengths lent
-abbrev pub ListAnswers : (Room → Outcome (List Row)) → ListAnswer → Slot ℤ → Slot ℕ → Slot ℤ → Slot ℕ → Type 0
+abbrev pub ListAnswers : (Room → Outcome (List Row)) → ListAnswer → Slice ℤ → Slice ℕ → Slice ℤ → Slice ℕ → Type 0
 ListAnswers f a o r v e =
-    ListMeets (f (room (length (now (o .entry))) (length (now (r .entry))) (length (now (v .entry))) (length (now (e .entry))))) a
+    ListMeets (f (roomOf o r v e)) a
     (now (o .entry)) (now (o .exit)) (now (r .entry)) (now (r .exit)) (now (v .entry)) (now (v .exit)) (now (e .entry)) (now (e .exit))
 
 -- the contract of an operation that gives one value a row
-abbrev pub ValueAnswers : (ValueRoom → Outcome (List Elem)) → ValueAnswer → Slot ℤ → Slot ℕ → Type 0
+abbrev pub ValueAnswers : (ValueRoom → Outcome (List Elem)) → ValueAnswer → Slice ℤ → Slice ℕ → Type 0
 ValueAnswers f a v r =
     ValueMeets (f (valueRoom (length (now (v .entry))) (length (now (r .entry))))) a (now (v .entry)) (now (v .exit)) (now (r .entry)) (now (r .exit))
 
 -- the contract of list-repeat
-abbrev pub RepeatAnswers : (RepeatRoom → Outcome (List Outer)) → RepeatAnswer → Slot ℤ → Slot ℕ → Slot ℤ → Slot ℕ → Slot ℤ → Slot ℕ → Type 0
+abbrev pub RepeatAnswers : (RepeatRoom → Outcome (List Outer)) → RepeatAnswer → Slice ℤ → Slice ℕ → Slice ℤ → Slice ℕ → Slice ℤ → Slice ℕ → Type 0
 RepeatAnswers f a o r io ir v e =
     RepeatMeets (f (repeatRoom (length (now (o .entry))) (length (now (r .entry))) (length (now (io .entry))) (length (now (ir .entry))) (length (now (v .entry))) (length (now (e .entry))))) a
     (now (o .entry)) (now (o .exit)) (now (r .entry)) (now (r .exit)) (now (io .entry)) (now (io .exit)) (now (ir .entry)) (now (ir .exit)) (now (v .entry)) (now (v .exit)) (now (e .entry)) (now (e .exit))
@@ -110,6 +115,7 @@ pub record Zeroed (l : Room) (o : List ℤ) (r : List ℕ) (v : List ℤ) (e : L
   pub values : v ≡ replicate (l .values) (pos 0)
   pub elements : e ≡ replicate (l .elements) 0
 
-abbrev pub Clears : Slot ℤ → Slot ℕ → Slot ℤ → Slot ℕ → Type 0
+-- the same of slices that had those lengths as the call began
+abbrev pub Clears : Slice ℤ → Slice ℕ → Slice ℤ → Slice ℕ → Type 0
 Clears o r v e =
-    Zeroed (room (length (now (o .entry))) (length (now (r .entry))) (length (now (v .entry))) (length (now (e .entry)))) (now (o .exit)) (now (r .exit)) (now (v .exit)) (now (e .exit))
+    Zeroed (roomOf o r v e) (now (o .exit)) (now (r .exit)) (now (v .exit)) (now (e .exit))

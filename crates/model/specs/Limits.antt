@@ -1,4 +1,4 @@
--- What the width of the offsets decides: here 32 signed bits.
+-- What the width of the offsets decides: here 32 signed bits, for which all five numbers are one. Definitions take them as a parameter.
 use Prim.Native.Nat.{ℕ}
 
 pub record Limits : Type 0 where

@@ -11,6 +11,7 @@ use Rattle.model.specs.Form.{Room, ValueRoom, RepeatRoom, Outer, flat, f
 use Rattle.model.specs.Rows.{ListCall, onCall, listsIn, argumentsIn, rowsMade, rowOf, argumentOf, anyValueOf, elementOf, repeatOf}
 use Rattle.model.specs.Refusals.{differs, unequal, firstOf, rowsRefusal, elementRefusal, repeatRefusal}
 
+-- the number of a refusal, or what was made
 pub data Outcome (A : Type 0) : Type 0 where
   refused : ℕ → Outcome A
   made : A → Outcome A
@@ -41,21 +42,26 @@ afterThree L q l = gate (rowsRefusal L q) (fitted (rowsMade L q) l)
 unfoldable pub listShown : Limits → ListCall (List Row) (List Elem) → Room → Outcome (List Row)
 listShown L q l = gate (pick (unequal q) 3 0) (afterThree L q l)
 
+-- any-value: 9 alone
 unfoldable pub anyValueShown : List Row → ValueRoom → Outcome (List Elem)
 anyValueShown ws l = fittedValues (map anyValueOf ws) l
 
+-- the elements that the indexes name, and what refuses them
 unfoldable pub elementsMade : List Row → List Elem → List Elem
 elementsMade ws is = tab (λ r. elementOf (rowOf ws r) (argumentOf is r)) 0 (length ws)
 
 unfoldable pub elementsRefusal : Limits → List Row → List Elem → ℕ
 elementsRefusal L ws is = firstOf (tab (λ r. elementRefusal L (rowOf ws r) (argumentOf is r)) 0 (length ws))
 
+-- element: 3, then 4 by the first row that has it, then 9
 unfoldable pub elementShown : Limits → List Row → List Elem → ValueRoom → Outcome (List Elem)
 elementShown L ws is l = gate (pick (differs (length ws) is) 3 0) (gate (elementsRefusal L ws is) (fittedValues (elementsMade ws is) l))
 
+-- the outer rows
 unfoldable pub repeatsMade : List Row → List Elem → List Outer
 repeatsMade ws ns = tab (λ r. repeatOf (rowOf ws r) (argumentOf ns r)) 0 (length ws)
 
+-- list-repeat: 3, then 8, then 9
 unfoldable pub repeatShown : Limits → List Row → List Elem → RepeatRoom → Outcome (List Outer)
 repeatShown L ws ns l = gate (pick (differs (length ws) ns) 3 0) (gate (repeatRefusal L ws ns) (fittedRepeat (repeatsMade ws ns) l))
 

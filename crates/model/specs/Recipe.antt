@@ -26,6 +26,7 @@ pub record Recipe : Type 0 where
   pub numbers : List ℕ
   pub columns : ℕ
 
+-- step k, from its four numbers
 abbrev pub stepAt : List ℕ → ℕ → Step
 stepAt ns k = record { code = getD ns (4 * k) 0; first = getD ns (4 * k + 1) 0; second = getD ns (4 * k + 2) 0; third = getD ns (4 * k + 3) 0 }
 
@@ -40,7 +41,7 @@ columnsOf code = getD (0 ∷ 0 ∷ 0 ∷ 0 ∷ 3 ∷ 2 ∷ 2 ∷ 3 ∷ 2 ∷ 0 �
 unfoldable pub wrongNumber : ℕ → Bool → ℕ → Bool
 wrongNumber columns used k = pick used (leb columns k) (not (eqb k 0))
 
--- "code over 10"
+-- a step by itself: "code over 10", or one of its three numbers is wrong
 unfoldable pub wrongStep : ℕ → Step → Bool
 wrongStep columns s =
     ltb 10 (s .code)
@@ -75,7 +76,8 @@ callOf code ws rs a b c =
     ∷ [])
     code (unary Reverse ws)
 
--- "Each step takes the carried rows, its argument columns and, for codes 9 and 10, the second list's rows."
+-- "Each step takes the carried rows, its argument columns and, for codes 9 and 10, the second list's rows." Columns have as many rows as
+-- the second list rs, which 3 has made as many as the first list's.
 abbrev pub stepCall : Step → List Row → List Row → List Elem → ListCall (List Row) (List Elem)
 stepCall s ws rs es =
     callOf (s .code) ws rs (columnOf es (length rs) (s .first)) (columnOf es (length rs) (s .second)) (columnOf es (length rs) (s .third))
@@ -100,23 +102,24 @@ unfoldable pub recipeUnequal : ℕ → List Row → List Row → List Elem → B
 recipeUnequal columns ws rs es = not (eqb (length ws) (length rs)) || not (eqb (length es) (columns * length ws))
 
 -- a recipe that is not malformed, on what is shown
-unfoldable pub recipeRun : Limits → Recipe → List Row → List Row → List Elem → Room → Room → Room → Outcome (List Row)
-recipeRun L p ws rs es a b o = gate (pick (recipeUnequal (p .columns) ws rs es) 3 0) (stepped L (stepsOf (p .numbers)) ws rs es a b o)
+unfoldable pub formedRecipe : Limits → Recipe → List Row → List Row → List Elem → Room → Room → Room → Outcome (List Row)
+formedRecipe L p ws rs es a b o = gate (pick (recipeUnequal (p .columns) ws rs es) 3 0) (stepped L (stepsOf (p .numbers)) ws rs es a b o)
 
 -- "The same as a definition, on well-formed columns."
 unfoldable pub recipeShown : Limits → Recipe → List Row → List Row → List Elem → Room → Room → Room → Outcome (List Row)
-recipeShown L p ws rs es a b o = gate (pick (malformed p) 10 0) (recipeRun L p ws rs es a b o)
+recipeShown L p ws rs es a b o = gate (pick (malformed p) 10 0) (formedRecipe L p ws rs es a b o)
 
 -- "10 before all else, for a malformed recipe; then 1, 2, 3"
 unfoldable pub recipeOutcome : Limits → Recipe → Column → Column → Arguments → Room → Room → Room → Outcome (List Row)
 recipeOutcome L p c d e a b o =
-    gate (pick (malformed p) 10 0) (gate (columnsRefusal (c ∷ d ∷ []) (e ∷ [])) (recipeRun L p (rowsOf c) (rowsOf d) (shownBy e) a b o))
+    gate (pick (malformed p) 10 0) (gate (columnsRefusal (c ∷ d ∷ []) (e ∷ [])) (formedRecipe L p (rowsOf c) (rowsOf d) (shownBy e) a b o))
 
 -- "two unsigned 64-bit counts, recipes finished and recipes refused, each stopping at its largest value"
 pub record Tally : Type 0 where
   pub finished : ℕ
   pub refused : ℕ
 
+-- one more, unless the count stands at its largest value
 unfoldable pub oneMore : ℕ → ℕ
 oneMore n = pick (ltb n largest) (n + 1) n
 

@@ -30,6 +30,7 @@ differsLent n (given es) = differs n es
 unfoldable pub wrongLimit : ℕ → List Elem → Bool
 wrongLimit n ns = not (eqb (length ns) 1) && differs n ns
 
+-- 3 of an operation: of its second list and of each argument column that it is lent
 unfoldable pub unequal : ListCall (List Row) (List Elem) → Bool
 unequal (unary k ws) = false
 unequal (setOp k ls rs) = differs (length ls) rs
@@ -43,6 +44,7 @@ unfoldable pub firstOf : List ℕ → ℕ
 firstOf [] = 0
 firstOf (k ∷ ks) = orElse k (firstOf ks)
 
+-- the refusal of one row
 unfoldable pub refusalOf : Made → ℕ
 refusalOf (refuses k) = k
 refusalOf (makes w) = 0
@@ -68,6 +70,7 @@ plus a uncounted = sum a
 plus a (counted (pos n)) = pick (ltb largest (a + n)) (stopped 8) (sum (a + n))
 plus a (counted (negsuc n)) = stopped 7
 
+-- one row more, and all rows
 unfoldable pub andThen : Sum → RowCount → Sum
 andThen (stopped k) n = stopped k
 andThen (sum a) n = plus a n
@@ -81,6 +84,7 @@ unfoldable pub sumRefusal : Limits → Sum → ℕ
 sumRefusal L (stopped k) = k
 sumRefusal L (sum a) = pick (ltb (L .resized) a) 8 0
 
+-- 7 or 8 of resize, row after row, and then 8 of the whole sum
 unfoldable pub resizeRefusal : Limits → List Row → List Elem → ℕ
 resizeRefusal L ws ns = sumRefusal L (sumOf (sum 0) (tab (λ r. rowCountOf (rowOf ws r) (argumentOf ns r)) 0 (length ws)))
 

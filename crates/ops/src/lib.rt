@@ -2,8 +2,8 @@
 use index::slice::SlicePlan;
 use index::slice::Stride;
 use model::Unary;
+use pairs::distinct;
 use rows::Cell;
-use rows::distinct;
 use rows::remove;
 use rows::replace;
 use rows::resize;
@@ -230,7 +230,7 @@ pub fn is_null(op: RowOp) -> bool
 }
 
 // The number of elements that the operation makes of the n elements from element a on.
-pub fn measure_plain(
+fn measure_plain(
     op: Unary,
     values: &[i64],
     elements: &[u8],
@@ -250,7 +250,7 @@ pub fn measure_plain(
 }
 
 // Writes what the operation makes of the n elements from element a on; gives the next place.
-pub fn write_plain(
+fn write_plain(
     op: Unary,
     values: &[i64],
     elements: &[u8],

@@ -12,7 +12,7 @@ use Rattle.model.specs.Column.{Elem, Row, Column, Arguments, rowsOf, shownBy, r
 use Rattle.model.specs.Form.{Room}
 use Rattle.model.specs.Limits.{narrow}
 use Rattle.model.specs.Outcome.{Outcome, refused, gate, columnsRefusal, fitted}
-use Rattle.model.specs.Recipe.{Recipe, malformed, stepAt, stepsOf, carried, stepped, recipeUnequal, recipeRun, recipeOutcome}
+use Rattle.model.specs.Recipe.{Recipe, malformed, stepAt, stepsOf, carried, stepped, recipeUnequal, formedRecipe, recipeOutcome}
 use Rattle.model.specs.Refusals.{orElse}
 use Rattle.model.proofs.ColumnLaws.{length-rows, length-shown}
 use Rattle.model.proofs.TabLaws.{tab-step, tab-none}
@@ -38,7 +38,7 @@ unfolding gate
 none x = refl
 
 pub outcome-is : (p : Recipe) (c d : Column) (e : Arguments) (a b o : Room) → recipeOutcome narrow p c d e a b o ≡ gate (recipeRefusal p c d e) (stepped narrow (stepsOf (p .numbers)) (rowsOf c) (rowsOf d) (shownBy e) a b o)
-unfolding recipeOutcome recipeRun recipeRefusal
+unfolding recipeOutcome formedRecipe recipeRefusal
 outcome-is p c d e a b o = cases (malformed p)
   where
     cases : (t : Bool) → gate (pick t 10 0) (gate (columnsRefusal (c ∷ d ∷ []) (e ∷ [])) (gate (pick (recipeUnequal (p .columns) (rowsOf c) (rowsOf d) (shownBy e)) 3 0) (stepped narrow (stepsOf (p .numbers)) (rowsOf c) (rowsOf d) (shownBy e) a b o))) ≡ gate (pick t 10 (orElse (columnsRefusal (c ∷ d ∷ []) (e ∷ [])) (pick (recipeUnequal (p .columns) (rowsOf c) (rowsOf d) (shownBy e)) 3 0))) (stepped narrow (stepsOf (p .numbers)) (rowsOf c) (rowsOf d) (shownBy e) a b o)

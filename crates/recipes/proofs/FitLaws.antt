@@ -18,28 +18,30 @@ use Rattle.model.specs.declared.Unary.the-variants as U
 use Rattle.ops.specs.Ops.{takesOf}
 use Rattle.ops.specs.declared.ListOp.{ListOp}
 use Rattle.ops.specs.declared.ListOp.the-variants as L
-use Rattle.steps.specs.Steps.{stepOps, stepOp, opUses, Uses, Within, StepFits}
-use Rattle.steps.specs.declared.StepOp.{StepOp}
-use Rattle.steps.specs.declared.StepOp.the-variants as S
+use Rattle.codes.specs.Codes.{stepOps, stepOp}
+use Rattle.steps.specs.Steps.{opUses, Uses, Within, StepFits}
+use Rattle.codes.specs.declared.StepOp.{StepOp}
+use Rattle.codes.specs.declared.StepOp.the-variants as S
 use Rattle.recipes.specs.Recipes.{recipe, recipeRefusal, AllFit}
+use Rattle.model.proofs.BoolLaws.{never-true, or-none, same-number}
+use Rattle.model.proofs.TabLaws.{getD-map}
 
-never : {A : Type 0} → _≡_ {A = Bool} true false → A
-never e = let z : _≡_ {A = ℕ} 0 1 = cc in absurd (omega arith)
+-- a recipe that is not malformed has no more than eight columns
+third-none : (a b c d : Bool) → ((a || b) || c) || d ≡ false → c ≡ false
+third-none true b c d h = never-true h
+third-none false true c d h = never-true h
+third-none false false true d h = never-true h
+third-none false false false d h = refl
 
-or-none : (a b : Bool) → a || b ≡ false → (a ≡ false) × (b ≡ false)
-or-none true b h = never h
-or-none false b h = (refl, h)
+pub few-lent : (ns : List ℕ) (k : ℕ) → malformed (recipe ns k) ≡ false → k ≤ 8
+unfolding malformed
+few-lent ns k h = ltb-false 8 k (third-none (not (eqb (length ns % 4) 0)) (ltb 32 (length ns / 4)) (ltb 8 k) (any (wrongStep k) (stepsOf ns)) h)
 
 -- ---- a step
 
 unfoldable takesBy : StepOp → ℕ
 takesBy (S.One op) = takesOf op
 takesBy (S.Two op) = 0
-
-getD-map : {A B : Type 0} (f : A → B) (l : List A) (i : ℕ) (d : A) → getD (map f l) i (f d) ≡ f (getD l i d)
-getD-map f [] i d = refl
-getD-map f (x ∷ l) zero d = refl
-getD-map f (x ∷ l) (suc i) d = getD-map f l i d
 
 takes-columns : (code : ℕ) → columnsOf code ≡ takesBy (stepOp code)
 unfolding columnsOf stepOp takesBy takesOf
@@ -55,7 +57,7 @@ within false k x n len e h = zeroth (eqb x 0) refl h
   where
     zeroth : (t : Bool) → eqb x 0 ≡ t → not t ≡ false → x * n + 0 ≤ len
     zeroth true q p = rw (eqb-true x 0 q, zero-mul n) (omega arith)
-    zeroth false q p = never p
+    zeroth false q p = never-true p
 
 module _ (k : ℕ) (s : Step) (n len : ℕ) (e : len ≡ k * n) (h : wrongStep k s ≡ false) where
   parts : (ltb 10 (s .code) ≡ false) × (wrongNumber k (ltb 0 (columnsOf (s .code))) (s .first) ≡ false) × (wrongNumber k (ltb 1 (columnsOf (s .code))) (s .second) ≡ false) × (wrongNumber k (ltb 2 (columnsOf (s .code))) (s .third) ≡ false)
@@ -119,13 +121,6 @@ lists-none false true t h = let z : ⊥ = omega arith in absurd z
 lists-none false false true h = let z : ⊥ = omega arith in absurd z
 lists-none false false false h = (refl, refl)
 
-same : (a b : ℕ) → not (eqb a b) ≡ false → a ≡ b
-same a b q = go (eqb a b) refl q
-  where
-    go : (t : Bool) → eqb a b ≡ t → not t ≡ false → a ≡ b
-    go true e p = eqb-true a b e
-    go false e p = never p
-
 module _ (ns : List ℕ) (k : ℕ) (c d : Column) (e : Arguments) where
   both-none : columnsRefusal (c ∷ d ∷ []) (e ∷ []) ≡ 0 → (columnsRefusal (c ∷ d ∷ []) [] ≡ 0) × (refusal2ᵃ e ≡ false)
   unfolding columnsRefusal any
@@ -136,7 +131,7 @@ module _ (ns : List ℕ) (k : ℕ) (c d : Column) (e : Arguments) where
   equal-none h =
       let q = rw (length-rows c, length-rows d, length-shown e) at h in
       let p = or-none (not (eqb (rowCount (c .offsets)) (rowCount (d .offsets)))) (not (eqb (length (e .values)) (k * rowCount (c .offsets)))) q in
-      (same (rowCount (c .offsets)) (rowCount (d .offsets)) (p .0), same (length (e .values)) (k * rowCount (c .offsets)) (p .1))
+      (same-number (rowCount (c .offsets)) (rowCount (d .offsets)) (p .0), same-number (length (e .values)) (k * rowCount (c .offsets)) (p .1))
 
   pub passed : recipeRefusal (recipe ns k) c d e ≡ 0 → Passed ns k c d e
   unfolding recipeRefusal

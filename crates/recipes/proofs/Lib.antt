@@ -1,4 +1,2 @@
-pub mod CheckLaws
 pub mod CallLaws
 pub mod FitLaws
-pub mod TallyLaws

@@ -1,5 +1,5 @@
 // The call of a recipe, but for its trays and its tally.
-use crate::check;
+use codes::check;
 use column::offsets;
 use model::ListAnswer;
 ghost use Prim.Native.Nat.{_*_, _<_, _≤_};

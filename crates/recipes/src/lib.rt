@@ -1,16 +1,12 @@
 // Recipes: chains of list operations through two lent trays, with a tally. A recipe, a tray and a tally are document 01's own terms.
 mod call;
-mod check;
-pub mod tally;
 
 use tally::RecipeAnswer;
 use tally::Tally;
-ghost use Rattle.model.specs.Contract.{Clears, ListAnswers, lent, lentArguments, room};
-ghost use Rattle.model.specs.Limits.{narrow};
-ghost use Rattle.model.specs.Recipe.{recipeOutcome, tallied};
-ghost use Rattle.recipes.specs.Recipes.{recipe};
-ghost use Rattle.recipes.specs.Tallies.{tallyOf};
-ghost use lib.ListN.{length};
+ghost use Rattle.model.specs.Contract.{Clears, ListAnswers, roomOf};
+ghost use Rattle.model.specs.Recipe.{tallied};
+ghost use Rattle.recipes.specs.Recipes.{recipeLent};
+ghost use Rattle.tally.specs.Tallies.{tallyOf};
 ghost use mathlib.Core.Path.{_≡_};
 
 // Runs a recipe: its numbers, four a step, on the first list; the second list serves union and intersect; the argument columns, as
@@ -42,10 +38,10 @@ pub fn run_recipe<'a>(
     out_values: &mut [i64],
     out_elements: &mut [u8],
 ) -> RecipeAnswer
-    ensures { λ a. ⌜ ListAnswers (recipeOutcome narrow (recipe (now (numbers .entry)) columns) (lent offsets rows values elements) (lent «second_offsets» «second_rows» «second_values» «second_elements») (lentArguments arguments «argument_bits») (room (length (now («one_offsets» .entry))) (length (now («one_rows» .entry))) (length (now («one_values» .entry))) (length (now («one_elements» .entry)))) (room (length (now («two_offsets» .entry))) (length (now («two_rows» .entry))) (length (now («two_values» .entry))) (length (now («two_elements» .entry))))) (a .answer) «out_offsets» «out_rows» «out_values» «out_elements» ⌝ }
+    ensures { λ a. ⌜ ListAnswers (recipeLent columns numbers offsets rows values elements «second_offsets» «second_rows» «second_values» «second_elements» arguments «argument_bits» (roomOf «one_offsets» «one_rows» «one_values» «one_elements») (roomOf «two_offsets» «two_rows» «two_values» «two_elements»)) (a .answer) «out_offsets» «out_rows» «out_values» «out_elements» ⌝ }
     ensures { λ _. ⌜ Clears «one_offsets» «one_rows» «one_values» «one_elements» ⌝ }
     ensures { λ _. ⌜ Clears «two_offsets» «two_rows» «two_values» «two_elements» ⌝ }
-    ensures { λ a. ⌜ tallyOf (a .tally) ≡ tallied (recipeOutcome narrow (recipe (now (numbers .entry)) columns) (lent offsets rows values elements) (lent «second_offsets» «second_rows» «second_values» «second_elements») (lentArguments arguments «argument_bits») (room (length (now («one_offsets» .entry))) (length (now («one_rows» .entry))) (length (now («one_values» .entry))) (length (now («one_elements» .entry)))) (room (length (now («two_offsets» .entry))) (length (now («two_rows» .entry))) (length (now («two_values» .entry))) (length (now («two_elements» .entry)))) (room (length (now («out_offsets» .entry))) (length (now («out_rows» .entry))) (length (now («out_values» .entry))) (length (now («out_elements» .entry))))) (tallyOf tally) ⌝ }
+    ensures { λ a. ⌜ tallyOf (a .tally) ≡ tallied (recipeLent columns numbers offsets rows values elements «second_offsets» «second_rows» «second_values» «second_elements» arguments «argument_bits» (roomOf «one_offsets» «one_rows» «one_values» «one_elements») (roomOf «two_offsets» «two_rows» «two_values» «two_elements») (roomOf «out_offsets» «out_rows» «out_values» «out_elements»)) (tallyOf tally) ⌝ }
 {
     let answer = call::attempt(
         numbers,

@@ -1,11 +1,11 @@
 -- From outer rows written in result form, and nulls counted in them, to what list-repeat's contract says of a call.
-use mathlib.Core.Path.{_≡_, refl, sym, _∙_, subst}
+use mathlib.Core.Path.{_≡_, refl, sym, _∙_}
 use mathlib.Core.Bool.{Bool, true, false, _&&_}
 use mathlib.Core.List.{List, map}
 use Prim.Native.Nat.{ℕ, _+_, _≤_}
 use native.Mathlib.Omega.{arith}
 use borrow.Author.Tests.{leb-true}
-use lib.Dec.{T, leb}
+use lib.Dec.{leb}
 use lib.IntN.{ℤ}
 use lib.ListN.{length}
 use Rattle.model.specs.Bitmap.{bytesFor, pack, nulls}
@@ -22,6 +22,7 @@ use Rattle.column.specs.Answers.{unset}
 use Rattle.column.proofs.AnswerLaws.{has-room}
 use Rattle.repeats.specs.Outers.{OuterRoom, OutersHold}
 use Rattle.repeats.specs.Repeats.{fitsCounts, repeatAnswerFrom}
+use Rattle.model.proofs.BoolLaws.{and-true}
 
 -- a refusal changes no output
 pub repeat-refused : {x : Outcome (List Outer)} (k : ℕ) {o : List ℤ} {r : List ℕ} {io : List ℤ} {ir : List ℕ} {v : List ℤ} {e : List ℕ} → x ≡ refused k → RepeatMeets x (R.Refused k) o o r r io io ir ir v v e e
@@ -29,10 +30,6 @@ unfolding toldRepeat answerOf written
 repeat-refused k q = rw q (record { answer = refl; offsets = refl; rows = refl; inner-offsets = refl; inner-rows = refl; values = refl; elements = refl })
 
 -- ---- room
-
-and-true : (a b : Bool) → a && b ≡ true → (a ≡ true) × (b ≡ true)
-and-true true b h = (refl, h)
-and-true false b h = absurd (subst T (sym h) tt)
 
 -- counts that are the rows' fit as the rows do
 pub same-fit : (os : List Outer) (l : RepeatRoom) {n t m : ℕ} → n ≡ length os → t ≡ length (inner os) → m ≡ length (flat (inner os)) → fitsCounts n t m l ≡ fitsRepeat os l

@@ -30,6 +30,8 @@ use Rattle.repeats.specs.Outers.{OuterRoom}
 use Rattle.repeats.specs.Repeats.{Rising, repeatAt, repeatRows, timesAt, repeatedAt, sums, sumsOf}
 use Rattle.repeats.specs.declared.Sums.{Sums}
 use Rattle.repeats.specs.declared.Sums.the-variants.{Of, TooMany}
+use Rattle.model.proofs.ColumnLaws.{by-row}
+use Rattle.model.proofs.OutcomeLaws.{early, two-or-on}
 
 -- ---- the columns read
 
@@ -208,26 +210,6 @@ module _ (c : Column) (a : Arguments) where
   length-repeats = length-tab (repeatAt c a) 0 (rowCount (c .offsets))
 
 -- ---- the call
-
--- a function of row r and of its count, from what is shown and from the columns
-by-row : {A : Type 0} (f : Row → Elem → A) (c : Column) (a : Arguments) → length (a .values) ≡ rowCount (c .offsets)
-    → tab (λ r. f (rowOf (rowsOf c) r) (argumentOf (shownBy a) r)) 0 (length (rowsOf c)) ≡ tab (λ r. f (rowAt c r) (elemAt (a .values) (a .bits) r)) 0 (rowCount (c .offsets))
-by-row f c a e = rw (length-rows c) (tab-ext _ _ 0 0 (rowCount (c .offsets)) (λ r h. rw (zero-add r, row-at c r h, argument-at a r (rw e h))))
-
--- 1 and 2, with the counts and without them
-module _ {A : Type 0} (k : ℕ) (o : Outcome A) where
-  early : (x y z : Bool) → k ≡ pick (x || false) 1 (pick ((y || false) || false) 2 0) → (k ≡ 0 → ⊥) → gate (pick (x || false) 1 (pick ((y || false) || (z || false)) 2 0)) o ≡ refused k
-  unfolding gate
-  early true y z q h = ap refused (sym q)
-  early false true z q h = ap refused (sym q)
-  early false false z q h = absurd (h q)
-
-  two-or-on : (x y z : Bool) → k ≡ pick (x || false) 1 (pick ((y || false) || false) 2 0) → k ≡ 0 → gate (pick (x || false) 1 (pick ((y || false) || (z || false)) 2 0)) o ≡ pick z (refused 2) o
-  unfolding gate
-  two-or-on true y z q h = let n : ⊥ = omega arith in absurd n
-  two-or-on false true z q h = let n : ⊥ = omega arith in absurd n
-  two-or-on false false true q h = refl
-  two-or-on false false false q h = refl
 
 -- what the sums refuse
 eight : Sums → ℕ

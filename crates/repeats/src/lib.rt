@@ -1,4 +1,5 @@
 // List-repeat: one walk sums, a second writes. An inner crate: its callers meet what it asks.
+// After repeat.rs of datafusion-functions-nested 55.2.0, Apache License 2.0, Apache Software Foundation; changed, see NOTICE.
 use column::checks;
 use column::offsets;
 use model::RepeatAnswer;
@@ -25,7 +26,7 @@ enum Sums {
 }
 
 // How often row r of n is repeated: not at all for a null count or one at or below 0.
-fn times_at(counts: &[i64], count_bits: &[u8], cstart: usize, n: usize, r: usize) -> usize
+fn repeat_count(counts: &[i64], count_bits: &[u8], cstart: usize, n: usize, r: usize) -> usize
     requires { ⌜ Covers (from cstart (now «count_bits»)) n ⌝ }
     requires { ⌜ length (now counts) ≡ n ⌝ }
     requires { ⌜ r < n ⌝ }
@@ -58,7 +59,7 @@ fn sum_repeats(
     let mut r: usize = 0;
     let mut left = n;
     while 0 < left {
-        let times = times_at(counts, count_bits, cstart, n, r);
+        let times = repeat_count(counts, count_bits, cstart, n, r);
         if 2147483647 - lists < times {
             return Sums::TooMany;
         }
@@ -157,7 +158,7 @@ fn write_repeats(
     let mut at: usize = 0;
     let mut left = n;
     while 0 < left {
-        let times = times_at(counts, count_bits, cstart, n, r);
+        let times = repeat_count(counts, count_bits, cstart, n, r);
         let a = offsets::offset_at(offsets, r);
         let b = offsets::offset_at(offsets, r + 1);
         at = put_copies(

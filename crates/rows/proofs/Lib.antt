@@ -1,11 +1,7 @@
 pub mod CellLaws
-pub mod ElementLaws
 pub mod FoundLaws
-pub mod PairLaws
-pub mod PartLaws
 pub mod PlanLaws
 pub mod ResizeLaws
 pub mod RunLaws
-pub mod SetLaws
 pub mod StrideLaws
 pub mod RowOpLaws

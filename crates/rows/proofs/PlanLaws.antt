@@ -11,6 +11,7 @@ use lib.Signed.{nonNeg}
 use Rattle.model.specs.Basics.{pick}
 use Rattle.model.specs.Limits.{Limits, narrow}
 use Rattle.model.specs.Slice.{Bound, unfit, outside, place, fits, fromPlace, inRow, fromBound, toPlace, toBound, Plan, refuse, empty, places, stepCount, against, isZero, strided, between, slicePlan}
+use Rattle.index.proofs.PlaceLaws.{pick-cases}
 use Rattle.rows.specs.Strides.{Reaches, Walks}
 
 -- k places from a on by a stride, of a row of n elements
@@ -18,10 +19,6 @@ pub record InRow (n a : ℕ) (s : ℤ) (k : ℕ) : Type 0 where
   pub some : 0 < k
   pub few : k ≤ n
   pub reach : Reaches a s k n
-
-pick-cases : {A : Type 0} (t : Bool) (x y : A) (P : A → Type 0) → (t ≡ true → P x) → (t ≡ false → P y) → P (pick t x y)
-pick-cases true x y P f g = f refl
-pick-cases false x y P f g = g refl
 
 -- ---- bounds
 

@@ -1,28 +1,32 @@
 -- The places of a strided walk, and the elements that it takes.
 use mathlib.Core.Bool.{Bool, true, false, cond}
-use mathlib.Core.List.{List, []}
+use mathlib.Core.List.{List, [], map}
 use mathlib.Core.Path.{_≡_, refl, sym, ap, _∙_}
-use Prim.Native.Nat.{ℕ, _+_, _-_, _*_, _/_, _^_, _<_, _≤_, suc}
+use Prim.Native.Nat.{ℕ, _+_, _-_, _*_, _/_, _^_, _<_, _≤_, zero, suc}
 use native.Mathlib.Nat.{mul-le-mul-right, add-mul, one-mul}
 use native.Mathlib.Omega.{arith}
 use borrow.Author.Tests.{ltb-true}
 use lib.Dec.{T, ltb}
 use lib.IntN.{ℤ, pos, negsuc, subℕ, _+ℤ_, natAbs}
-use lib.ListN.{length, getD, set}
+use lib.ListN.{length, getD, set, replicate}
 use lib.Signed.{nonNeg}
 use mir.Facts.{toZ-ofZ, toZ-pos}
 use mir.Syntax.{w32}
 use mir.Val.{SFits, toZ, ofZ}
 use Rattle.model.proofs.TabLaws.{length-tab, tab-step, tab-none, tab-ext, getD-tab}
 use Rattle.model.specs.Basics.{tab}
-use Rattle.model.specs.Column.{Elem, nul}
+use Rattle.model.specs.Bitmap.{Bits, bytesFor}
+use Rattle.model.specs.Column.{Elem, nul, val, elemAt}
 use Rattle.model.specs.Form.{isVal, valueOf}
 use Rattle.model.specs.Limits.{narrow}
 use Rattle.model.specs.Slice.{stepFrom, sliced}
-use Rattle.bitmap.specs.Push.{pushBit}
+use Rattle.bitmap.specs.Push.{pushBit, pushBits}
 use Rattle.column.proofs.WriteLaws.{Writing, begun, written, room, done}
-use Rattle.column.specs.Put.{Place, Written}
+use Rattle.column.specs.Put.{Place, Written, putValues}
 use Rattle.rows.specs.Strides.{Reaches}
+use Rattle.column.proofs.RowLaws.{elem-plain}
+use Rattle.index.proofs.SignedLaws.{difference-natural}
+use Rattle.runs.proofs.PlainLaws.{tab-same, both-written}
 
 -- ---- signed places
 
@@ -35,13 +39,6 @@ low p h = toZ-pos w32 h
 pub start-bits : (z : ℤ) → T (nonNeg z) → ofZ w32 z ≡ natAbs z
 start-bits (pos n) t = refl
 start-bits (negsuc n) t = absurd t
-
-difference : (a b : ℕ) → b ≤ a → subℕ a b ≡ pos (a - b)
-difference a b h = go (ltb a b) refl
-  where
-    go : (t : Bool) → ltb a b ≡ t → cond t (negsuc (b - suc a)) (pos (a - b)) ≡ pos (a - b)
-    go true e = let l = ltb-true a b e in let z : ⊥ = omega arith in absurd z
-    go false e = refl
 
 -- ---- the places
 
@@ -64,7 +61,7 @@ module _ (a k n j : ℕ) where
       let e = more j (s + 1) in
       let m = mul-le-mul-right {m = j + 1} {n = k - 1} (s + 1) (omega arith) in
       let f : a - j * (s + 1) - suc s ≡ a - (j + 1) * (s + 1) = omega arith in
-      difference (a - j * (s + 1)) (suc s) (omega (arith, r .0)) ∙ ap pos f
+      difference-natural (a - j * (s + 1)) (suc s) (omega (arith, r .0)) ∙ ap pos f
 
 first-place : (a : ℕ) (s : ℤ) → stepFrom a s 0 ≡ a
 unfolding stepFrom
@@ -150,3 +147,30 @@ module _ {a : ℕ} {s : ℤ} {k : ℕ} {es : List Elem} {at : ℕ} {vo₀ : List
     step-fits h l =
         let b = in-row a k n (k - left + 1) s (r (omega (arith, g .most))) (omega (arith, g .most)) in
         rw (stepping h) (record { sfits = omega (arith, b) })
+
+-- ---- where no element is null
+
+-- nothing is written into no bitmap
+pub no-bits : (q : ℕ) (b : Bool) → [] ≡ pushBit [] q b
+unfolding pushBit
+no-bits q b = refl
+
+-- the walk of the values alone
+pub value-room : {a : ℕ} {s : ℤ} {k : ℕ} {es : List Elem} {at : ℕ} {vo₀ : List ℤ} {left q : ℕ} {vo : List ℤ} {p : ℕ} → Going a s k es at vo₀ [] left q vo [] p → 0 < left → at + k ≤ length vo₀ → q < length vo
+value-room {a} {s} {k} {es} {at} {vo₀} {left} g h r = omega (arith, g .writing .place, g .writing .lv, length-tab (taken a s es) (k - left) left, length-sliced a s k es)
+
+pub places-room : (a : ℕ) (s : ℤ) (k : ℕ) (es : List Elem) {at lv le : ℕ} → Place (sliced a s k es) at lv le → (at + k ≤ lv) × (bytesFor (at + k) ≤ le)
+places-room a s k es p = let l = length-sliced a s k es in (omega (arith, p .values), omega (arith, p .elements))
+
+-- what it takes has the bits of a run of ones
+pub sliced-valid : (E : ℕ → Elem) (b n a : ℕ) (s : ℤ) (k : ℕ) → (0 < k → Reaches a s k n) → ((i : ℕ) → isVal (E i) ≡ true) → map isVal (sliced a s k (tab E b n)) ≡ replicate k true
+sliced-valid E b n a s zero r v = rw (sliced-none a s 0 (tab E b n) refl)
+sliced-valid E b n a s (suc k) r v = rw (sliced-tab E b n a s (suc k) (r (omega arith))) (tab-same isVal (λ j. E (b + stepFrom a s j)) true 0 (suc k) (λ j. v (b + stepFrom a s j)))
+
+-- the values and the bits of what it takes are written where the bitmap is empty
+pub plain-written : (vs : List ℤ) (eb : Bits) → length (eb .bytes) ≡ 0 → (b n a : ℕ) (s : ℤ) (k at : ℕ) → (0 < k → Reaches a s k n) → {vo vo′ : List ℤ} {eo eo′ : List ℕ}
+    → vo′ ≡ putValues vo at (sliced a s k (tab (λ i. val (getD vs i (pos 0))) b n)) → eo′ ≡ pushBits eo at (replicate k true) → Written (sliced a s k (tab (elemAt vs eb) b n)) at vo vo′ eo eo′ (at + k)
+unfolding isVal
+plain-written vs eb z b n a s k at r v e =
+    rw (tab-ext (elemAt vs eb) (λ i. val (getD vs i (pos 0))) b b n (λ i h. elem-plain vs eb (b + i) z))
+    (both-written _ _ (replicate k true) at k refl (sliced-valid (λ i. val (getD vs i (pos 0))) b n a s k r (λ i. refl)) (length-sliced a s k _) v e)

@@ -1,7 +1,7 @@
 -- A place that was looked for in a row, and refusal 4 of a row.
-use Prim.Native.Nat.{ℕ, _+_, _≤_}
+use Prim.Native.Nat.{ℕ, _+_, _≤_, _<_}
 use mathlib.Core.Path.{_≡_}
-use mathlib.Core.Bool.{Bool, not, _&&_}
+use mathlib.Core.Bool.{Bool, true, false, not, _&&_}
 use mathlib.Core.List.{List}
 use lib.Dec.{ltb}
 use lib.IntN.{ℤ, pos}
@@ -22,6 +22,12 @@ foundAt E i end = pick (ltb i end) (E i) nul
 pub record FirstAt (E : ℕ → Elem) (a n i : ℕ) : Type 0 where
   pub inside : i ≤ a + n
   pub found : foundAt E i (a + n) ≡ firstValid (tab E a n)
+
+-- of n places, r come before the first that the test holds of
+pub record Before (test : ℕ → Bool) (n r : ℕ) : Type 0 where
+  pub inside : r ≤ n
+  pub none : (i : ℕ) → i < r → test i ≡ false
+  pub found : r < n → test r ≡ true
 
 unfoldable pub boundPlace : Bound → ℕ → ℕ → ℕ
 boundPlace unfit a n = a + n

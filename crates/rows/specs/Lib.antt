@@ -1,4 +1,3 @@
 pub mod Cells
 pub mod Found
-pub mod Pairs
 pub mod Strides

@@ -1,4 +1,5 @@
 // Taking one element out of a row.
+// After extract.rs of datafusion-functions-nested 55.2.0, Apache License 2.0, Apache Software Foundation; changed, see NOTICE.
 use column::elements;
 use index::Bound;
 ghost use Prim.Native.Nat.{_+_, _/_, _<_, _≤_};

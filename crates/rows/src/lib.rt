@@ -1,12 +1,9 @@
 // What the operations make of one row, element by element. An inner crate: its callers meet what it asks.
-pub mod distinct;
 pub mod extract;
-pub mod pairs;
 pub mod remove;
 pub mod replace;
 pub mod resize;
 pub mod reverse;
-pub mod set_ops;
 pub mod strided;
 pub mod utils;
 

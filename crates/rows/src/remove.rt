@@ -1,7 +1,7 @@
 // Remove: a row without its first matches.
+// After remove.rs of datafusion-functions-nested 55.2.0, Apache License 2.0, Apache Software Foundation; changed, see NOTICE.
 use crate::Cell;
 use crate::utils;
-use column::elements;
 ghost use Rattle.column.specs.Put.{Place, Source, Written};
 ghost use Rattle.model.specs.Basics.{tab};
 ghost use Rattle.model.specs.Bitmap.{from};
@@ -28,22 +28,20 @@ pub fn measure_removed(
     let mut left = n;
     let mut most = limit;
     let mut kept: usize = 0;
-    while 0 < left {
-        if most == 0 {
-            return kept + left;
+    while 0 < most {
+        let run = utils::before_match(values, elements, estart, p, left, element);
+        kept += run;
+        if run == left {
+            return kept;
         }
-        if utils::matches(values, elements, estart, p, element) {
-            most -= 1;
-        } else {
-            kept += 1;
-        }
-        p += 1;
-        left -= 1;
+        p += run + 1;
+        left -= run + 1;
+        most -= 1;
     }
-    kept
+    kept + left
 }
 
-// Writes the n elements from element a on without the first matches; past the limit they are copied.
+// Writes the n elements from element a on without the first matches: run after run without a match, and past the limit the rest.
 pub fn write_removed(
     values: &[i64],
     elements: &[u8],
@@ -64,27 +62,33 @@ pub fn write_removed(
     let mut left = n;
     let mut most = limit;
     let mut k = at;
-    while 0 < left {
-        if most == 0 {
-            return utils::write_forward(
-                values,
-                elements,
-                estart,
-                p,
-                left,
-                out_values,
-                out_elements,
-                k,
-            );
+    while 0 < most {
+        let run = utils::before_match(values, elements, estart, p, left, element);
+        k = utils::write_forward(
+            values,
+            elements,
+            estart,
+            p,
+            run,
+            out_values,
+            out_elements,
+            k,
+        );
+        if run == left {
+            return k;
         }
-        if utils::matches(values, elements, estart, p, element) {
-            most -= 1;
-        } else {
-            elements::write_elem(values, elements, estart, p, out_values, out_elements, k);
-            k += 1;
-        }
-        p += 1;
-        left -= 1;
+        p += run + 1;
+        left -= run + 1;
+        most -= 1;
     }
-    k
+    utils::write_forward(
+        values,
+        elements,
+        estart,
+        p,
+        left,
+        out_values,
+        out_elements,
+        k,
+    )
 }

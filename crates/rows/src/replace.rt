@@ -1,7 +1,7 @@
 // Replace: the first matches of a row become another element.
+// After replace.rs of datafusion-functions-nested 55.2.0, Apache License 2.0, Apache Software Foundation; changed, see NOTICE.
 use crate::Cell;
 use crate::utils;
-use column::elements;
 ghost use Rattle.column.specs.Put.{Place, Source, Written};
 ghost use Rattle.model.specs.Basics.{tab};
 ghost use Rattle.model.specs.Bitmap.{from};
@@ -10,7 +10,7 @@ ghost use Rattle.model.specs.Elements.{replaced};
 ghost use Rattle.rows.specs.Cells.{elemOf};
 ghost use lib.ListN.{length};
 
-// Writes the n elements from element a on, the first matches as another element; past the limit they are copied.
+// Writes the n elements from element a on, the first matches as another element: run after run without a match, and past the limit the rest.
 pub fn write_replaced(
     values: &[i64],
     elements: &[u8],
@@ -32,28 +32,35 @@ pub fn write_replaced(
     let mut left = n;
     let mut most = limit;
     let mut k = at;
-    while 0 < left {
-        if most == 0 {
-            return utils::write_forward(
-                values,
-                elements,
-                estart,
-                p,
-                left,
-                out_values,
-                out_elements,
-                k,
-            );
+    while 0 < most {
+        let run = utils::before_match(values, elements, estart, p, left, needle);
+        k = utils::write_forward(
+            values,
+            elements,
+            estart,
+            p,
+            run,
+            out_values,
+            out_elements,
+            k,
+        );
+        if run == left {
+            return k;
         }
-        if utils::matches(values, elements, estart, p, needle) {
-            utils::write_cell(to, out_values, out_elements, k);
-            most -= 1;
-        } else {
-            elements::write_elem(values, elements, estart, p, out_values, out_elements, k);
-        }
-        p += 1;
+        utils::write_cell(to, out_values, out_elements, k);
         k += 1;
-        left -= 1;
+        p += run + 1;
+        left -= run + 1;
+        most -= 1;
     }
-    k
+    utils::write_forward(
+        values,
+        elements,
+        estart,
+        p,
+        left,
+        out_values,
+        out_elements,
+        k,
+    )
 }

@@ -1,4 +1,5 @@
 // Resize: a row cut, or filled up to a count.
+// After resize.rs of datafusion-functions-nested 55.2.0, Apache License 2.0, Apache Software Foundation; changed, see NOTICE.
 use crate::Cell;
 use crate::utils;
 ghost use Rattle.column.specs.Put.{Place, Source, Written};

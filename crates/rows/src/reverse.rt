@@ -1,4 +1,5 @@
 // Reverse: the elements of a row, last first.
+// After reverse.rs of datafusion-functions-nested 55.2.0, Apache License 2.0, Apache Software Foundation; changed, see NOTICE.
 use column::elements;
 ghost use Rattle.column.specs.Put.{Place, Source, Written};
 ghost use Rattle.model.specs.Basics.{tab};

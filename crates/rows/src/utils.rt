@@ -1,18 +1,20 @@
-// Comparing elements, and copying a run of them.
+// Comparing elements, looking for one, and copying a run of them.
+// After utils.rs of datafusion-functions-nested 55.2.0, Apache License 2.0, Apache Software Foundation; changed, see NOTICE.
 use crate::Cell;
-use crate::pairs;
 use column::elements;
-ghost use Prim.Native.Nat.{_-_, _/_, _<_};
+ghost use Prim.Native.Nat.{_+_, _-_, _/_, _<_, _≤_};
 ghost use Rattle.bitmap.specs.Push.{Covers, pushBit};
 ghost use Rattle.column.specs.Put.{Place, Source, Written};
 ghost use Rattle.model.specs.Basics.{tab};
 ghost use Rattle.model.specs.Bitmap.{from};
 ghost use Rattle.model.specs.Column.{count, elemAt};
-ghost use Rattle.model.specs.Elements.{sameElem};
-ghost use lib.ListN.{length, set};
+ghost use Rattle.model.specs.Elements.{eqZ, sameElem};
+ghost use lib.IntN.{pos};
+ghost use lib.ListN.{getD, length, set};
 ghost use mathlib.Core.Path.{_≡_};
 ghost use Rattle.model.specs.Form.{isVal, valueOf};
 ghost use Rattle.rows.specs.Cells.{elemOf};
+ghost use Rattle.rows.specs.Found.{Before};
 
 // Writes the n elements from element a on, one after the other, from place at of the result on; gives the next place.
 fn write_each(
@@ -73,7 +75,13 @@ pub fn one_less(n: usize) -> usize
 }
 
 // Whether element i is the argument: two nulls, or one value.
-pub fn matches(values: &[i64], elements: &[u8], estart: usize, i: usize, cell: Cell) -> bool
+pub(crate) fn compare_element_to_list(
+    values: &[i64],
+    elements: &[u8],
+    estart: usize,
+    i: usize,
+    cell: Cell,
+) -> bool
     requires { ⌜ i < length (now values) ⌝ }
     requires { ⌜ Covers (from estart (now elements)) (length (now values)) ⌝ }
     ensures { λ r. ⌜ r ≡ sameElem (elemAt (now (values .entry)) (from estart (now (elements .entry))) i) (elemOf cell) ⌝ }
@@ -87,6 +95,64 @@ pub fn matches(values: &[i64], elements: &[u8], estart: usize, i: usize, cell: C
             }
             pairs::same_value(values[i], v)
         }
+    }
+}
+
+// How many of the n values from value a on come before the first that is v.
+fn before_value(values: &[i64], a: usize, n: usize, v: i64) -> usize
+    requires { ⌜ a + n ≤ length (now values) ⌝ }
+    ensures { λ r. ⌜ Before (λ i. eqZ (getD (now (values .entry)) (a + i) (pos 0)) v) n r ⌝ }
+{
+    let mut r: usize = 0;
+    while r < n {
+        if values[a + r] == v {
+            return r;
+        }
+        r += 1;
+    }
+    r
+}
+
+// How many of the n elements from element a on come before the first match, one by one.
+fn before_each(
+    values: &[i64],
+    elements: &[u8],
+    estart: usize,
+    a: usize,
+    n: usize,
+    cell: Cell,
+) -> usize
+    requires column { ⌜ Source (now values) (from estart (now elements)) a n ⌝ }
+    ensures { λ r. ⌜ Before (λ i. sameElem (elemAt (now (values .entry)) (from estart (now (elements .entry))) (a + i)) (elemOf cell)) n r ⌝ }
+{
+    let mut r: usize = 0;
+    while r < n {
+        if compare_element_to_list(values, elements, estart, a + r, cell) {
+            return r;
+        }
+        r += 1;
+    }
+    r
+}
+
+// How many of the n elements from element a on come before the first match; where none can be null, a null matches none.
+pub(crate) fn before_match(
+    values: &[i64],
+    elements: &[u8],
+    estart: usize,
+    a: usize,
+    n: usize,
+    cell: Cell,
+) -> usize
+    requires column { ⌜ Source (now values) (from estart (now elements)) a n ⌝ }
+    ensures { λ r. ⌜ Before (λ i. sameElem (elemAt (now (values .entry)) (from estart (now (elements .entry))) (a + i)) (elemOf cell)) n r ⌝ }
+{
+    if 0 < elements.len() {
+        return before_each(values, elements, estart, a, n, cell);
+    }
+    match cell {
+        Cell::Null => n,
+        Cell::Value(v) => before_value(values, a, n, v),
     }
 }
 
@@ -112,7 +178,7 @@ fn write_value(v: i64, out_values: &mut [i64], out_elements: &mut [u8], k: usize
 }
 
 // Writes an argument as element k of the result.
-pub fn write_cell(cell: Cell, out_values: &mut [i64], out_elements: &mut [u8], k: usize)
+pub(crate) fn write_cell(cell: Cell, out_values: &mut [i64], out_elements: &mut [u8], k: usize)
     requires { ⌜ k < length (now «out_values») ⌝ }
     requires { ⌜ k / 8 < length (now «out_elements») ⌝ }
     ensures { λ _. ⌜ now («out_values» .exit) ≡ set (now («out_values» .entry)) k (valueOf (elemOf cell)) ⌝ }

@@ -9,11 +9,11 @@ use lib.ListN.{length, getD, replicate, length-replicate}
 use lib.Seq.{sets}
 use Rattle.bitmap.specs.Push.{pushBits}
 use Rattle.column.proofs.PutLaws.{rev-step}
-use Rattle.column.proofs.RowLaws.{elem-valid}
+use Rattle.column.proofs.RowLaws.{elem-plain}
 use Rattle.column.specs.Put.{Written}
 use Rattle.model.proofs.TabLaws.{length-tab, map-tab, tab-ext}
 use Rattle.model.specs.Basics.{tab}
-use Rattle.model.specs.Bitmap.{Bits, validAt}
+use Rattle.model.specs.Bitmap.{Bits}
 use Rattle.model.specs.Column.{Elem, elemAt}
 use Rattle.model.specs.Form.{isVal, valueOf}
 
@@ -55,7 +55,7 @@ length-back g a (suc n) =
     let d : suc n - 1 ≡ n = omega arith in
     rw (rev-step g a (suc n) (omega arith), d) (ap suc (length-back g a n))
 
-tab-same : {A B : Type 0} (f : A → B) (g : ℕ → A) (x : B) (a n : ℕ) → ((i : ℕ) → f (g i) ≡ x) → map f (tab g a n) ≡ replicate n x
+pub tab-same : {A B : Type 0} (f : A → B) (g : ℕ → A) (x : B) (a n : ℕ) → ((i : ℕ) → f (g i) ≡ x) → map f (tab g a n) ≡ replicate n x
 unfolding tab
 tab-same f g x a zero e = refl
 tab-same {A} {B} f g x a (suc n) e = rw (e a) (ap (λ (r : List B). x ∷ r) (tab-same f g x (suc a) n e))
@@ -63,17 +63,13 @@ tab-same {A} {B} f g x a (suc n) e = rw (e a) (ap (λ (r : List B). x ∷ r) (ta
 -- ---- a bitmap of length 0
 
 module _ (vs : List ℤ) (eb : Bits) (z : length (eb .bytes) ≡ 0) where
-  all-valid : (i : ℕ) → validAt eb i ≡ true
-  unfolding validAt
-  all-valid i = rw z
-
   value-at : (i : ℕ) → valueOf (elemAt vs eb i) ≡ getD vs i (pos 0)
   unfolding valueOf
-  value-at i = rw (elem-valid vs eb i (all-valid i))
+  value-at i = rw (elem-plain vs eb i z)
 
   bit-at : (i : ℕ) → isVal (elemAt vs eb i) ≡ true
   unfolding isVal
-  bit-at i = rw (elem-valid vs eb i (all-valid i))
+  bit-at i = rw (elem-plain vs eb i z)
 
   module _ (a n at : ℕ) {vo vo′ : List ℤ} {eo eo′ : List ℕ} where
     pub forward-written : vo′ ≡ sets vo at (tab (λ i. getD vs i (pos 0)) a n) → eo′ ≡ pushBits eo at (replicate n true) → Written (tab (elemAt vs eb) a n) at vo vo′ eo eo′ (at + n)

@@ -25,7 +25,7 @@ use Rattle.model.proofs.OutcomeLaws.{gate-open, gate-shut}
 use Rattle.column.specs.Put.{HasRoom}
 use Rattle.column.specs.Rows.{rowFrom}
 use Rattle.column.proofs.WalkLaws.{row-from}
-use Rattle.rows.proofs.SetLaws.{set-le, intersect-le-left}
+use Rattle.pairs.proofs.SetLaws.{set-le, intersect-le-left}
 use Rattle.sets.specs.Pairs.{pairAt, pairRows, boundOf}
 
 -- ---- a pair of rows

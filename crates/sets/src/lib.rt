@@ -1,10 +1,11 @@
 // The operations on two lists: one walk measures the pairs of rows, a second writes. An inner crate: its callers meet what it asks.
+// After set_ops.rs of datafusion-functions-nested 55.2.0, Apache License 2.0, Apache Software Foundation; changed, see NOTICE.
 use column::answers;
 use column::checks;
 use column::offsets;
 use model::ListAnswer;
 use model::SetOp;
-use rows::set_ops;
+use pairs::set_ops;
 ghost use Prim.Native.Nat.{_<_, _≤_};
 ghost use Rattle.bitmap.specs.Push.{Covers};
 ghost use Rattle.column.specs.Put.{HasRoom, Holds, Readable};

@@ -25,14 +25,13 @@ use Rattle.model.proofs.TabLaws.{length-map, length-tab, tab-step, tab-none}
 use Rattle.ops.specs.Ops.{callOf}
 use Rattle.ops.specs.declared.ListOp.{ListOp}
 use Rattle.ops.specs.declared.ListOp.the-variants as L
-use Rattle.steps.specs.Steps.{front, Held, Steps, StepFits, opCall, stepOp}
-use Rattle.steps.specs.declared.StepOp.{StepOp}
-use Rattle.steps.specs.declared.StepOp.the-variants as S
+use Rattle.codes.specs.Codes.{stepOp}
+use Rattle.steps.specs.Steps.{front, Held, Steps, StepFits, opCall}
+use Rattle.codes.specs.declared.StepOp.{StepOp}
+use Rattle.codes.specs.declared.StepOp.the-variants as S
 use Rattle.steps.proofs.RoundLaws.{held-over, rows-over}
 use Rattle.steps.proofs.StepLaws.{call-is}
-
-never : {A : Type 0} → _≡_ {A = ℕ} 0 1 → A
-never e = let z : ⊥ = omega arith in absurd z
+use Rattle.model.proofs.BoolLaws.{never}
 
 -- ---- what an answer tells
 

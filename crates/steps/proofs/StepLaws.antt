@@ -21,15 +21,17 @@ use Rattle.model.proofs.ColumnLaws.{argument-at, length-shown}
 use Rattle.model.proofs.TabLaws.{tab-ext, length-tab}
 use Rattle.bitmap.specs.Push.{Covers}
 use Rattle.column.specs.Put.{Source}
-use Rattle.rows.specs.Pairs.{bitsFrom}
-use Rattle.rows.proofs.PartLaws.{row-from, covers-from, length-part}
+use Rattle.pairs.specs.Pairs.{bitsFrom}
+use Rattle.pairs.proofs.PartLaws.{row-from, covers-from, length-part}
 use Rattle.ops.specs.Ops.{callOf, takesOf}
 use Rattle.ops.specs.declared.ListOp.{ListOp}
 use Rattle.ops.specs.declared.ListOp.the-variants as L
 use Rattle.args.specs.Taken.{placeIn, Serves}
-use Rattle.steps.specs.Steps.{stepOps, stepOp, opCall, opUses, Uses, Within}
-use Rattle.steps.specs.declared.StepOp.{StepOp}
-use Rattle.steps.specs.declared.StepOp.the-variants as S
+use Rattle.codes.specs.Codes.{stepOps, stepOp}
+use Rattle.steps.specs.Steps.{opCall, opUses, Uses, Within}
+use Rattle.codes.specs.declared.StepOp.{StepOp}
+use Rattle.codes.specs.declared.StepOp.the-variants as S
+use Rattle.model.proofs.TabLaws.{getD-map}
 
 -- ---- an argument column
 
@@ -87,11 +89,6 @@ call-same L.Replace c f g h = rw (f refl, g refl, h refl)
 call-same L.Remove c f g h = rw (f refl, g refl)
 
 -- ---- the call of a step
-
-getD-map : {A B : Type 0} (f : A → B) (l : List A) (i : ℕ) (d : A) → getD (map f l) i (f d) ≡ f (getD l i d)
-getD-map f [] i d = refl
-getD-map f (x ∷ l) zero d = refl
-getD-map f (x ∷ l) (suc i) d = getD-map f l i d
 
 pub call-is : (code : ℕ) (ws rs : List Row) (a b c : List Elem) → recipe.callOf code ws rs a b c ≡ opCall (stepOp code) ws rs a b c
 unfolding recipe.callOf stepOp opCall callOf

@@ -11,35 +11,13 @@ use Rattle.model.specs.Bitmap.{from, bytesFor}
 use Rattle.model.specs.Column.{Elem, Row, Column, column, Arguments, rowCount}
 use Rattle.model.specs.Recipe.{Step, stepAt}
 use Rattle.model.specs.Rows.{ListCall, setOp}
-use Rattle.model.specs.declared.Unary.the-variants as U
-use Rattle.model.specs.declared.SetOp.the-variants as T
 use Rattle.bitmap.specs.Push.{Covers}
 use Rattle.column.specs.Put.{Readable}
 use Rattle.ops.specs.Ops.{callOf, takesOf}
 use Rattle.ops.specs.declared.ListOp.{ListOp}
-use Rattle.ops.specs.declared.ListOp.the-variants as L
-use Rattle.steps.specs.declared.StepOp.{StepOp}
-use Rattle.steps.specs.declared.StepOp.the-variants as S
-
--- "Codes: 0 reverse, 1 distinct, 2 pop front, 3 pop back, 4 slice (from, to, stride), 5 slice without stride, 6 resize (count, fill),
--- 7 replace (from, to, limit), 8 remove (element, limit), 9 union, 10 intersect."
-abbrev pub stepOps : List StepOp
-stepOps =
-    S.One (L.Plain U.Reverse)
-    ∷ S.One (L.Plain U.Distinct)
-    ∷ S.One (L.Plain U.PopFront)
-    ∷ S.One (L.Plain U.PopBack)
-    ∷ S.One L.SliceBy
-    ∷ S.One L.Slice
-    ∷ S.One L.ResizeWith
-    ∷ S.One L.Replace
-    ∷ S.One L.Remove
-    ∷ S.Two T.Union
-    ∷ S.Two T.Intersect
-    ∷ []
-
-unfoldable pub stepOp : ℕ → StepOp
-stepOp code = getD stepOps code (S.One (L.Plain U.Reverse))
+use Rattle.codes.specs.Codes.{stepOp}
+use Rattle.codes.specs.declared.StepOp.{StepOp}
+use Rattle.codes.specs.declared.StepOp.the-variants as S
 
 -- the call that it makes of the carried rows, the second list's rows and three argument columns
 unfoldable pub opCall : StepOp → List Row → List Row → List Elem → List Elem → List Elem → ListCall (List Row) (List Elem)
@@ -65,10 +43,6 @@ pub record Held (n m : ℕ) (o : List ℤ) (r : List ℕ) (v : List ℤ) (e : Li
   pub values : m ≤ length v
   pub elements : bytesFor m ≤ length e
   pub formed : Readable (front o r v e n m)
-
--- a step's numbers
-abbrev pub step : ℕ → ℕ → ℕ → ℕ → Step
-step code a b c = record { code = code; first = a; second = b; third = c }
 
 -- a step's code is known, and the columns that it uses are there
 unfoldable pub opUses : StepOp → Step → ℕ → ℕ → Type 0

@@ -1,11 +1,11 @@
 // A recipe's steps. An inner crate: its callers meet what it asks.
+use codes::StepOp;
 use model::ListAnswer;
-use model::SetOp;
-use model::Unary;
 use ops::ListOp;
-use rows::set_ops;
+use pairs::set_ops;
 ghost use Prim.Native.Nat.{_+_, _-_, _<_, _≤_};
 ghost use Rattle.bitmap.specs.Push.{Covers};
+ghost use Rattle.codes.specs.Codes.{step};
 ghost use Rattle.column.specs.Put.{Readable};
 ghost use Rattle.model.specs.Basics.{pick, tab};
 ghost use Rattle.model.specs.Bitmap.{from};
@@ -15,66 +15,9 @@ ghost use Rattle.model.specs.Limits.{narrow};
 ghost use Rattle.model.specs.Outcome.{afterThree};
 ghost use Rattle.model.specs.Recipe.{carried, columnOf, stepAt, stepCall};
 ghost use Rattle.ops.specs.Ops.{callOf};
-ghost use Rattle.steps.specs.Steps.{Beside, Held, StepFits, Steps, Uses, front, step, stepOp};
+ghost use Rattle.steps.specs.Steps.{Beside, Held, StepFits, Steps, Uses, front};
 ghost use lib.ListN.{drop, length, take};
 ghost use mathlib.Core.Path.{_≡_};
-
-// What a step does: an operation on the carried list and its argument columns, or one on the carried list and the second.
-pub enum StepOp {
-    One(ListOp),
-    Two(SetOp),
-}
-
-fn plain_op(code: u32) -> Unary
-    requires { ⌜ code < 4 ⌝ }
-    ensures { λ u. ⌜ stepOp code ≡ StepOp.One (ListOp.Plain u) ⌝ }
-{
-    match code {
-        0 => Unary::Reverse,
-        1 => Unary::Distinct,
-        2 => Unary::PopFront,
-        _ => Unary::PopBack,
-    }
-}
-
-fn list_op(code: u32) -> ListOp
-    requires { ⌜ 4 ≤ code ⌝ }
-    requires { ⌜ code < 9 ⌝ }
-    ensures { λ op. ⌜ stepOp code ≡ StepOp.One op ⌝ }
-{
-    match code {
-        4 => ListOp::SliceBy,
-        5 => ListOp::Slice,
-        6 => ListOp::ResizeWith,
-        7 => ListOp::Replace,
-        _ => ListOp::Remove,
-    }
-}
-
-fn set_op(code: u32) -> SetOp
-    requires { ⌜ 9 ≤ code ⌝ }
-    requires { ⌜ code < 11 ⌝ }
-    ensures { λ op. ⌜ stepOp code ≡ StepOp.Two op ⌝ }
-{
-    match code {
-        9 => SetOp::Union,
-        _ => SetOp::Intersect,
-    }
-}
-
-// What the step with this code does.
-fn step_op(code: u32) -> StepOp
-    requires { ⌜ code < 11 ⌝ }
-    ensures { λ o. ⌜ o ≡ stepOp code ⌝ }
-{
-    if code < 4 {
-        return StepOp::One(ListOp::Plain(plain_op(code)));
-    }
-    if code < 9 {
-        return StepOp::One(list_op(code));
-    }
-    StepOp::Two(set_op(code))
-}
 
 // The n values from value a on, where the column is used, else none.
 fn column_values(used: bool, args: &[i64], a: usize, n: usize) -> &[i64]
@@ -184,7 +127,7 @@ pub fn step<'a>(
     requires fits { ⌜ StepFits (step code first second third) n (length (now args)) ⌝ }
     ensures { λ k. ⌜ ListMeets (afterThree narrow (stepCall (step code first second third) (rowsOf (column (now (offsets .entry)) (from rstart (now (rows .entry))) (now (values .entry)) (from estart (now (elements .entry))))) (rowsOf (column (now (roffsets .entry)) (from rrstart (now (rrows .entry))) (now (rvalues .entry)) (from restart (now (relements .entry))))) (shownBy (arguments (now (args .entry)) (from start (now (bits .entry)))))) (room (length (now («out_offsets» .entry))) (length (now («out_rows» .entry))) (length (now («out_values» .entry))) (length (now («out_elements» .entry))))) k (now («out_offsets» .entry)) (now («out_offsets» .exit)) (now («out_rows» .entry)) (now («out_rows» .exit)) (now («out_values» .entry)) (now («out_values» .exit)) (now («out_elements» .entry)) (now («out_elements» .exit)) ⌝ }
 {
-    match step_op(code) {
+    match codes::step_op(code) {
         StepOp::One(op) => one_list(
             op,
             offsets,

@@ -7,7 +7,7 @@ use lib.IntN.{ℤ}
 use mir.Syntax.{Width}
 use mir.Val.{bytes, ofZ}
 use Rattle.model.proofs.TabLaws.{length-tab}
-use Rattle.wire.specs.Bytes.{littleEndian, int, ints, bytesOfInt, bytesOf, bytesOfCounts}
+use Rattle.wire.specs.Bytes.{littleEndian, int, ints, nat, nats, bytesOfInt, bytesOf, bytesOfCounts}
 use Rattle.wire.proofs.Writing.{length-flat}
 
 pub length-littleEndian : (k n : ℕ) → length (littleEndian k n) ≡ k
@@ -23,6 +23,10 @@ length-bytesOfInt w z = length-littleEndian (bytes w) (ofZ w z)
 pub length-ints : (w : Width) (s : List ℕ) → length (ints w s) ≡ length s / bytes w
 unfolding ints
 length-ints w s = length-tab (int w s) 0 (length s / bytes w)
+
+pub length-nats : (k : ℕ) (s : List ℕ) → length (nats k s) ≡ length s / k
+unfolding nats
+length-nats k s = length-tab (nat k s) 0 (length s / k)
 
 -- at w32, length (bytesOf4 v) ≡ length v * 4; at w64, length (bytesOf8 v) ≡ length v * 8
 pub length-bytesOf : (w : Width) (v : List ℤ) → length (bytesOf w v) ≡ length v * bytes w

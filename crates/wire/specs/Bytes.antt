@@ -26,6 +26,13 @@ int w s i = toZ w (number (bytes w) s (i * bytes w))
 unfoldable pub ints : Width → List ℕ → List ℤ
 ints w s = tab (int w s) 0 (length s / bytes w)
 
+-- the i-th unsigned number of k bytes in s, and all of them
+unfoldable pub nat : ℕ → List ℕ → ℕ → ℕ
+nat k s i = number k s (i * k)
+
+unfoldable pub nats : ℕ → List ℕ → List ℕ
+nats k s = tab (nat k s) 0 (length s / k)
+
 -- the bytes of a signed number, and those of several, one after the other
 unfoldable pub bytesOfInt : Width → ℤ → List ℕ
 bytesOfInt w z = littleEndian (bytes w) (ofZ w z)

@@ -6,7 +6,7 @@ ghost use lib.Seq.{sets};
 ghost use mir.Val.{toZ, ofZ};
 ghost use mir.Syntax.{w32, w64};
 ghost use Rattle.model.specs.Form.{over};
-ghost use Rattle.wire.specs.Bytes.{number, littleEndian, ints4, ints8, bytesOf4, bytesOf8, bytesOfCounts};
+ghost use Rattle.wire.specs.Bytes.{number, littleEndian, ints4, ints8, nats, bytesOf4, bytesOf8, bytesOfCounts};
 
 // A byte, with the bound that the sums below need.
 fn wide(x: u8) -> u32
@@ -28,7 +28,7 @@ fn get_u32(s: &[u8], at: usize) -> u32
 }
 
 // The number in eight bytes, one load as well.
-fn get_u64(s: &[u8], at: usize) -> u64
+pub fn get_u64(s: &[u8], at: usize) -> u64
     requires { ⌜ at + 8 ≤ length (now s) ⌝ }
     ensures { λ r. ⌜ r ≡ number 8 (now (s .entry)) at ⌝ }
 {
@@ -133,7 +133,21 @@ pub fn fill_i64(s: &[u8], d: &mut [i64])
     }
 }
 
-// The same, where d has a place for each number and no more.
+// The unsigned numbers in s, over the beginning of d.
+pub fn fill_u32(s: &[u8], d: &mut [u32])
+    requires { ⌜ length (now s) / 4 ≤ length (now d) ⌝ }
+    ensures { λ _. ⌜ now (d .exit) ≡ over (nats 4 (now (s .entry))) (now (d .entry)) ⌝ }
+{
+    let n = s.len() / 4;
+    let mut i = 0;
+    while i < n {
+        let u = get_u32(s, i * 4);
+        d[i] = u;
+        i += 1;
+    }
+}
+
+// The signed numbers in s, where d has a place for each and no more.
 pub fn decode_i32(s: &[u8], d: &mut [i32])
     requires { ⌜ length (now d) ≡ length (now s) / 4 ⌝ }
     ensures { λ _. ⌜ now (d .exit) ≡ ints4 (now (s .entry)) ⌝ }

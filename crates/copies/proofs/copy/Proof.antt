@@ -9,7 +9,7 @@ use Rattle.model.specs.Contract.{room}
 use Rattle.model.specs.Form.{Room, fitsIn, flat}
 use Rattle.column.specs.Put.{HasRoom}
 use Rattle.column.proofs.AnswerLaws.{list-refused, list-made, has-room, same-fit, fitted-made, fitted-short}
-use Rattle.copies.proofs.CopyLaws.{length-rows}
+use Rattle.model.proofs.ColumnLaws.{length-rows}
 use borrow.Author.Needs.{needs}
 use Rattle.copies.proofs.copy.Statement.{statement}
 use Rattle.copies.proofs.copy.Tie as tie

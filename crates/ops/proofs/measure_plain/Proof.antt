@@ -1,4 +1,4 @@
-use Rattle.rows.proofs.ElementLaws.{pop-front, pop-back}
+use Rattle.pairs.proofs.ElementLaws.{pop-front, pop-back}
 use lib.ListN.{length-reverse}
 use Rattle.model.proofs.TabLaws.{length-tab}
 use Rattle.model.specs.Elements.{unaryElems}

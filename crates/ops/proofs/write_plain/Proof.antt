@@ -1,4 +1,4 @@
-use Rattle.rows.proofs.ElementLaws.{pop-front, pop-back}
+use Rattle.pairs.proofs.ElementLaws.{pop-front, pop-back}
 use Rattle.model.specs.Elements.{unaryElems}
 use Rattle.model.specs.Column.{elemAt}
 use Rattle.model.specs.Bitmap.{from}

@@ -2,7 +2,7 @@ use mathlib.Core.Path.{_≡_, ap, _∙_}
 use lib.IntN.{pos}
 use lib.ListN.{replicate}
 use Prim.Native.Nat.{ℕ}
-use Rattle.recipes.proofs.TallyLaws.{tallied-is}
+use Rattle.tally.proofs.TallyLaws.{tallied-is}
 use borrow.Author.Needs.{needs}
 use Rattle.recipes.proofs.run_recipe.Statement.{statement}
 use Rattle.recipes.proofs.run_recipe.Tie as tie

@@ -33,25 +33,25 @@ abbrev U : tie.At-loop Inv-loop μ-loop → ℕ → ℕ
 U l = let a = S l .args in repeatedAt (a .offsets .now) (from (a .rstart) (a .rows .now)) (a .counts .now) (from (a .cstart) (a .count-bits .now))
 
 -- both factors of a turn are small
-fits : (w : tie.After-row-len Inv-loop μ-loop) → (w .before .before .before .before .times-at .result ≤ narrow .outer) × (w .row-len .result ≤ narrow .offset)
+fits : (w : tie.After-row-len Inv-loop μ-loop) → (w .before .before .before .before .repeat-count .result ≤ narrow .outer) × (w .row-len .result ≤ narrow .offset)
 fits w =
     let l = w .before .before .before .before .before .before in
     let a = S l .args in
     (omega (arith, w .before .before .before .if1 .left), omega (arith, w .row-len .ensures, w .before .offset-at2 .ensures .1, len-low (from (a .rstart) (a .rows .now)) (l .loop .r) (w .before .before .offset-at .result) (w .before .offset-at2 .result)))
 
 -- what a turn repeats
-repeats : (w : tie.After-row-len Inv-loop μ-loop) → let l = w .before .before .before .before .before .before in w .before .before .before .before .times-at .result * w .row-len .result ≡ U l (l .loop .r)
+repeats : (w : tie.After-row-len Inv-loop μ-loop) → let l = w .before .before .before .before .before .before in w .before .before .before .before .repeat-count .result * w .row-len .result ≡ U l (l .loop .r)
 repeats w =
     let l = w .before .before .before .before .before .before in
-    repeated-is _ _ _ _ (l .loop .r) _ _ _ _ (w .before .before .before .before .times-at .ensures) (w .row-len .ensures) (w .before .before .offset-at .ensures .0) (w .before .offset-at2 .ensures .0)
+    repeated-is _ _ _ _ (l .loop .r) _ _ _ _ (w .before .before .before .before .repeat-count .ensures) (w .row-len .ensures) (w .before .before .offset-at .ensures .0) (w .before .offset-at2 .ensures .0)
 
 -- the sums after one more row
-more : (e : tie.Else2 Inv-loop μ-loop) → let w = e .before in let l = w .before .before .before .before .before .before in let t = w .before .before .before .before .times-at .result in
+more : (e : tie.Else2 Inv-loop μ-loop) → let w = e .before in let l = w .before .before .before .before .before .before in let t = w .before .before .before .before .repeat-count .result in
     Summing (T l) (U l) (count l) (l .loop .lists + t) (l .loop .values + t * w .row-len .result) (l .loop .r + 1) (l .loop .left - 1)
 more e =
     let w = e .before in
     let l = w .before .before .before .before .before .before in
-    sums-more (T l) (U l) (count l) (l .loop .inv) _ (w .before .before .before .before .before .loop-test .taken) (w .before .before .before .before .times-at .ensures) _ (repeats w) (omega (arith, w .before .before .before .if1 .left)) (omega (arith, e .if2 .left))
+    sums-more (T l) (U l) (count l) (l .loop .inv) _ (w .before .before .before .before .before .loop-test .taken) (w .before .before .before .before .repeat-count .ensures) _ (repeats w) (omega (arith, w .before .before .before .if1 .left)) (omega (arith, e .if2 .left))
 
 row-count-requires : tie.Need-row-count-requires Inv-loop μ-loop
 row-count-requires c κs = search needs
@@ -59,15 +59,15 @@ row-count-requires c κs = search needs
 loop-holds : tie.Need-loop-holds Inv-loop μ-loop
 loop-holds c = sums-begun _ _ _
 
-times-at-requires : tie.Need-times-at-requires Inv-loop μ-loop
-times-at-requires c κs = let l = c .before in (by-count (rows-are l) (S l .pre .1 .1 .0), (S l .pre .1 .1 .1 ∙ sym (rows-are l), omega (arith, l .loop .inv .rows)))
+repeat-count-requires : tie.Need-repeat-count-requires Inv-loop μ-loop
+repeat-count-requires c κs = let l = c .before in (by-count (rows-are l) (S l .pre .1 .1 .0), (S l .pre .1 .1 .1 ∙ sym (rows-are l), omega (arith, l .loop .inv .rows)))
 
 sub-if1 : tie.Need-sub-if1 Inv-loop μ-loop
 sub-if1 c = omega (arith, c .before .before .loop .inv .few)
 
 returns : tie.Need-returns Inv-loop μ-loop
 unfolding sumsOf
-returns c = let l = c .before .before .before in rw (← rows-are l) (sums-many (T l) (U l) (count l) (l .loop .inv) _ (c .before .before .loop-test .taken) (c .before .times-at .ensures) (c .if1 .taken))
+returns c = let l = c .before .before .before in rw (← rows-are l) (sums-many (T l) (U l) (count l) (l .loop .inv) _ (c .before .before .loop-test .taken) (c .before .repeat-count .ensures) (c .if1 .taken))
 
 offset-at-requires : tie.Need-offset-at-requires Inv-loop μ-loop
 offset-at-requires c κs = let l = c .before .before .before in omega (arith, l .loop .inv .rows, c .before .before .loop-test .taken, rows-are l)
@@ -89,7 +89,7 @@ sub-if2 c = omega (arith, c .before .before .before .before .before .before .loo
 
 returns-2 : tie.Need-returns-2 Inv-loop μ-loop
 unfolding sumsOf
-returns-2 c = let l = c .before .before .before .before .before .before .before in rw (← rows-are l) (sums-large (T l) (U l) (count l) (l .loop .inv) _ (c .before .before .before .before .before .before .loop-test .taken) (c .before .before .before .before .before .times-at .ensures) _ (repeats (c .before)) (c .if2 .taken))
+returns-2 c = let l = c .before .before .before .before .before .before .before in rw (← rows-are l) (sums-large (T l) (U l) (count l) (l .loop .inv) _ (c .before .before .before .before .before .before .loop-test .taken) (c .before .before .before .before .before .repeat-count .ensures) _ (repeats (c .before)) (c .if2 .taken))
 
 add-lists : tie.Need-add-lists Inv-loop μ-loop
 add-lists c = omega (arith, more c .few)
@@ -121,7 +121,7 @@ sum-repeats-spec =
     μ-loop
     row-count-requires
     loop-holds
-    times-at-requires
+    repeat-count-requires
     sub-if1
     returns
     offset-at-requires

@@ -56,13 +56,13 @@ abbrev row : tie.After-offset-at2 Inv-loop μ-loop → Row
 row q = let l = L q in rowFrom (C (S l) .rows) (elemAt (C (S l) .values) (C (S l) .elements)) (l .loop .r) (q .before .offset-at .result) (q .offset-at2 .result)
 
 abbrev copies : tie.After-offset-at2 Inv-loop μ-loop → List Row
-copies q = replicate (q .before .before .times-at .result) (row q)
+copies q = replicate (q .before .before .repeat-count .result) (row q)
 
 same : (q : tie.After-offset-at2 Inv-loop μ-loop) → innerOf (O (L q) (L q .loop .r)) ≡ copies q
-same q = let l = L q in copies-are (C (S l)) (A (S l)) (l .loop .r) (q .before .before .times-at .result) (q .before .offset-at .result) (q .offset-at2 .result) (q .before .before .times-at .ensures) (q .before .offset-at .ensures .0) (q .offset-at2 .ensures .0)
+same q = let l = L q in copies-are (C (S l)) (A (S l)) (l .loop .r) (q .before .before .repeat-count .result) (q .before .offset-at .result) (q .offset-at2 .result) (q .before .before .repeat-count .ensures) (q .before .offset-at .ensures .0) (q .offset-at2 .ensures .0)
 
-few : (q : tie.After-offset-at2 Inv-loop μ-loop) → L q .loop .i + q .before .before .times-at .result ≤ narrow .outer
-few q = let l = L q in omega (arith, outer-few (O l) (count l) (copies q) (q .before .before .before .loop-test .taken) (same q) (l .loop .inv), length-replicate (q .before .before .times-at .result) (row q))
+few : (q : tie.After-offset-at2 Inv-loop μ-loop) → L q .loop .i + q .before .before .repeat-count .result ≤ narrow .outer
+few q = let l = L q in omega (arith, outer-few (O l) (count l) (copies q) (q .before .before .before .loop-test .taken) (same q) (l .loop .inv), length-replicate (q .before .before .repeat-count .result) (row q))
 
 row-count-requires : tie.Need-row-count-requires Inv-loop μ-loop
 row-count-requires c κs = search needs
@@ -80,8 +80,8 @@ loop-holds c =
     let s = t .before .before .before .before .before .before .before in
     outer-begun _ _ (room-at (C s) (A s) (t .row-count .result) (t .row-count .ensures) (s .pre .1 .1 .1) (p .put-offset .kept .0) (c .before .put-offset2 .kept .0) .lists)
 
-times-at-requires : tie.Need-times-at-requires Inv-loop μ-loop
-times-at-requires c κs = let l = c .before in (by-count (rows-are l) (S l .pre .1 .0), (S l .pre .1 .1 .0 ∙ sym (rows-are l), omega (arith, l .loop .inv .rows, c .loop-test .taken)))
+repeat-count-requires : tie.Need-repeat-count-requires Inv-loop μ-loop
+repeat-count-requires c κs = let l = c .before in (by-count (rows-are l) (S l .pre .1 .0), (S l .pre .1 .1 .0 ∙ sym (rows-are l), omega (arith, l .loop .inv .rows, c .loop-test .taken)))
 
 offset-at-requires : tie.Need-offset-at-requires Inv-loop μ-loop
 offset-at-requires c κs = let l = c .before .before in omega (arith, l .loop .inv .rows, c .before .loop-test .taken, rows-are l)
@@ -166,7 +166,7 @@ write-repeats-spec =
     put-offset-requires
     put-offset-requires-2
     loop-holds
-    times-at-requires
+    repeat-count-requires
     offset-at-requires
     add-offset-at
     offset-at-requires-2

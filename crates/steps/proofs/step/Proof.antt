@@ -5,7 +5,7 @@ use Rattle.model.specs.Bitmap.{from}
 use Rattle.model.specs.Column.{Column, column, Arguments, arguments, rowsOf, shownBy}
 use Rattle.model.proofs.ColumnLaws.{length-rows}
 use Rattle.steps.specs.Steps.{opUses}
-use Rattle.steps.specs.Steps as specs
+use Rattle.codes.specs.Codes as codes
 use Rattle.steps.proofs.StepLaws.{step-one, step-two}
 use borrow.Author.Needs.{needs}
 use Rattle.steps.proofs.step.Statement.{statement}
@@ -33,7 +33,7 @@ one-list-requires : tie.Need-one-list-requires
 one-list-requires c κs =
     let s = S (c .before .before .before .before .before .before .before) in
     let a = s .args in
-    (s .pre .0, (s .pre .1 .0, (s .pre .1 .1 .0 .bits, uses-one (specs.step (a .code) (a .first) (a .second) (a .third)) (a .n) (length (a .args .now)) _ _ (c .before .before .before .before .before .before .before .step-op .ensures) (c .before .before .before .before .before .op .given .1) (s .pre .1 .1 .1 .uses))))
+    (s .pre .0, (s .pre .1 .0, (s .pre .1 .1 .0 .bits, uses-one (codes.step (a .code) (a .first) (a .second) (a .third)) (a .n) (length (a .args .now)) _ _ (c .before .before .before .before .before .before .before .step-op .ensures) (c .before .before .before .before .before .op .given .1) (s .pre .1 .1 .1 .uses))))
 
 enum-known-op-2 : tie.Need-enum-known-op-2
 enum-known-op-2 c = search needs
@@ -59,7 +59,7 @@ returns : tie.Need-returns
 returns c =
     let s = S (c .before .before .before .before .before .before .before .before .before .before .before .before .before .before) in
     let a = s .args in
-    rw (step-one (specs.step (a .code) (a .first) (a .second) (a .third)) (rowsOf (C s)) (rowsOf (D s)) (shownBy (A s)) _ (a .n) (sym (c .before .before .before .before .before .before .before .before .before .before .before .before .before .before .step-op .ensures) ∙ c .before .before .before .before .before .before .before .before .before .before .before .before .op .given .1) (length-rows (D s) ∙ s .pre .1 .1 .0 .rows)) (c .before .before .before .before .before .before .one-list .ensures)
+    rw (step-one (codes.step (a .code) (a .first) (a .second) (a .third)) (rowsOf (C s)) (rowsOf (D s)) (shownBy (A s)) _ (a .n) (sym (c .before .before .before .before .before .before .before .before .before .before .before .before .before .before .step-op .ensures) ∙ c .before .before .before .before .before .before .before .before .before .before .before .before .op .given .1) (length-rows (D s) ∙ s .pre .1 .1 .0 .rows)) (c .before .before .before .before .before .before .one-list .ensures)
 
 same-length-5 : tie.Need-same-length-5
 same-length-5 c = search needs
@@ -77,7 +77,7 @@ returns-2 : tie.Need-returns-2
 returns-2 c =
     let s = S (c .before .before .before .before .before .before .before .before .before .before .before .before .before .before) in
     let a = s .args in
-    rw (step-two (specs.step (a .code) (a .first) (a .second) (a .third)) (rowsOf (C s)) (rowsOf (D s)) (shownBy (A s)) _ (sym (c .before .before .before .before .before .before .before .before .before .before .before .before .before .before .step-op .ensures) ∙ c .before .before .before .before .before .before .before .before .before .before .before .before .op2 .given .1)) (c .before .before .before .before .before .before .after-three .ensures)
+    rw (step-two (codes.step (a .code) (a .first) (a .second) (a .third)) (rowsOf (C s)) (rowsOf (D s)) (shownBy (A s)) _ (sym (c .before .before .before .before .before .before .before .before .before .before .before .before .before .before .step-op .ensures) ∙ c .before .before .before .before .before .before .before .before .before .before .before .before .op2 .given .1)) (c .before .before .before .before .before .before .after-three .ensures)
 
 pub step-spec : {M : Type 1} → statement M
 step-spec =

@@ -8,7 +8,7 @@ use Rattle.model.specs.Outcome.{columnsRefusal}
 use Rattle.model.specs.Recipe.{malformed}
 use Rattle.recipes.specs.Recipes.{recipe}
 use Rattle.recipes.proofs.CallLaws.{refused-ten, refused-lists, refused-short, refused-rows, refused-length}
-use Rattle.recipes.proofs.CheckLaws.{few-lent}
+use Rattle.recipes.proofs.FitLaws.{few-lent}
 use borrow.Author.Needs.{needs}
 use Rattle.recipes.proofs.call.refusal.Statement.{statement}
 use Rattle.recipes.proofs.call.refusal.Tie as tie

@@ -1,0 +1,89 @@
+-- The slices of a call, at entry and at exit, in the order of a function's parameters; and what it means that a call is a run.
+use mathlib.Core.List.{List}
+use Prim.Native.Nat.{ℕ}
+use lib.IntN.{ℤ}
+use lib.ListN.{length}
+use denote.Ref.{RefT, now}
+use Rattle.model.specs.Limits.{narrow}
+use Rattle.model.specs.Form.{Room, ValueRoom, RepeatRoom}
+use Rattle.model.specs.Rows.{ListCall}
+use Rattle.model.specs.Column.{Column, Arguments}
+use Rattle.model.specs.Call.{Call, list, recipe}
+use Rattle.model.specs.Contract.{Slice, lent, lentArguments, room, valueRoom, repeatRoom}
+use Rattle.model.specs.Recipe.{Recipe}
+use Rattle.model.specs.Run.{Run, listRunEnd, valueRunEnd, repeatRunEnd, recipeRunEnd}
+use Rattle.model.specs.declared.ListAnswer.{ListAnswer}
+use Rattle.model.specs.declared.RepeatAnswer.{RepeatAnswer}
+use Rattle.model.specs.declared.ValueAnswer.{ValueAnswer}
+use Rattle.tally.specs.Tallies.{tallyOf}
+use Rattle.tally.specs.declared.RecipeAnswer.{RecipeAnswer}
+use Rattle.tally.specs.declared.Tally.{Tally}
+
+-- the four slices of a list column, lent, for an answer or as a tray
+pub record Slices : Type 0 where
+  pub offsets : Slice ℤ
+  pub rows : Slice ℕ
+  pub values : Slice ℤ
+  pub elements : Slice ℕ
+
+-- the two of an argument column, or of a value answer
+pub record Pair : Type 0 where
+  pub values : Slice ℤ
+  pub bits : Slice ℕ
+
+-- the column that slices hold as the call begins, and the places that they have
+abbrev pub columnOf : Slices → Column
+columnOf c = lent (c .offsets) (c .rows) (c .values) (c .elements)
+
+abbrev pub argumentsOf : Pair → Arguments
+argumentsOf x = lentArguments (x .values) (x .bits)
+
+abbrev pub roomOf : Slices → Room
+roomOf o = room (length (now (o .offsets .entry))) (length (now (o .rows .entry))) (length (now (o .values .entry))) (length (now (o .elements .entry)))
+
+abbrev pub valueRoomOf : Pair → ValueRoom
+valueRoomOf o = valueRoom (length (now (o .values .entry))) (length (now (o .bits .entry)))
+
+-- slices among a function's parameters, before the others, at entry and at exit
+abbrev pub Before2 : Type 0 → Type 0
+Before2 A = RefT (List ℤ) × (RefT (List ℕ) × A)
+
+abbrev pub Before4 : Type 0 → Type 0
+Before4 A = Before2 (Before2 A)
+
+abbrev pub entry4 : {A : Type 0} → Slices → A → Before4 A
+entry4 c k = (c .offsets .entry, (c .rows .entry, (c .values .entry, (c .elements .entry, k))))
+
+abbrev pub exit4 : {A : Type 0} → Slices → A → Before4 A
+exit4 c k = (c .offsets .exit, (c .rows .exit, (c .values .exit, (c .elements .exit, k))))
+
+abbrev pub entry2 : {A : Type 0} → Pair → A → Before2 A
+entry2 x k = (x .values .entry, (x .bits .entry, k))
+
+abbrev pub exit2 : {A : Type 0} → Pair → A → Before2 A
+exit2 x k = (x .values .exit, (x .bits .exit, k))
+
+-- a call of q that answered a and had o for its output is a run
+abbrev pub ListRuns : ListCall Column Arguments → ListAnswer → Slices → Type 0
+ListRuns q a o = Run narrow (list q (roomOf o)) (listRunEnd a (now (o .offsets .exit)) (now (o .rows .exit)) (now (o .values .exit)) (now (o .elements .exit)))
+
+-- the same with a value answer
+abbrev pub ValueRuns : (ValueRoom → Call Column Arguments) → ValueAnswer → Pair → Type 0
+ValueRuns q a o = Run narrow (q (valueRoomOf o)) (valueRunEnd a (now (o .values .exit)) (now (o .bits .exit)))
+
+-- and with list-repeat's, whose outer lists have two slices and inner lists four
+abbrev pub RepeatRuns : (RepeatRoom → Call Column Arguments) → RepeatAnswer → Pair → Slices → Type 0
+RepeatRuns q a b o =
+    Run narrow
+    (q (repeatRoom (length (now (b .values .entry))) (length (now (b .bits .entry))) (length (now (o .offsets .entry))) (length (now (o .rows .entry))) (length (now (o .values .entry))) (length (now (o .elements .entry)))))
+    (repeatRunEnd a (now (b .values .exit)) (now (b .bits .exit)) (now (o .offsets .exit)) (now (o .rows .exit)) (now (o .values .exit)) (now (o .elements .exit)))
+
+-- a recipe p on the lists c and d with arguments x, through the trays l and m into o; t is the tally that went in
+abbrev pub RecipeRuns : Recipe → Slices → Slices → Pair → Slices → Slices → Slices → Tally → RecipeAnswer → Type 0
+RecipeRuns p c d x l m o t a =
+    Run narrow (recipe p (columnOf c) (columnOf d) (argumentsOf x) (roomOf l) (roomOf m) (roomOf o) (tallyOf t))
+    (recipeRunEnd (a .answer)
+    (now (o .offsets .exit)) (now (o .rows .exit)) (now (o .values .exit)) (now (o .elements .exit))
+    (now (l .offsets .exit)) (now (l .rows .exit)) (now (l .values .exit)) (now (l .elements .exit))
+    (now (m .offsets .exit)) (now (m .rows .exit)) (now (m .values .exit)) (now (m .elements .exit))
+    (tallyOf (a .tally)))

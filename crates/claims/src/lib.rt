@@ -1,0 +1,2 @@
+// Demand 3 over the code. There is nothing to run here: proofs/Runs.antt says of each function of `lists` and of `run_recipe` that its
+// contract makes a call of it a run, as model's Agreement speaks of runs.

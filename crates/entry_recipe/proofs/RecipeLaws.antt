@@ -1,0 +1,50 @@
+-- Laws of the sizes and of the tally.
+use mathlib.Core.Path.{_≡_}
+use mathlib.Core.List.{List, _++_}
+use Prim.Native.Nat.{ℕ, _/_, _≤_, _<_}
+use native.Mathlib.Omega.{arith}
+use borrow.Author.Tests.{ltb-false, lt-ltb, le-ltb, ne-eqb}
+use lib.Dec.{ltb}
+use Rattle.model.specs.Basics.{All, none, more}
+use Rattle.model.specs.Column.{Row}
+use Rattle.model.specs.Outcome.{Outcome}
+use Rattle.entry.specs.Entry.{Numbers, listSizes, mostOffsets, mostValues, sizeRefusal}
+use Rattle.entry.proofs.SizeLaws.{Fits, Sized, sized, pick-none}
+use Rattle.recipe_bytes.specs.Inner.{Roomy}
+use Rattle.recipe_bytes.specs.Recipe.{talliedIn}
+use Rattle.recipe_inputs.specs.Inner.{Within}
+use Rattle.entry_recipe.specs.Recipe.{mostNumbers, mostArguments, recipeSizes, pairSizes, recipeSizeRefusal, tallyAfter}
+
+-- ---- the sizes
+
+pub tally-short : (ss : List Numbers) (c t : ℕ) → t < 16 → 100 ≡ recipeSizeRefusal ss c t
+unfolding recipeSizeRefusal
+tally-short ss c t h = rw (lt-ltb t 16 h)
+
+pub tally-long : (ss : List Numbers) (c t : ℕ) {r : ℕ} → 16 ≤ t → r ≡ sizeRefusal ss c 32 → r ≡ recipeSizeRefusal ss c t
+unfolding recipeSizeRefusal
+tally-long ss c t h e = rw (le-ltb t 16 h) e
+
+pub recipe-sized : (ss : List Numbers) (c t : ℕ) → recipeSizeRefusal ss c t ≡ 0 → (16 ≤ t) × Sized ss c 32
+unfolding recipeSizeRefusal
+recipe-sized ss c t h = let p = pick-none (ltb t 16) 100 (sizeRefusal ss c 32) (omega arith) h in (ltb-false t 16 (p .0), sized ss c 32 (p .1))
+
+-- the arrays have places for all numbers
+pub all-fit : (bns ba bo bv bso bsv po pv qo qv lo lv : ℕ) → All Fits (((recipeSizes bns ba ++ pairSizes bo bv bso bsv) ++ pairSizes po pv qo qv) ++ listSizes lo lv)
+    → Within bns bo bv bso bsv ba mostNumbers mostOffsets mostValues mostOffsets mostValues mostArguments
+    × Roomy (po / 4) (pv / 8) (qo / 4) (qv / 8) lo lv mostOffsets mostValues mostOffsets mostValues mostOffsets mostValues
+all-fit bns ba bo bv bso bsv po pv qo qv lo lv (more f1 (more f2 (more f3 (more f4 (more f5 (more f6 (more f7 (more f8 (more f9 (more f10 (more f11 (more f12 none)))))))))))) = (
+  record { numbers = f1; offsets = f3; values = f4; second-offsets = f5; second-values = f6; arguments = f2 },
+  record { one-offsets = f7; one-values = f8; two-offsets = f9; two-values = f10; offsets = f11; values = f12 },
+)
+
+-- ---- the tally; r is what the code found k to be
+
+module _ (x : Outcome (List Row)) {k r : ℕ} (e : r ≡ k) where
+  pub not-counted : {s : List ℕ} → (r ≡ 0 → ⊥) → s ≡ tallyAfter k x s
+  unfolding tallyAfter
+  not-counted n = rw (← e, ne-eqb _ 0 n)
+
+  pub counted : (s : List ℕ) {s′ : List ℕ} → r ≡ 0 → s′ ≡ talliedIn x s → s′ ≡ tallyAfter k x s
+  unfolding tallyAfter
+  counted s z h = rw (← e, z) h

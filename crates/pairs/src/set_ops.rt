@@ -1,0 +1,489 @@
+// Union and intersect of one pair of rows, by comparing with the elements before.
+// After set_ops.rs of datafusion-functions-nested 55.2.0, Apache License 2.0, Apache Software Foundation; changed, see NOTICE.
+use column::elements;
+use model::SetOp;
+ghost use Prim.Native.Nat.{_%_, _+_, _<_, _^_, _≤_};
+ghost use Rattle.bitmap.specs.Push.{Covers};
+ghost use Rattle.column.specs.Put.{Place, Source, Written};
+ghost use Rattle.model.specs.Basics.{pick, tab};
+ghost use Rattle.model.specs.Bitmap.{from};
+ghost use Rattle.model.specs.Column.{elemAt};
+ghost use Rattle.model.specs.Elements.{setElems};
+ghost use Rattle.pairs.specs.Pairs.{bitsFrom, keeps, kept};
+ghost use lib.Dec.{ltb};
+ghost use lib.ListN.{length};
+ghost use mathlib.Core.List.{[]};
+ghost use mathlib.Core.Path.{_≡_};
+
+// Whether element a + k is kept of its row: it is not among the k elements before it, and it is among the others where shared
+// ones are wanted, and is not where new ones are.
+fn is_kept(
+    values: &[i64],
+    elements: &[u8],
+    estart: usize,
+    a: usize,
+    k: usize,
+    others: &[i64],
+    oelements: &[u8],
+    ostart: usize,
+    b: usize,
+    m: usize,
+    shared: bool,
+) -> bool
+    requires row { ⌜ Source (now values) (from estart (now elements)) a (k + 1) ⌝ }
+    requires other { ⌜ Source (now others) (from ostart (now oelements)) b m ⌝ }
+    ensures { λ r. ⌜ r ≡ keeps shared (tab (elemAt (now (others .entry)) (from ostart (now (oelements .entry)))) b m) (tab (elemAt (now (values .entry)) (from estart (now (elements .entry)))) a k) (elemAt (now (values .entry)) (from estart (now (elements .entry))) (a + k)) ⌝ }
+{
+    let i = a + k;
+    if crate::is_among(values, elements, estart, i, values, elements, estart, a, k) {
+        return false;
+    }
+    let found = crate::is_among(values, elements, estart, i, others, oelements, ostart, b, m);
+    if shared {
+        return found;
+    }
+    !found
+}
+
+// How many of the n elements from element a on are kept.
+fn measure_kept(
+    values: &[i64],
+    elements: &[u8],
+    estart: usize,
+    a: usize,
+    n: usize,
+    others: &[i64],
+    oelements: &[u8],
+    ostart: usize,
+    b: usize,
+    m: usize,
+    shared: bool,
+) -> usize
+    requires row { ⌜ Source (now values) (from estart (now elements)) a n ⌝ }
+    requires other { ⌜ Source (now others) (from ostart (now oelements)) b m ⌝ }
+    ensures { λ r. ⌜ r ≡ length (kept shared (tab (elemAt (now (others .entry)) (from ostart (now (oelements .entry)))) b m) [] (tab (elemAt (now (values .entry)) (from estart (now (elements .entry)))) a n)) ⌝ }
+{
+    let mut len: usize = 0;
+    let mut k: usize = 0;
+    let mut left = n;
+    while 0 < left {
+        let new = is_kept(
+            values,
+            elements,
+            estart,
+            a,
+            k,
+            others,
+            oelements,
+            ostart,
+            b,
+            m,
+            shared,
+        );
+        len += new as usize;
+        k += 1;
+        left -= 1;
+    }
+    len
+}
+
+// Writes those of the n elements from element a on that are kept.
+fn write_kept(
+    values: &[i64],
+    elements: &[u8],
+    estart: usize,
+    a: usize,
+    n: usize,
+    others: &[i64],
+    oelements: &[u8],
+    ostart: usize,
+    b: usize,
+    m: usize,
+    shared: bool,
+    out_values: &mut [i64],
+    out_elements: &mut [u8],
+    at: usize,
+) -> usize
+    requires row { ⌜ Source (now values) (from estart (now elements)) a n ⌝ }
+    requires other { ⌜ Source (now others) (from ostart (now oelements)) b m ⌝ }
+    requires room { ⌜ Place (kept shared (tab (elemAt (now others) (from ostart (now oelements))) b m) [] (tab (elemAt (now values) (from estart (now elements))) a n)) at (length (now «out_values»)) (length (now «out_elements»)) ⌝ }
+    ensures { λ r. ⌜ Written (kept shared (tab (elemAt (now (others .entry)) (from ostart (now (oelements .entry)))) b m) [] (tab (elemAt (now (values .entry)) (from estart (now (elements .entry)))) a n)) at (now («out_values» .entry)) (now («out_values» .exit)) (now («out_elements» .entry)) (now («out_elements» .exit)) r ⌝ }
+{
+    let mut k: usize = 0;
+    let mut left = n;
+    let mut p = at;
+    while 0 < left {
+        if is_kept(
+            values,
+            elements,
+            estart,
+            a,
+            k,
+            others,
+            oelements,
+            ostart,
+            b,
+            m,
+            shared,
+        ) {
+            let i = a + k;
+            elements::write_elem(values, elements, estart, i, out_values, out_elements, p);
+            p += 1;
+        }
+        k += 1;
+        left -= 1;
+    }
+    p
+}
+
+// The length of the union.
+fn measure_union(
+    lvalues: &[i64],
+    lelements: &[u8],
+    lstart: usize,
+    a: usize,
+    n: usize,
+    rvalues: &[i64],
+    relements: &[u8],
+    rstart: usize,
+    b: usize,
+    m: usize,
+) -> usize
+    requires left { ⌜ Source (now lvalues) (from lstart (now lelements)) a n ⌝ }
+    requires right { ⌜ Source (now rvalues) (from rstart (now relements)) b m ⌝ }
+    requires sum { ⌜ n + m < 2 ^ 64 ⌝ }
+    ensures { λ r. ⌜ r ≡ length (setElems SetOp.Union (tab (elemAt (now (lvalues .entry)) (from lstart (now (lelements .entry)))) a n) (tab (elemAt (now (rvalues .entry)) (from rstart (now (relements .entry)))) b m)) ⌝ }
+{
+    let first = measure_kept(
+        lvalues,
+        lelements,
+        lstart,
+        a,
+        n,
+        rvalues,
+        relements,
+        rstart,
+        b,
+        0,
+        false,
+    );
+    let second = measure_kept(
+        rvalues,
+        relements,
+        rstart,
+        b,
+        m,
+        lvalues,
+        lelements,
+        lstart,
+        a,
+        n,
+        false,
+    );
+    first + second
+}
+
+// Writes the union: the first occurrences of the left row, then those of the right row that the left row doesn't have.
+fn write_union(
+    lvalues: &[i64],
+    lelements: &[u8],
+    lstart: usize,
+    a: usize,
+    n: usize,
+    rvalues: &[i64],
+    relements: &[u8],
+    rstart: usize,
+    b: usize,
+    m: usize,
+    out_values: &mut [i64],
+    out_elements: &mut [u8],
+    at: usize,
+) -> usize
+    requires left { ⌜ Source (now lvalues) (from lstart (now lelements)) a n ⌝ }
+    requires right { ⌜ Source (now rvalues) (from rstart (now relements)) b m ⌝ }
+    requires room { ⌜ Place (setElems SetOp.Union (tab (elemAt (now lvalues) (from lstart (now lelements))) a n) (tab (elemAt (now rvalues) (from rstart (now relements))) b m)) at (length (now «out_values»)) (length (now «out_elements»)) ⌝ }
+    ensures { λ r. ⌜ Written (setElems SetOp.Union (tab (elemAt (now (lvalues .entry)) (from lstart (now (lelements .entry)))) a n) (tab (elemAt (now (rvalues .entry)) (from rstart (now (relements .entry)))) b m)) at (now («out_values» .entry)) (now («out_values» .exit)) (now («out_elements» .entry)) (now («out_elements» .exit)) r ⌝ }
+{
+    let next = write_kept(
+        lvalues,
+        lelements,
+        lstart,
+        a,
+        n,
+        rvalues,
+        relements,
+        rstart,
+        b,
+        0,
+        false,
+        out_values,
+        out_elements,
+        at,
+    );
+    write_kept(
+        rvalues,
+        relements,
+        rstart,
+        b,
+        m,
+        lvalues,
+        lelements,
+        lstart,
+        a,
+        n,
+        false,
+        out_values,
+        out_elements,
+        next,
+    )
+}
+
+// The longer of two rows' values, the left one on equal lengths: the part that intersect walks.
+fn longer<'a>(left: &'a [i64], right: &'a [i64]) -> &'a [i64]
+    ensures { λ r. ⌜ now r ≡ pick (ltb (length (now (left .entry))) (length (now (right .entry)))) (now (right .entry)) (now (left .entry)) ⌝ }
+{
+    if left.len() < right.len() {
+        return right;
+    }
+    left
+}
+
+// The bitmap of the elements from element a on: from the byte on that holds the first of their bits.
+pub fn row_bits(elements: &[u8], estart: usize, a: usize, n: usize) -> &[u8]
+    requires { ⌜ Covers (from estart (now elements)) n ⌝ }
+    requires { ⌜ a ≤ n ⌝ }
+    ensures { λ r. ⌜ now r ≡ bitsFrom (from estart (now (elements .entry))) a .bytes ⌝ }
+{
+    if elements.len() == 0 {
+        return elements;
+    }
+    let byte = a / 8 + (estart + a % 8) / 8;
+    &elements[byte..]
+}
+
+// The place of that first bit in its byte.
+pub fn row_start(estart: usize, a: usize) -> usize
+    requires { ⌜ estart < 8 ⌝ }
+    ensures { λ r. ⌜ r ≡ (estart + a) % 8 ⌝ }
+{
+    (estart + a % 8) % 8
+}
+
+// The length of the intersection. Both rows are cut out of their columns, and the values walked are the part that `longer` hands
+// back. References with lifetimes of their own can't be one result or one local (the prover doesn't cover it), so the values of
+// both rows share a lifetime here and in each caller; bitmap and other row, which don't, go by the same test in two calls.
+fn measure_intersect<'a>(
+    lvalues: &'a [i64],
+    lelements: &[u8],
+    lstart: usize,
+    a: usize,
+    n: usize,
+    rvalues: &'a [i64],
+    relements: &[u8],
+    rstart: usize,
+    b: usize,
+    m: usize,
+) -> usize
+    requires left { ⌜ Source (now lvalues) (from lstart (now lelements)) a n ⌝ }
+    requires right { ⌜ Source (now rvalues) (from rstart (now relements)) b m ⌝ }
+    ensures { λ r. ⌜ r ≡ length (setElems SetOp.Intersect (tab (elemAt (now (lvalues .entry)) (from lstart (now (lelements .entry)))) a n) (tab (elemAt (now (rvalues .entry)) (from rstart (now (relements .entry)))) b m)) ⌝ }
+{
+    let walked = longer(&lvalues[a..a + n], &rvalues[b..b + m]);
+    if n < m {
+        let bits = row_bits(relements, rstart, b, rvalues.len());
+        let start = row_start(rstart, b);
+        return measure_kept(
+            walked,
+            bits,
+            start,
+            0,
+            m,
+            lvalues,
+            lelements,
+            lstart,
+            a,
+            n,
+            true,
+        );
+    }
+    let bits = row_bits(lelements, lstart, a, lvalues.len());
+    let start = row_start(lstart, a);
+    measure_kept(
+        walked,
+        bits,
+        start,
+        0,
+        n,
+        rvalues,
+        relements,
+        rstart,
+        b,
+        m,
+        true,
+    )
+}
+
+// Writes the intersection, walked as it was measured.
+fn write_intersect<'a>(
+    lvalues: &'a [i64],
+    lelements: &[u8],
+    lstart: usize,
+    a: usize,
+    n: usize,
+    rvalues: &'a [i64],
+    relements: &[u8],
+    rstart: usize,
+    b: usize,
+    m: usize,
+    out_values: &mut [i64],
+    out_elements: &mut [u8],
+    at: usize,
+) -> usize
+    requires left { ⌜ Source (now lvalues) (from lstart (now lelements)) a n ⌝ }
+    requires right { ⌜ Source (now rvalues) (from rstart (now relements)) b m ⌝ }
+    requires room { ⌜ Place (setElems SetOp.Intersect (tab (elemAt (now lvalues) (from lstart (now lelements))) a n) (tab (elemAt (now rvalues) (from rstart (now relements))) b m)) at (length (now «out_values»)) (length (now «out_elements»)) ⌝ }
+    ensures { λ r. ⌜ Written (setElems SetOp.Intersect (tab (elemAt (now (lvalues .entry)) (from lstart (now (lelements .entry)))) a n) (tab (elemAt (now (rvalues .entry)) (from rstart (now (relements .entry)))) b m)) at (now («out_values» .entry)) (now («out_values» .exit)) (now («out_elements» .entry)) (now («out_elements» .exit)) r ⌝ }
+{
+    let walked = longer(&lvalues[a..a + n], &rvalues[b..b + m]);
+    if n < m {
+        let bits = row_bits(relements, rstart, b, rvalues.len());
+        let start = row_start(rstart, b);
+        return write_kept(
+            walked,
+            bits,
+            start,
+            0,
+            m,
+            lvalues,
+            lelements,
+            lstart,
+            a,
+            n,
+            true,
+            out_values,
+            out_elements,
+            at,
+        );
+    }
+    let bits = row_bits(lelements, lstart, a, lvalues.len());
+    let start = row_start(lstart, a);
+    write_kept(
+        walked,
+        bits,
+        start,
+        0,
+        n,
+        rvalues,
+        relements,
+        rstart,
+        b,
+        m,
+        true,
+        out_values,
+        out_elements,
+        at,
+    )
+}
+
+// The length of what an operation makes of a pair of rows.
+pub fn measure_set<'a>(
+    op: SetOp,
+    lvalues: &'a [i64],
+    lelements: &[u8],
+    lstart: usize,
+    a: usize,
+    n: usize,
+    rvalues: &'a [i64],
+    relements: &[u8],
+    rstart: usize,
+    b: usize,
+    m: usize,
+) -> usize
+    requires left { ⌜ Source (now lvalues) (from lstart (now lelements)) a n ⌝ }
+    requires right { ⌜ Source (now rvalues) (from rstart (now relements)) b m ⌝ }
+    requires sum { ⌜ n + m < 2 ^ 64 ⌝ }
+    ensures { λ r. ⌜ r ≡ length (setElems op (tab (elemAt (now (lvalues .entry)) (from lstart (now (lelements .entry)))) a n) (tab (elemAt (now (rvalues .entry)) (from rstart (now (relements .entry)))) b m)) ⌝ }
+{
+    match op {
+        SetOp::Union => measure_union(
+            lvalues,
+            lelements,
+            lstart,
+            a,
+            n,
+            rvalues,
+            relements,
+            rstart,
+            b,
+            m,
+        ),
+        SetOp::Intersect => measure_intersect(
+            lvalues,
+            lelements,
+            lstart,
+            a,
+            n,
+            rvalues,
+            relements,
+            rstart,
+            b,
+            m,
+        ),
+    }
+}
+
+// Writes what an operation makes of a pair of rows.
+pub fn write_set<'a>(
+    op: SetOp,
+    lvalues: &'a [i64],
+    lelements: &[u8],
+    lstart: usize,
+    a: usize,
+    n: usize,
+    rvalues: &'a [i64],
+    relements: &[u8],
+    rstart: usize,
+    b: usize,
+    m: usize,
+    out_values: &mut [i64],
+    out_elements: &mut [u8],
+    at: usize,
+) -> usize
+    requires left { ⌜ Source (now lvalues) (from lstart (now lelements)) a n ⌝ }
+    requires right { ⌜ Source (now rvalues) (from rstart (now relements)) b m ⌝ }
+    requires room { ⌜ Place (setElems op (tab (elemAt (now lvalues) (from lstart (now lelements))) a n) (tab (elemAt (now rvalues) (from rstart (now relements))) b m)) at (length (now «out_values»)) (length (now «out_elements»)) ⌝ }
+    ensures { λ r. ⌜ Written (setElems op (tab (elemAt (now (lvalues .entry)) (from lstart (now (lelements .entry)))) a n) (tab (elemAt (now (rvalues .entry)) (from rstart (now (relements .entry)))) b m)) at (now («out_values» .entry)) (now («out_values» .exit)) (now («out_elements» .entry)) (now («out_elements» .exit)) r ⌝ }
+{
+    match op {
+        SetOp::Union => write_union(
+            lvalues,
+            lelements,
+            lstart,
+            a,
+            n,
+            rvalues,
+            relements,
+            rstart,
+            b,
+            m,
+            out_values,
+            out_elements,
+            at,
+        ),
+        SetOp::Intersect => write_intersect(
+            lvalues,
+            lelements,
+            lstart,
+            a,
+            n,
+            rvalues,
+            relements,
+            rstart,
+            b,
+            m,
+            out_values,
+            out_elements,
+            at,
+        ),
+    }
+}

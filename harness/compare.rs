@@ -1,7 +1,7 @@
 //! One call against the model: the answer, every byte written, every byte kept, and the bytes
 //! around each lent slice. A case that differs is printed whole.
 
-use crate::coverage::{self, Coverage};
+use crate::coverage::{self, Coverage, SHARED};
 use crate::entry::{decode_i32, decode_i64, decode_tally, decode_u32};
 use crate::entry::{Case, Content, Expected, Input, SliceKind, TALLY, TALLY_BYTES};
 use crate::library::Library;
@@ -148,13 +148,24 @@ impl<'a> Checker<'a> {
         observed(case, number, &after)
     }
 
-    /// Two calls whose columns show equal rows must share one answer.
-    pub fn agree(&mut self, cases: [&Case; 2], answers: [&Observed; 2]) {
-        let [first, second] = answers;
-        if first != second {
-            let fault = format!("answers differ: {first:?} and {second:?}");
-            self.report(cases[0], &[fault]);
-            self.report(cases[1], &["the second of these".to_string()]);
+    /// Calls that start from equal things, whatever the bytes that are not shown hold, must share
+    /// one answer.
+    pub fn agree(&mut self, calls: &[(Case, Observed)]) {
+        let [(first, answer), others @ ..] = calls else {
+            return;
+        };
+        let start = first.start();
+        self.require(start.is_some(), first, "a pair of which a column is not well-formed");
+        let met = coverage::shared_met(first, first.expected().number);
+        for (other, other_answer) in others {
+            self.require(other.start() == start, other, "a pair that starts from unequal things");
+            if answer != other_answer {
+                let fault = format!("answers differ: {answer:?} and {other_answer:?}");
+                self.report(first, &[fault]);
+                self.report(other, &["the second of these".to_string()]);
+            } else if first.inputs != other.inputs {
+                met.iter().for_each(|subject| self.covered(other, SHARED, subject.clone()));
+            }
         }
     }
 

@@ -617,6 +617,66 @@ pub fn limits_met(input: &Input, number: u32) -> Vec<&'static str> {
     limit_columns_met(input.lists[0].offsets.len() - 1, &model::shown_arguments(column), number)
 }
 
+// Answers that layouts of the same rows share.
+
+/// The kind of these answers.
+pub const SHARED: &str = "pair of layouts";
+
+/// The columns whose length does not go with the rows of the first list.
+fn unequal_columns(input: &Input) -> Vec<Column> {
+    let rows = input.lists[0].offsets.len() - 1;
+    let is_unequal = |column: &Column| match *column {
+        Column::List(at) => input.lists[at].offsets.len() - 1 != rows,
+        Column::Argument(at) => {
+            let values = input.arguments[at].values.len();
+            match input.entry {
+                Entry::Recipe(columns) => values as u128 != u128::from(columns) * rows as u128,
+                entry => !model::suits(entry.roles()[at], values, rows),
+            }
+        }
+    };
+    Column::all(input.entry).into_iter().filter(is_unequal).collect()
+}
+
+/// The outputs that the result of an operation does not fit.
+fn short_outputs(case: &Case, input: &Input) -> Vec<&'static str> {
+    let operation = case.entry.known_operation();
+    let Ok(made) = model::rows_made(operation, &input.lists, input.taken()) else {
+        return Vec::new();
+    };
+    let lengths = case.lengths(case.entry.results());
+    let slots = model::slots_needed(&made).into_iter().zip(lengths);
+    let kinds = case.entry.outputs().iter().zip(slots);
+    kinds.filter(|(_, (needed, lent))| *needed > *lent as u64).map(|(kind, _)| kind.name).collect()
+}
+
+/// What calls met that show the same and share this answer: the number, and the one column, output,
+/// step or way to be malformed that it comes from.
+pub fn shared_met(case: &Case, number: u32) -> Vec<String> {
+    let input = case.decode();
+    let mut met = vec![number.to_string()];
+    if number == 3 {
+        if let [column] = unequal_columns(&input)[..] {
+            met.push(shared_3(column, case.entry));
+        }
+    } else if case.entry.is_recipe() {
+        met.extend(recipe_coverage::shared_met(case, &input, number));
+    } else if number == 9 {
+        if let [name] = short_outputs(case, &input)[..] {
+            met.push(shared_9(name));
+        }
+    }
+    met
+}
+
+pub fn shared_3(column: Column, entry: Entry) -> String {
+    format!("3 of {}", column.name(entry))
+}
+
+pub fn shared_9(output: &str) -> String {
+    format!("9 for {output}")
+}
+
 // What a run must reach.
 
 const INDEXES: &[&str] = &[
@@ -880,6 +940,16 @@ pub fn demanded_column_orders(entry: Entry) -> Vec<String> {
     orders
 }
 
+/// The answers that pairs of layouts must share: all but 1, 2 and the entry's own.
+fn demanded_shared(entry: Entry) -> Vec<String> {
+    let numbers = answers(entry).into_iter().filter(|number| matches!(number, 0 | 3..=9));
+    let mut all: Vec<String> = numbers.map(|number| number.to_string()).collect();
+    let others = Column::all(entry).into_iter().skip(1);
+    all.extend(others.map(|column| shared_3(column, entry)));
+    all.extend(entry.outputs().iter().map(|kind| shared_9(kind.name)));
+    all
+}
+
 /// Everything that a whole run must reach for one operation.
 fn demanded(entry: Entry) -> Vec<(&'static str, String)> {
     let mut all: Vec<(&'static str, String)> = Vec::new();
@@ -895,6 +965,7 @@ fn demanded(entry: Entry) -> Vec<(&'static str, String)> {
     add("one slot short", entry.outputs().iter().map(|kind| kind.name.to_string()).collect());
     add("damage", Harm::of(entry).iter().map(|harm| harm.name(entry)).collect());
     add("order", demanded_orders(entry));
+    add(SHARED, demanded_shared(entry));
     for way in ["ragged", "over size", "at size"] {
         let slices = entry.inputs().into_iter().chain(entry.outputs().iter().copied());
         let numbers = slices.filter(|kind| kind.most.is_some());

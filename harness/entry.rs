@@ -6,7 +6,8 @@
 //! in and come back, stand among the outputs.
 
 use crate::model::{
-    self, ArgumentColumn, ListColumn, Operation, Recipe, RecipeRefusal, ResultForm, Role, Slots,
+    self, ArgumentColumn, ListColumn, Operation, Recipe, RecipeRefusal, ResultForm, Role, Shown,
+    Slots,
 };
 use std::ops::Range;
 
@@ -375,6 +376,17 @@ pub struct Case {
     pub counts: Vec<u8>,
 }
 
+/// All that the answer of a call with well-formed columns may depend on: the entry, a recipe's
+/// numbers, what the columns show, the slots lent for results and trays, and a recipe's tally.
+#[derive(Debug, PartialEq)]
+pub struct Start {
+    entry: Entry,
+    numbers: Vec<u32>,
+    shown: Shown,
+    lengths: Vec<usize>,
+    tally: Option<[u64; 2]>,
+}
+
 /// What a call must answer, and the bytes that it must write at the front of each output, if it
 /// writes any, and of the counts.
 #[derive(Clone, Debug, PartialEq)]
@@ -426,8 +438,21 @@ impl Case {
         Input::decode(self.entry, &self.inputs)
     }
 
+    /// What the call starts from; None where a column is not well-formed.
+    pub fn start(&self) -> Option<Start> {
+        let input = self.decode();
+        let (lists, arguments) = (&input.lists, input.taken());
+        model::are_well_formed(lists, arguments).then(|| Start {
+            entry: self.entry,
+            shown: model::shown(lists, arguments),
+            lengths: self.lengths(0..self.entry.results().end),
+            tally: self.entry.is_recipe().then(|| self.tally()),
+            numbers: input.numbers.clone(),
+        })
+    }
+
     /// The slots of these outputs.
-    fn lengths(&self, outputs: Range<usize>) -> Vec<usize> {
+    pub fn lengths(&self, outputs: Range<usize>) -> Vec<usize> {
         let kinds = self.entry.outputs()[outputs.clone()].iter();
         kinds.zip(&self.outputs[outputs]).map(|(kind, bytes)| bytes.len() / kind.width).collect()
     }

@@ -561,7 +561,7 @@ impl Column {
     }
 
     /// The columns that the operation takes.
-    fn all(entry: Entry) -> Vec<Column> {
+    pub fn all(entry: Entry) -> Vec<Column> {
         let lists = (0..entry.lists()).map(Column::List);
         lists.chain((0..entry.taken()).map(Column::Argument)).collect()
     }

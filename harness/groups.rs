@@ -1,13 +1,14 @@
 //! The named groups of checks. A group gets a generator of its own, so that it can be run alone
 //! from the seed.
 
-use crate::compare::{Checker, Observed};
+use crate::compare::Checker;
 use crate::entry::{Case, Content, Entry, Input, SliceKind, MOST_ROWS, MOST_VALUES};
 use crate::entry::{TALLY, TALLY_BYTES};
 use crate::exhaustive::{every_argument, every_limit_length, every_sum};
 use crate::exhaustive::{short_columns, short_offsets};
 use crate::generate::*;
 use crate::model::{Operation, Role, Row, Shown};
+use crate::pairs;
 use crate::recipe_groups;
 use crate::rng::Rng;
 use crate::worked;
@@ -27,7 +28,7 @@ pub struct Group {
 /// come last.
 const FOR_EACH: [(&str, Applies, Run, u64); 13] = [
     ("random columns", always, random_columns, 6),
-    ("layouts of the same rows", always, same_rows, 6),
+    ("layouts of the same rows", always, pairs::same_rows, 6),
     ("damaged columns", always, damaged_columns, 4),
     ("order of refusals", always, order_of_refusals, 4),
     ("first bad row", has_row_refusals, first_bad_row, 2),
@@ -130,41 +131,6 @@ fn random_columns(checker: &mut Checker, entry: Entry, rng: &mut Rng, calls: u64
         let input = random_input(entry, shape, rng);
         checker.check(&lend(&input, Room::Any, rng));
     }
-}
-
-// Layouts that show the same rows.
-
-fn same_rows(checker: &mut Checker, entry: Entry, rng: &mut Rng, calls: u64) {
-    let fixed: Vec<Vec<Layout>> = layouts().into_iter().map(|layout| vec![layout]).collect();
-    while checker.calls < calls.max(fixed.len() as u64 * 20) {
-        let shape = match rng.below(200) {
-            0 => large_shape(rng),
-            _ => small_shape(rng),
-        };
-        let shown = random_shown_or_refused(entry, shape, rng);
-        let room = rng.pick(&[Room::Exact, Room::Longer(3), Room::Any]);
-        let mut first: Option<(Case, Observed)> = None;
-        let random: Vec<Vec<Layout>> = (0..4).map(|_| random_layouts(entry, rng)).collect();
-        for layouts in fixed.iter().chain(&random) {
-            let mut case = lend(&input_of(entry, &shown, layouts, rng), room, rng);
-            if let Some((first, _)) = &first {
-                lend_as_before(&mut case, first, rng);
-            }
-            let observed = checker.check(&case);
-            match &first {
-                None => first = Some((case, observed)),
-                Some((other, answer)) => checker.agree([other, &case], [answer, &observed]),
-            }
-        }
-    }
-}
-
-/// Lends as much for results as the first call did, with other bytes in it.
-fn lend_as_before(case: &mut Case, first: &Case, rng: &mut Rng) {
-    for (slice, before) in case.outputs.iter_mut().zip(&first.outputs) {
-        *slice = rng.bytes(before.len());
-    }
-    case.counts = rng.bytes(first.counts.len());
 }
 
 // Damage.

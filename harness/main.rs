@@ -19,8 +19,10 @@
 //! run, but for the plain Rust.
 //!
 //! Recipes are no operation: they are read in model.rs, made in recipe_generate.rs, and have their
-//! groups in recipe_groups.rs, what these must reach in recipe_coverage.rs, and their wrong
-//! versions in mock_recipe.rs; `--operation recipe` runs their groups.
+//! groups in recipe_groups.rs and recipe_lengths.rs, what these must reach in recipe_coverage.rs,
+//! and their wrong versions in mock_recipe.rs; `--operation recipe` runs their groups.
+//!
+//! Pairs of layouts that show the same rows are in pairs.rs, for operations and for recipes.
 
 mod bench;
 mod compare;
@@ -41,11 +43,13 @@ mod mock_recipe;
 #[cfg(mock)]
 mod mock_rows;
 mod model;
+mod pairs;
 mod plain;
 mod port;
 mod recipe_coverage;
 mod recipe_generate;
 mod recipe_groups;
+mod recipe_lengths;
 mod rng;
 mod worked;
 

@@ -176,8 +176,10 @@ impl<'a> Run<'a> {
             "recipe-column-of-eight" => *number >= 8,
             _ => *number >= self.columns,
         };
+        let from_0 = self.row_count() > 3 && self.list[0].starts_with(&[0; 4]);
         let stray = |(place, number): (usize, &u32)| match defect() {
             "recipe-unused-number-not-tested" => false,
+            "recipe-unused-number-not-tested-from-offset-0" if from_0 => false,
             "recipe-last-unused-number-not-tested" => *number != 0 && place + 1 < unused.len(),
             "recipe-first-unused-number-not-tested" => *number != 0 && place > 0,
             "recipe-unused-number-tested-as-column" => *number >= self.columns && *number != 0,
@@ -399,6 +401,11 @@ impl<'a> Run<'a> {
             if is("recipe-last-step-needs-a-tray") {
                 self.fits(&rows, &trays[4 * tray..][..4])?;
             }
+            let elements: usize = rows.iter().map(|row| row.items.len()).sum();
+            let two_short = output[3].len() + 2 == elements.div_ceil(8) && !output[3].is_empty();
+            if two_short && is("recipe-output-bitmap-two-bytes-short-accepted") {
+                return Ok(());
+            }
             accepted(self.write(&rows, output, counts))?;
             self.spoil_counts(counts);
         }
@@ -439,7 +446,11 @@ impl<'a> Run<'a> {
         if number == 0 {
             return Ok(self.carried(at, rows, tray));
         }
-        if is("recipe-tray-room-not-tested") || is("recipe-room-of-the-output-for-trays") {
+        let two_short = tray[0].len() / 4 + 1 == rows.len() && !tray[0].is_empty();
+        if is("recipe-tray-room-not-tested")
+            || is("recipe-room-of-the-output-for-trays")
+            || two_short && is("recipe-tray-two-offsets-short-accepted")
+        {
             let mut large = large_slices();
             let mut large: Vec<&mut [u8]> = large.iter_mut().map(Vec::as_mut_slice).collect();
             accepted(self.write(rows, &mut large, &mut unused))?;

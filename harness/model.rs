@@ -97,7 +97,7 @@ pub struct ArgumentColumn {
 }
 
 /// What the columns of a call show: the rows of each list, the values of each argument column.
-#[derive(Clone, Debug, Default)]
+#[derive(Clone, Debug, Default, PartialEq)]
 pub struct Shown {
     pub lists: Vec<Vec<Row>>,
     pub arguments: Vec<Vec<Element>>,
@@ -207,9 +207,16 @@ fn has_short_bitmap(column: &ListColumn) -> bool {
         || is_too_short(&column.elements, column.values.len())
 }
 
+/// Whether neither 1 nor 2 applies to any of these columns.
+pub fn are_well_formed(lists: &[ListColumn], arguments: &[ArgumentColumn]) -> bool {
+    let is_bad_list = |list: &ListColumn| has_bad_offsets(list) || has_short_bitmap(list);
+    let is_bad_argument = |one: &ArgumentColumn| is_too_short(&one.bits, one.values.len());
+    !lists.iter().any(is_bad_list) && !arguments.iter().any(is_bad_argument)
+}
+
 /// Whether an argument column of this many values goes with this many rows: a limit column may
 /// have one, used for all.
-fn suits(role: Role, values: usize, rows: usize) -> bool {
+pub fn suits(role: Role, values: usize, rows: usize) -> bool {
     values == rows || role == Role::Limit && values == 1
 }
 

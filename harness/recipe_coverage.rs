@@ -2,9 +2,9 @@
 //! whole run must reach.
 
 use crate::coverage::{argument_layouts, list_layouts, row_count, slices_at_size};
-use crate::coverage::{ARGUMENT_LAYOUTS, LIST_LAYOUTS, ROW_COUNTS};
+use crate::coverage::{shared_3, shared_9, ARGUMENT_LAYOUTS, LIST_LAYOUTS, ROW_COUNTS, SHARED};
 use crate::entry::{Case, Entry, Expected, Input, RECIPE_RESULT, TALLY, TALLY_BYTES, TRAYS};
-use crate::generate::Harm;
+use crate::generate::{Column, Harm};
 use crate::model::{self, Malformed, Place, RecipeRefusal, RecipeShown, CODES};
 
 /// A kind and a subject.
@@ -64,7 +64,30 @@ pub fn met(case: &Case, expected: &Expected) -> Vec<Met> {
         10 => met.extend(malformed_met(&input)),
         _ => (),
     }
+    if matches!(number, 0 | 9) {
+        met.extend(lent_met(case, &shown(&input)));
+    }
     met
+}
+
+/// Where the refusal comes from that calls share which show the same.
+pub fn shared_met(case: &Case, input: &Input, number: u32) -> Vec<String> {
+    let met = match number {
+        4..=9 => refused_met(case, input),
+        10 => malformed_met(input),
+        _ => Vec::new(),
+    };
+    let shared = |(kind, subject): Met| match kind {
+        "refused" => Some(subject),
+        "one slot short" => Some(shared_9(&subject)),
+        "malformed" => Some(shared_10(&subject)),
+        _ => None,
+    };
+    met.into_iter().filter_map(shared).collect()
+}
+
+fn shared_10(way: &str) -> String {
+    format!("10, {way}")
 }
 
 // Tallies.
@@ -277,6 +300,44 @@ fn room_met(case: &Case, shown: &RecipeShown) -> Vec<Met> {
     met
 }
 
+// Lengths of single slices.
+
+/// The recipes whose slices are looked at one by one: none of their steps writes a place again.
+const LENT_STEPS: [(usize, &str); 3] = [(0, "no steps"), (1, "one step"), (3, "three steps")];
+
+const LENT: [&str; 5] = ["none", "two short", "one short", "one more", "two more"];
+
+/// How long one slice of the trays or of the output is, where every other slice is just as long as
+/// the steps take.
+fn lent_met(case: &Case, shown: &RecipeShown) -> Vec<Met> {
+    let mut all = LENT_STEPS.into_iter();
+    let Some((_, steps)) = all.find(|(steps, _)| *steps == shown.steps.len()) else {
+        return Vec::new();
+    };
+    let mut needed = [[0; 4]; 3];
+    let carried = model::carry(shown, |place, slots| {
+        needed[place as usize].copy_from_slice(slots);
+        true
+    });
+    if carried.is_err() {
+        return Vec::new();
+    }
+    let lent = case.lengths(0..TALLY).into_iter().map(|slots| slots as u64).zip(needed.concat());
+    let slices = case.entry.outputs().iter().zip(lent);
+    let others: Vec<_> = slices.filter(|(_, (lent, needed))| lent != needed).collect();
+    let [(kind, (lent, needed))] = others[..] else {
+        return Vec::new();
+    };
+    let holds =
+        [lent == 0, lent + 2 == needed, lent + 1 == needed, lent == needed + 1, lent == needed + 2];
+    let names = LENT.into_iter().zip(holds).filter(|(_, holds)| *holds);
+    names.map(|(name, _)| lent_as(steps, kind.name, name)).collect()
+}
+
+fn lent_as(steps: &str, slice: &str, name: &str) -> Met {
+    ("lent", format!("{steps}, {slice}: {name}"))
+}
+
 // What a run must reach.
 
 /// The answers that a recipe can be given. Its unions cannot exceed 2147483647 elements here, but
@@ -365,6 +426,37 @@ fn demanded_room() -> Vec<Met> {
     all
 }
 
+/// A tray that no step writes takes nothing, and is never short.
+fn demanded_lent(entry: Entry) -> Vec<Met> {
+    let mut all = Vec::new();
+    for (count, steps) in LENT_STEPS {
+        for (slice, kind) in entry.outputs()[..TALLY].iter().enumerate() {
+            let is_written = count == 3 || RECIPE_RESULT.contains(&slice);
+            let names = if is_written { &LENT[..] } else { &LENT[3..] };
+            all.extend(names.iter().map(|name| lent_as(steps, kind.name, name)));
+        }
+    }
+    all
+}
+
+/// The answers that pairs of layouts must share: all but 1, 2 and the entry's own.
+fn demanded_shared(entry: Entry) -> Vec<Met> {
+    let numbers = ANSWERS.into_iter().filter(|number| matches!(number, 0 | 3..=10));
+    let mut all: Vec<String> = numbers.map(|number| number.to_string()).collect();
+    all.extend([Column::List(1), Column::Argument(0)].map(|column| shared_3(column, entry)));
+    all.extend(entry.outputs()[..TALLY].iter().map(|kind| shared_9(kind.name)));
+    for (kind, subject) in demanded_refusals() {
+        match kind {
+            "refused" => all.push(subject),
+            "malformed" if subject.ends_with("alone") || subject.ends_with("beside 3") => {
+                all.push(shared_10(&subject));
+            }
+            _ => (),
+        }
+    }
+    all.into_iter().map(|subject| (SHARED, subject)).collect()
+}
+
 /// Everything that a whole run must reach for recipes.
 pub fn demanded() -> Vec<Met> {
     let entry = Entry::Recipe(0);
@@ -386,5 +478,7 @@ pub fn demanded() -> Vec<Met> {
     all.extend(demanded_refusals());
     all.extend(demanded_slices(entry));
     all.extend(demanded_room());
+    all.extend(demanded_lent(entry));
+    all.extend(demanded_shared(entry));
     all
 }

@@ -246,17 +246,48 @@ pub fn random_recipe(shape: RowShape, rng: &mut Rng) -> RecipeShown {
 
 // Calls.
 
+/// What the call of a recipe shows, malformed or not, of equal row counts or not: its numbers, how
+/// many argument columns it has, what both lists show, and the values in the one slice of its
+/// argument columns.
+pub struct RecipeCall {
+    pub numbers: Vec<u32>,
+    pub columns: u32,
+    pub lists: [Vec<Row>; 2],
+    pub arguments: Vec<Element>,
+}
+
+impl RecipeCall {
+    pub fn new(shown: &RecipeShown) -> RecipeCall {
+        RecipeCall {
+            numbers: shown.steps.concat(),
+            columns: shown.columns.len() as u32,
+            lists: shown.lists.clone(),
+            arguments: shown.columns.concat(),
+        }
+    }
+
+    /// The values that the argument columns should have.
+    pub fn wanted_values(&self) -> u64 {
+        u64::from(self.columns) * self.lists[0].len() as u64
+    }
+
+    /// The columns of the call; the layouts are used in turn.
+    pub fn laid_out(&self, layouts: &[Layout], rng: &mut Rng) -> Input {
+        let mut turns = layouts.iter().copied().cycle();
+        let mut next = || turns.next().expect("at least one layout");
+        let lists = self.lists.iter().map(|rows| lay_out(rows, next(), rng)).collect();
+        Input {
+            entry: Entry::Recipe(self.columns),
+            numbers: self.numbers.clone(),
+            lists,
+            arguments: vec![lay_out_argument(&self.arguments, next(), rng)],
+        }
+    }
+}
+
 /// The columns of a recipe's call; the layouts are used in turn.
 pub fn recipe_input(shown: &RecipeShown, layouts: &[Layout], rng: &mut Rng) -> Input {
-    let mut turns = layouts.iter().copied().cycle();
-    let mut next = || turns.next().expect("at least one layout");
-    let lists = shown.lists.iter().map(|rows| lay_out(rows, next(), rng)).collect();
-    Input {
-        entry: Entry::Recipe(shown.columns.len() as u32),
-        numbers: shown.steps.concat(),
-        lists,
-        arguments: vec![lay_out_argument(&shown.columns.concat(), next(), rng)],
-    }
+    RecipeCall::new(shown).laid_out(layouts, rng)
 }
 
 /// The slots that the steps take in tray one, tray two and the output, up to one that is refused;

@@ -1,6 +1,6 @@
 //! The groups of checks for recipes.
 
-use crate::compare::{Checker, Observed};
+use crate::compare::Checker;
 use crate::entry::{encode_u32, Case, Entry, Input, MOST_ARGUMENTS, MOST_ROWS, MOST_VALUES};
 use crate::entry::{MOST_NUMBERS, TALLY, TALLY_BYTES, TRAYS};
 use crate::generate::*;
@@ -8,14 +8,16 @@ use crate::groups::{check_answer, check_first, counts_of_every_length, damage_so
 use crate::groups::{grow, make_ragged, over_size, ragged_slice, random_slice};
 use crate::groups::{ragged_end, slice_over_size, Holding, NumberSlice, Run};
 use crate::model::{self, Element, RecipeShown, Row, CODES};
+use crate::pairs;
 use crate::recipe_generate::*;
+use crate::recipe_lengths;
 use crate::rng::Rng;
 use crate::worked;
 
 /// Each group with its part of the random calls; those that take long come last.
-pub const ALL: [(&str, Run, u64); 14] = [
+pub const ALL: [(&str, Run, u64); 15] = [
     ("random recipes", random_recipes, 14),
-    ("layouts of the same rows", same_rows, 10),
+    ("layouts of the same rows", pairs::same_rows, 10),
     ("refused steps", refused_steps, 8),
     ("malformed recipes", malformed_recipes, 6),
     ("damaged columns", damaged_columns, 3),
@@ -25,13 +27,14 @@ pub const ALL: [(&str, Run, u64); 14] = [
     ("answers of the entry", entry_answers, 1),
     ("random bytes", random_bytes, 6),
     ("worked cases", worked::recipes, 0),
+    ("trays and output of every length, exhaustive", recipe_lengths::every_slice, 0),
     ("row counts and argument lengths, exhaustive", every_length, 0),
     ("short recipes, exhaustive", short_recipes, 0),
     ("codes one after another, exhaustive", every_pair, 0),
 ];
 
 /// A shape with few null rows, so that steps have something to do.
-fn shape_with_rows(rng: &mut Rng) -> RowShape {
+pub fn shape_with_rows(rng: &mut Rng) -> RowShape {
     RowShape { null_rows: rng.pick(&[0, 1, 1, 4]), ..small_shape(rng) }
 }
 
@@ -44,12 +47,12 @@ fn some_shape(rng: &mut Rng) -> RowShape {
     }
 }
 
-fn laid_out(shown: &RecipeShown, rng: &mut Rng) -> Input {
+pub fn laid_out(shown: &RecipeShown, rng: &mut Rng) -> Input {
     let layouts = random_layouts(Entry::Recipe(0), rng);
     recipe_input(shown, &layouts, rng)
 }
 
-fn require_number(checker: &mut Checker, case: &Case, number: u32, what: &str) {
+pub fn require_number(checker: &mut Checker, case: &Case, number: u32, what: &str) {
     checker.check(case);
     checker.require(case.expected().number == number, case, what);
 }
@@ -72,39 +75,6 @@ fn random_recipes(checker: &mut Checker, entry: Entry, rng: &mut Rng, calls: u64
         let input = random_input(entry, some_shape(rng), rng);
         checker.check(&lend_recipe(&input, Room::Any, rng));
     }
-}
-
-// Layouts that show the same rows.
-
-fn same_rows(checker: &mut Checker, entry: Entry, rng: &mut Rng, calls: u64) {
-    let fixed: Vec<Vec<Layout>> = layouts().into_iter().map(|layout| vec![layout]).collect();
-    while checker.calls < calls.max(fixed.len() as u64 * 20) {
-        let shape = if rng.chance(1, 400) { large_shape(rng) } else { shape_with_rows(rng) };
-        let shown = random_recipe(shape, rng);
-        let room = rng.pick(&[Room::Exact, Room::Longer(3), Room::Any]);
-        let mut first: Option<(Case, Observed)> = None;
-        let random: Vec<Vec<Layout>> = (0..4).map(|_| random_layouts(entry, rng)).collect();
-        for layouts in fixed.iter().chain(&random) {
-            let mut case = lend_recipe(&recipe_input(&shown, layouts, rng), room, rng);
-            if let Some((first, _)) = &first {
-                lend_as_before(&mut case, first, rng);
-            }
-            let observed = checker.check(&case);
-            match &first {
-                None => first = Some((case, observed)),
-                Some((other, answer)) => checker.agree([other, &case], [answer, &observed]),
-            }
-        }
-    }
-}
-
-/// Lends as much as the first call did, with other bytes in it, and an equal tally.
-fn lend_as_before(case: &mut Case, first: &Case, rng: &mut Rng) {
-    for (slice, before) in case.outputs.iter_mut().zip(&first.outputs) {
-        *slice = rng.bytes(before.len());
-    }
-    case.outputs[TALLY][..TALLY_BYTES].copy_from_slice(&first.outputs[TALLY][..TALLY_BYTES]);
-    case.counts = rng.bytes(first.counts.len());
 }
 
 // Refused steps.
@@ -132,8 +102,8 @@ fn refused_steps(checker: &mut Checker, _entry: Entry, rng: &mut Rng, calls: u64
 
 // Malformed recipes.
 
-/// The ways to make a recipe malformed.
-const WAYS: [fn(&mut Input, &mut Rng); 6] = [
+/// The ways to make a recipe malformed; they change its numbers or how many columns it has.
+pub const WAYS: [fn(&mut Input, &mut Rng); 6] = [
     spoil_length,
     spoil_step_count,
     spoil_code,
@@ -200,7 +170,7 @@ fn suit_arguments(input: &mut Input) {
     }
 }
 
-fn columns_of(input: &Input) -> u32 {
+pub fn columns_of(input: &Input) -> u32 {
     let Entry::Recipe(columns) = input.entry else { panic!("the call of a recipe") };
     columns
 }

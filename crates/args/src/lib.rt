@@ -9,16 +9,15 @@ use column::offsets;
 use model::ListAnswer;
 use ops::ListOp;
 use ops::RowOp;
-ghost use Prim.Native.Nat.{_-_, _<_, _≤_};
+ghost use Prim.Native.Nat.{_<_, _≤_};
 ghost use Rattle.args.specs.Made.{callRows};
 ghost use Rattle.args.specs.Taken.{Served};
-ghost use Rattle.column.specs.Put.{HasRoom, Holds, Readable, Source};
-ghost use Rattle.column.specs.Rows.{PutsRow, RoomFor};
-ghost use Rattle.model.specs.Basics.{tab};
-ghost use Rattle.model.specs.Bitmap.{from};
-ghost use Rattle.model.specs.Column.{arguments, column, elemAt, rowCount, rowsOf, shownBy};
-ghost use Rattle.model.specs.Contract.{ListMeets, room};
+ghost use Rattle.column.specs.Outputs.{Fills, ReadableElems, RoomForRow, RoomIn, WritesRow};
+ghost use Rattle.column.specs.Put.{Readable};
+ghost use Rattle.model.specs.Column.{rowCount, rowsOf, shownBy};
+ghost use Rattle.model.specs.Contract.{ListAnswers};
 ghost use Rattle.model.specs.Form.{flat};
+ghost use Rattle.model.specs.Held.{held, heldArguments, heldElems, lentArgumentsFrom, lentElems, lentFrom};
 ghost use Rattle.model.specs.Limits.{narrow};
 ghost use Rattle.model.specs.Outcome.{afterThree, fitted, listOutcome};
 ghost use Rattle.model.specs.Rows.{rowMade};
@@ -47,10 +46,10 @@ fn put_row(
     out_elements: &mut [u8],
     at: usize,
 ) -> usize
-    requires column { ⌜ Source (now values) (from estart (now elements)) a len ⌝ }
+    requires column { ⌜ ReadableElems values elements estart a len ⌝ }
     requires doable { ⌜ Doable op len ⌝ }
-    requires room { ⌜ RoomFor (rowMade (opMade op (tab (elemAt (now values) (from estart (now elements))) a len))) r at (length (now «out_rows»)) (length (now «out_values»)) (length (now «out_elements»)) ⌝ }
-    ensures { λ k. ⌜ PutsRow (rowMade (opMade op (tab (elemAt (now (values .entry)) (from estart (now (elements .entry)))) a len))) r at (now («out_rows» .entry)) (now («out_rows» .exit)) (now («out_values» .entry)) (now («out_values» .exit)) (now («out_elements» .entry)) (now («out_elements» .exit)) k ⌝ }
+    requires room { ⌜ RoomForRow (rowMade (opMade op (heldElems values elements estart a len))) r at «out_rows» «out_values» «out_elements» ⌝ }
+    ensures { λ k. ⌜ WritesRow (rowMade (opMade op (lentElems values elements estart a len))) r at «out_rows» «out_values» «out_elements» k ⌝ }
 {
     let null = ops::is_null(op);
     let next = ops::write(
@@ -91,11 +90,11 @@ fn write_rows(
     out_values: &mut [i64],
     out_elements: &mut [u8],
 )
-    requires column { ⌜ Readable (column (now offsets) (from rstart (now rows)) (now values) (from estart (now elements))) ⌝ }
-    requires arguments { ⌜ Served op (rowCount (now offsets)) (arguments (now xs) (from xstart (now xbits))) (arguments (now ys) (from ystart (now ybits))) (arguments (now zs) (from zstart (now zbits))) ⌝ }
-    requires small { ⌜ length (flat (callRows op (column (now offsets) (from rstart (now rows)) (now values) (from estart (now elements))) (arguments (now xs) (from xstart (now xbits))) (arguments (now ys) (from ystart (now ybits))) (arguments (now zs) (from zstart (now zbits))))) ≤ narrow .offset ⌝ }
-    requires room { ⌜ HasRoom (rowCount (now offsets)) (length (flat (callRows op (column (now offsets) (from rstart (now rows)) (now values) (from estart (now elements))) (arguments (now xs) (from xstart (now xbits))) (arguments (now ys) (from ystart (now ybits))) (arguments (now zs) (from zstart (now zbits)))))) (length (now «out_offsets»)) (length (now «out_rows»)) (length (now «out_values»)) (length (now «out_elements»)) ⌝ }
-    ensures { λ _. ⌜ Holds (callRows op (column (now (offsets .entry)) (from rstart (now (rows .entry))) (now (values .entry)) (from estart (now (elements .entry)))) (arguments (now (xs .entry)) (from xstart (now (xbits .entry)))) (arguments (now (ys .entry)) (from ystart (now (ybits .entry)))) (arguments (now (zs .entry)) (from zstart (now (zbits .entry))))) (now («out_offsets» .entry)) (now («out_offsets» .exit)) (now («out_rows» .entry)) (now («out_rows» .exit)) (now («out_values» .entry)) (now («out_values» .exit)) (now («out_elements» .entry)) (now («out_elements» .exit)) ⌝ }
+    requires column { ⌜ Readable (held offsets rows rstart values elements estart) ⌝ }
+    requires arguments { ⌜ Served op (rowCount (now offsets)) (heldArguments xs xbits xstart) (heldArguments ys ybits ystart) (heldArguments zs zbits zstart) ⌝ }
+    requires small { ⌜ length (flat (callRows op (held offsets rows rstart values elements estart) (heldArguments xs xbits xstart) (heldArguments ys ybits ystart) (heldArguments zs zbits zstart))) ≤ narrow .offset ⌝ }
+    requires room { ⌜ RoomIn (rowCount (now offsets)) (length (flat (callRows op (held offsets rows rstart values elements estart) (heldArguments xs xbits xstart) (heldArguments ys ybits ystart) (heldArguments zs zbits zstart)))) «out_offsets» «out_rows» «out_values» «out_elements» ⌝ }
+    ensures { λ _. ⌜ Fills (callRows op (lentFrom offsets rows rstart values elements estart) (lentArgumentsFrom xs xbits xstart) (lentArgumentsFrom ys ybits ystart) (lentArgumentsFrom zs zbits zstart)) «out_offsets» «out_rows» «out_values» «out_elements» ⌝ }
 {
     let n = offsets::row_count(offsets);
     offsets::put_offset(out_offsets, 0, 0);
@@ -166,11 +165,11 @@ fn write_fitting(
     out_values: &mut [i64],
     out_elements: &mut [u8],
 ) -> ListAnswer
-    requires column { ⌜ Readable (column (now offsets) (from rstart (now rows)) (now values) (from estart (now elements))) ⌝ }
-    requires arguments { ⌜ Served op (rowCount (now offsets)) (arguments (now xs) (from xstart (now xbits))) (arguments (now ys) (from ystart (now ybits))) (arguments (now zs) (from zstart (now zbits))) ⌝ }
-    requires made { ⌜ m ≡ length (flat (callRows op (column (now offsets) (from rstart (now rows)) (now values) (from estart (now elements))) (arguments (now xs) (from xstart (now xbits))) (arguments (now ys) (from ystart (now ybits))) (arguments (now zs) (from zstart (now zbits))))) ⌝ }
+    requires column { ⌜ Readable (held offsets rows rstart values elements estart) ⌝ }
+    requires arguments { ⌜ Served op (rowCount (now offsets)) (heldArguments xs xbits xstart) (heldArguments ys ybits ystart) (heldArguments zs zbits zstart) ⌝ }
+    requires made { ⌜ m ≡ length (flat (callRows op (held offsets rows rstart values elements estart) (heldArguments xs xbits xstart) (heldArguments ys ybits ystart) (heldArguments zs zbits zstart))) ⌝ }
     requires small { ⌜ m ≤ narrow .offset ⌝ }
-    ensures { λ k. ⌜ ListMeets (fitted (callRows op (column (now (offsets .entry)) (from rstart (now (rows .entry))) (now (values .entry)) (from estart (now (elements .entry)))) (arguments (now (xs .entry)) (from xstart (now (xbits .entry)))) (arguments (now (ys .entry)) (from ystart (now (ybits .entry)))) (arguments (now (zs .entry)) (from zstart (now (zbits .entry))))) (room (length (now («out_offsets» .entry))) (length (now («out_rows» .entry))) (length (now («out_values» .entry))) (length (now («out_elements» .entry))))) k (now («out_offsets» .entry)) (now («out_offsets» .exit)) (now («out_rows» .entry)) (now («out_rows» .exit)) (now («out_values» .entry)) (now («out_values» .exit)) (now («out_elements» .entry)) (now («out_elements» .exit)) ⌝ }
+    ensures { λ k. ⌜ ListAnswers (fitted (callRows op (lentFrom offsets rows rstart values elements estart) (lentArgumentsFrom xs xbits xstart) (lentArgumentsFrom ys ybits ystart) (lentArgumentsFrom zs zbits zstart))) k «out_offsets» «out_rows» «out_values» «out_elements» ⌝ }
 {
     let n = offsets::row_count(offsets);
     if !checks::has_room(
@@ -231,9 +230,9 @@ pub fn after_three(
     out_values: &mut [i64],
     out_elements: &mut [u8],
 ) -> ListAnswer
-    requires column { ⌜ Readable (column (now offsets) (from rstart (now rows)) (now values) (from estart (now elements))) ⌝ }
-    requires arguments { ⌜ Served op (rowCount (now offsets)) (arguments (now xs) (from xstart (now xbits))) (arguments (now ys) (from ystart (now ybits))) (arguments (now zs) (from zstart (now zbits))) ⌝ }
-    ensures { λ k. ⌜ ListMeets (afterThree narrow (callOf op (rowsOf (column (now (offsets .entry)) (from rstart (now (rows .entry))) (now (values .entry)) (from estart (now (elements .entry))))) (shownBy (arguments (now (xs .entry)) (from xstart (now (xbits .entry))))) (shownBy (arguments (now (ys .entry)) (from ystart (now (ybits .entry))))) (shownBy (arguments (now (zs .entry)) (from zstart (now (zbits .entry)))))) (room (length (now («out_offsets» .entry))) (length (now («out_rows» .entry))) (length (now («out_values» .entry))) (length (now («out_elements» .entry))))) k (now («out_offsets» .entry)) (now («out_offsets» .exit)) (now («out_rows» .entry)) (now («out_rows» .exit)) (now («out_values» .entry)) (now («out_values» .exit)) (now («out_elements» .entry)) (now («out_elements» .exit)) ⌝ }
+    requires column { ⌜ Readable (held offsets rows rstart values elements estart) ⌝ }
+    requires arguments { ⌜ Served op (rowCount (now offsets)) (heldArguments xs xbits xstart) (heldArguments ys ybits ystart) (heldArguments zs zbits zstart) ⌝ }
+    ensures { λ k. ⌜ ListAnswers (afterThree narrow (callOf op (rowsOf (lentFrom offsets rows rstart values elements estart)) (shownBy (lentArgumentsFrom xs xbits xstart)) (shownBy (lentArgumentsFrom ys ybits ystart)) (shownBy (lentArgumentsFrom zs zbits zstart)))) k «out_offsets» «out_rows» «out_values» «out_elements» ⌝ }
 {
     let total = totals::total(
         op,
@@ -309,7 +308,7 @@ pub fn run(
     requires { ⌜ xstart < 8 ⌝ }
     requires { ⌜ ystart < 8 ⌝ }
     requires { ⌜ zstart < 8 ⌝ }
-    ensures { λ k. ⌜ ListMeets (listOutcome narrow (callOf op (column (now (offsets .entry)) (from rstart (now (rows .entry))) (now (values .entry)) (from estart (now (elements .entry)))) (arguments (now (xs .entry)) (from xstart (now (xbits .entry)))) (arguments (now (ys .entry)) (from ystart (now (ybits .entry)))) (arguments (now (zs .entry)) (from zstart (now (zbits .entry))))) (room (length (now («out_offsets» .entry))) (length (now («out_rows» .entry))) (length (now («out_values» .entry))) (length (now («out_elements» .entry))))) k (now («out_offsets» .entry)) (now («out_offsets» .exit)) (now («out_rows» .entry)) (now («out_rows» .exit)) (now («out_values» .entry)) (now («out_values» .exit)) (now («out_elements» .entry)) (now («out_elements» .exit)) ⌝ }
+    ensures { λ k. ⌜ ListAnswers (listOutcome narrow (callOf op (lentFrom offsets rows rstart values elements estart) (lentArgumentsFrom xs xbits xstart) (lentArgumentsFrom ys ybits ystart) (lentArgumentsFrom zs zbits zstart))) k «out_offsets» «out_rows» «out_values» «out_elements» ⌝ }
 {
     let k = checks::list_refusal(offsets, rows, rstart, values, elements, estart);
     if k != 0 {

@@ -5,8 +5,7 @@ use rows::Cell;
 ghost use Prim.Native.Nat.{_<_, _≤_};
 ghost use Rattle.args.specs.Taken.{Served, Serves, argumentsRefusal, cellOf, opAt, placeIn, shortIf, takenAt, wrongIf};
 ghost use Rattle.bitmap.specs.Push.{Covers};
-ghost use Rattle.model.specs.Bitmap.{from};
-ghost use Rattle.model.specs.Column.{arguments, elemAt};
+ghost use Rattle.model.specs.Held.{heldArguments, heldBits, lentArgumentsFrom, lentBits, lentElem};
 ghost use Rattle.model.specs.Limits.{narrow};
 ghost use lib.Dec.{eqb};
 ghost use lib.ListN.{length};
@@ -15,9 +14,9 @@ ghost use mathlib.Core.Path.{_≡_};
 
 // The argument at place i.
 fn cell_at(values: &[i64], bits: &[u8], start: usize, i: usize) -> Cell
-    requires { ⌜ Covers (from start (now bits)) (length (now values)) ⌝ }
+    requires { ⌜ Covers (heldBits bits start) (length (now values)) ⌝ }
     requires { ⌜ i < length (now values) ⌝ }
-    ensures { λ c. ⌜ c ≡ cellOf (elemAt (now (values .entry)) (from start (now (bits .entry))) i) ⌝ }
+    ensures { λ c. ⌜ c ≡ cellOf (lentElem values bits start i) ⌝ }
 {
     if bitmap::is_valid(bits, start, i, values.len()) {
         return Cell::Value(values[i]);
@@ -55,9 +54,9 @@ pub(crate) fn taken_at(
     n: usize,
     r: usize,
 ) -> Cell
-    requires { ⌜ (on ≡ true → Serves limit n (arguments (now values) (from start (now bits)))) ⌝ }
+    requires { ⌜ (on ≡ true → Serves limit n (heldArguments values bits start)) ⌝ }
     requires { ⌜ r < n ⌝ }
-    ensures { λ c. ⌜ c ≡ takenAt on limit (arguments (now (values .entry)) (from start (now (bits .entry)))) r ⌝ }
+    ensures { λ c. ⌜ c ≡ takenAt on limit (lentArgumentsFrom values bits start) r ⌝ }
 {
     if !on {
         return Cell::Null;
@@ -84,11 +83,11 @@ pub(crate) fn op_at(
     r: usize,
     len: usize,
 ) -> RowOp
-    requires rows { ⌜ Covers (from rstart (now rows)) n ⌝ }
-    requires served { ⌜ Served op n (arguments (now xs) (from xstart (now xbits))) (arguments (now ys) (from ystart (now ybits))) (arguments (now zs) (from zstart (now zbits))) ⌝ }
+    requires rows { ⌜ Covers (heldBits rows rstart) n ⌝ }
+    requires served { ⌜ Served op n (heldArguments xs xbits xstart) (heldArguments ys ybits ystart) (heldArguments zs zbits zstart) ⌝ }
     requires there { ⌜ r < n ⌝ }
     requires small { ⌜ len ≤ narrow .offset ⌝ }
-    ensures { λ o. ⌜ o ≡ opAt op (from rstart (now (rows .entry))) (arguments (now (xs .entry)) (from xstart (now (xbits .entry)))) (arguments (now (ys .entry)) (from ystart (now (ybits .entry)))) (arguments (now (zs .entry)) (from zstart (now (zbits .entry)))) r len ⌝ }
+    ensures { λ o. ⌜ o ≡ opAt op (lentBits rows rstart) (lentArgumentsFrom xs xbits xstart) (lentArgumentsFrom ys ybits ystart) (lentArgumentsFrom zs zbits zstart) r len ⌝ }
 {
     let k = ops::takes(op);
     let x = taken_at(0 < k, false, xs, xbits, xstart, n, r);
@@ -101,7 +100,7 @@ pub(crate) fn op_at(
 // Whether a column that is taken has too short a bitmap.
 fn is_short_if(on: bool, values: &[i64], bits: &[u8], start: usize) -> bool
     requires { ⌜ start < 8 ⌝ }
-    ensures { λ b. ⌜ b ≡ shortIf on (arguments (now (values .entry)) (from start (now (bits .entry)))) ⌝ }
+    ensures { λ b. ⌜ b ≡ shortIf on (lentArgumentsFrom values bits start) ⌝ }
 {
     if !on {
         return false;
@@ -139,7 +138,7 @@ pub(crate) fn arguments_refusal(
     requires { ⌜ xstart < 8 ⌝ }
     requires { ⌜ ystart < 8 ⌝ }
     requires { ⌜ zstart < 8 ⌝ }
-    ensures { λ k. ⌜ k ≡ argumentsRefusal op n (arguments (now (xs .entry)) (from xstart (now (xbits .entry)))) (arguments (now (ys .entry)) (from ystart (now (ybits .entry)))) (arguments (now (zs .entry)) (from zstart (now (zbits .entry)))) ⌝ }
+    ensures { λ k. ⌜ k ≡ argumentsRefusal op n (lentArgumentsFrom xs xbits xstart) (lentArgumentsFrom ys ybits ystart) (lentArgumentsFrom zs zbits zstart) ⌝ }
 {
     let k = ops::takes(op);
     if is_short_if(0 < k, xs, xbits, xstart) {

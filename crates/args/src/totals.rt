@@ -11,8 +11,8 @@ ghost use Rattle.args.specs.Made.{callMeasure, countIf, isResize, letThr
 ghost use Rattle.args.specs.Taken.{Served, Serves};
 ghost use Rattle.bitmap.specs.Push.{Covers};
 ghost use Rattle.column.specs.Put.{Readable};
-ghost use Rattle.model.specs.Bitmap.{from};
-ghost use Rattle.model.specs.Column.{arguments, column, rowCount};
+ghost use Rattle.model.specs.Column.{rowCount};
+ghost use Rattle.model.specs.Held.{held, heldArguments, heldBits, lentArgumentsFrom, lentBits, lentFrom};
 ghost use Rattle.model.specs.Limits.{narrow};
 ghost use Rattle.model.specs.Refusals.{plus};
 ghost use mathlib.Core.Bool.{false};
@@ -64,10 +64,10 @@ fn measure_rows(
     zbits: &[u8],
     zstart: usize,
 ) -> Measure
-    requires column { ⌜ Readable (column (now offsets) (from rstart (now rows)) (now values) (from estart (now elements))) ⌝ }
-    requires arguments { ⌜ Served op (rowCount (now offsets)) (arguments (now xs) (from xstart (now xbits))) (arguments (now ys) (from ystart (now ybits))) (arguments (now zs) (from zstart (now zbits))) ⌝ }
+    requires column { ⌜ Readable (held offsets rows rstart values elements estart) ⌝ }
+    requires arguments { ⌜ Served op (rowCount (now offsets)) (heldArguments xs xbits xstart) (heldArguments ys ybits ystart) (heldArguments zs zbits zstart) ⌝ }
     requires kind { ⌜ isResize op ≡ false ⌝ }
-    ensures { λ m. ⌜ m ≡ rowsMeasure op (column (now (offsets .entry)) (from rstart (now (rows .entry))) (now (values .entry)) (from estart (now (elements .entry)))) (arguments (now (xs .entry)) (from xstart (now (xbits .entry)))) (arguments (now (ys .entry)) (from ystart (now (ybits .entry)))) (arguments (now (zs .entry)) (from zstart (now (zbits .entry)))) ⌝ }
+    ensures { λ m. ⌜ m ≡ rowsMeasure op (lentFrom offsets rows rstart values elements estart) (lentArgumentsFrom xs xbits xstart) (lentArgumentsFrom ys ybits ystart) (lentArgumentsFrom zs zbits zstart) ⌝ }
     ensures { λ m. ⌜ letThrough m ≤ narrow .offset ⌝ }
 {
     let n = offsets::row_count(offsets);
@@ -138,9 +138,9 @@ fn measure_resize(
     bits: &[u8],
     start: usize,
 ) -> Measure
-    requires { ⌜ Covers (from rstart (now rows)) n ⌝ }
-    requires { ⌜ Serves false n (arguments (now counts) (from start (now bits))) ⌝ }
-    ensures { λ m. ⌜ m ≡ resizeMeasure (from rstart (now (rows .entry))) (arguments (now (counts .entry)) (from start (now (bits .entry)))) n ⌝ }
+    requires { ⌜ Covers (heldBits rows rstart) n ⌝ }
+    requires { ⌜ Serves false n (heldArguments counts bits start) ⌝ }
+    ensures { λ m. ⌜ m ≡ resizeMeasure (lentBits rows rstart) (lentArgumentsFrom counts bits start) n ⌝ }
     ensures { λ m. ⌜ letThrough m ≤ narrow .offset ⌝ }
 {
     let mut sum: usize = 0;
@@ -195,9 +195,9 @@ pub(crate) fn total(
     zbits: &[u8],
     zstart: usize,
 ) -> Measure
-    requires column { ⌜ Readable (column (now offsets) (from rstart (now rows)) (now values) (from estart (now elements))) ⌝ }
-    requires arguments { ⌜ Served op (rowCount (now offsets)) (arguments (now xs) (from xstart (now xbits))) (arguments (now ys) (from ystart (now ybits))) (arguments (now zs) (from zstart (now zbits))) ⌝ }
-    ensures { λ m. ⌜ m ≡ callMeasure op (column (now (offsets .entry)) (from rstart (now (rows .entry))) (now (values .entry)) (from estart (now (elements .entry)))) (arguments (now (xs .entry)) (from xstart (now (xbits .entry)))) (arguments (now (ys .entry)) (from ystart (now (ybits .entry)))) (arguments (now (zs .entry)) (from zstart (now (zbits .entry)))) ⌝ }
+    requires column { ⌜ Readable (held offsets rows rstart values elements estart) ⌝ }
+    requires arguments { ⌜ Served op (rowCount (now offsets)) (heldArguments xs xbits xstart) (heldArguments ys ybits ystart) (heldArguments zs zbits zstart) ⌝ }
+    ensures { λ m. ⌜ m ≡ callMeasure op (lentFrom offsets rows rstart values elements estart) (lentArgumentsFrom xs xbits xstart) (lentArgumentsFrom ys ybits ystart) (lentArgumentsFrom zs zbits zstart) ⌝ }
     ensures { λ m. ⌜ letThrough m ≤ narrow .offset ⌝ }
 {
     if is_resize(op) {

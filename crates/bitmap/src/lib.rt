@@ -2,7 +2,8 @@
 ghost use Prim.Native.Nat.{_%_, _+_, _/_, _<_, _^_, _≤_};
 ghost use Rattle.bitmap.specs.Push.{Covers, pushBit, trues};
 ghost use Rattle.model.specs.Basics.{tab};
-ghost use Rattle.model.specs.Bitmap.{bitAt, bytesFor, from, shortBits, validAt};
+ghost use Rattle.model.specs.Bitmap.{bitAt, bytesFor, shortBits, validAt};
+ghost use Rattle.model.specs.Held.{heldBits, lentBits};
 ghost use lib.Count.{ones};
 ghost use lib.ListN.{length};
 ghost use mathlib.Core.Path.{_≡_};
@@ -50,7 +51,7 @@ fn bytes_from(start: usize, n: usize) -> usize
 // Whether a bitmap that is not empty has fewer than n bits.
 pub fn is_short(bitmap: &[u8], start: usize, n: usize) -> bool
     requires { ⌜ start < 8 ⌝ }
-    ensures { λ r. ⌜ r ≡ shortBits (from start (now (bitmap .entry))) n ⌝ }
+    ensures { λ r. ⌜ r ≡ shortBits (lentBits bitmap start) n ⌝ }
 {
     if bitmap.len() == 0 {
         return false;
@@ -60,9 +61,9 @@ pub fn is_short(bitmap: &[u8], start: usize, n: usize) -> bool
 
 // Whether bit i of n is set, or the bitmap is empty.
 pub fn is_valid(bitmap: &[u8], start: usize, i: usize, n: usize) -> bool
-    requires { ⌜ Covers (from start (now bitmap)) n ⌝ }
+    requires { ⌜ Covers (heldBits bitmap start) n ⌝ }
     requires { ⌜ i < n ⌝ }
-    ensures { λ r. ⌜ r ≡ validAt (from start (now (bitmap .entry))) i ⌝ }
+    ensures { λ r. ⌜ r ≡ validAt (lentBits bitmap start) i ⌝ }
 {
     if bitmap.len() == 0 {
         return true;

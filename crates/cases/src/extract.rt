@@ -1,5 +1,4 @@
 // Case K: element. Four calls, on S, which is [10,20,30,40], and on [].
-use crate::same;
 
 // Element -4 of S gives 10.
 fn fourth_last() -> bool {
@@ -15,9 +14,9 @@ fn fourth_last() -> bool {
         &mut out_values,
         &mut out_rows,
     );
-    same::value_counts(answer, 1, 0)
-        && same::values(&out_values, &[10, 77])
-        && same::bytes(&out_rows, &[1, 0xaa])
+    compare::value_counts(answer, 1, 0)
+        && compare::values(&out_values, &[10, 77])
+        && compare::bytes(&out_rows, &[1, 0xaa])
 }
 
 // Element 0 of S gives null.
@@ -34,9 +33,9 @@ fn none_at_zero() -> bool {
         &mut out_values,
         &mut out_rows,
     );
-    same::value_counts(answer, 1, 1)
-        && same::values(&out_values, &[0, 77])
-        && same::bytes(&out_rows, &[0, 0xaa])
+    compare::value_counts(answer, 1, 1)
+        && compare::values(&out_values, &[0, 77])
+        && compare::bytes(&out_rows, &[0, 0xaa])
 }
 
 // Element 2147483647 of [] gives null.
@@ -53,9 +52,9 @@ fn none_in_empty() -> bool {
         &mut out_values,
         &mut out_rows,
     );
-    same::value_counts(answer, 1, 1)
-        && same::values(&out_values, &[0, 77])
-        && same::bytes(&out_rows, &[0, 0xaa])
+    compare::value_counts(answer, 1, 1)
+        && compare::values(&out_values, &[0, 77])
+        && compare::bytes(&out_rows, &[0, 0xaa])
 }
 
 // Element 2147483648 of [] gives refusal 4.
@@ -72,9 +71,9 @@ fn refused_past_32_bits() -> bool {
         &mut out_values,
         &mut out_rows,
     );
-    same::value_refused(answer, 4)
-        && same::values(&out_values, &[77, 77])
-        && same::bytes(&out_rows, &[0xaa, 0xaa])
+    compare::value_refused(answer, 4)
+        && compare::values(&out_values, &[77, 77])
+        && compare::bytes(&out_rows, &[0xaa, 0xaa])
 }
 
 pub(crate) fn case_k() -> bool {

@@ -1,12 +1,11 @@
 // The cases A to P of the scope document, run and compared: a line each.
-// Outputs hold 77 in every slot and 0xaa in every byte before a call, and are one slot or more too long for the result.
+// Outputs hold 77 in every slot and 0xaa in every byte before a call, are one slot or more too long for the result, and are compared whole.
 mod extract;
 mod remove;
 mod repeat;
 mod replace;
 mod resize;
 mod reverse;
-mod same;
 mod set_ops;
 mod slice;
 

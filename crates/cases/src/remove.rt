@@ -1,5 +1,4 @@
 // Case N: remove 7 from [7,-,7,7]. Two calls; the null lies over 7.
-use crate::same;
 use model::ListAnswer;
 
 fn remove_sevens(
@@ -38,11 +37,11 @@ fn two_removed() -> bool {
         &mut out_values,
         &mut out_elements,
     );
-    same::list_counts(answer, 1, 2, 0, 1)
-        && same::offsets(&out_offsets, &[0, 2, 77])
-        && same::bytes(&out_rows, &[1, 0xaa])
-        && same::values(&out_values, &[0, 7, 77, 77, 77])
-        && same::bytes(&out_elements, &[0b10, 0xaa])
+    compare::list_counts(answer, 1, 2, 0, 1)
+        && compare::offsets(&out_offsets, &[0, 2, 77])
+        && compare::bytes(&out_rows, &[1, 0xaa])
+        && compare::values(&out_values, &[0, 7, 77, 77, 77])
+        && compare::bytes(&out_elements, &[0b10, 0xaa])
 }
 
 // With n -1 it gives the row unchanged.
@@ -58,11 +57,11 @@ fn none_removed() -> bool {
         &mut out_values,
         &mut out_elements,
     );
-    same::list_counts(answer, 1, 4, 0, 1)
-        && same::offsets(&out_offsets, &[0, 4, 77])
-        && same::bytes(&out_rows, &[1, 0xaa])
-        && same::values(&out_values, &[7, 0, 7, 7, 77])
-        && same::bytes(&out_elements, &[0b1101, 0xaa])
+    compare::list_counts(answer, 1, 4, 0, 1)
+        && compare::offsets(&out_offsets, &[0, 4, 77])
+        && compare::bytes(&out_rows, &[1, 0xaa])
+        && compare::values(&out_values, &[7, 0, 7, 7, 77])
+        && compare::bytes(&out_elements, &[0b1101, 0xaa])
 }
 
 pub(crate) fn case_n() -> bool {

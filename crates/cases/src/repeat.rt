@@ -1,5 +1,4 @@
 // Case O: list-repeat of a null over 8,8 and of [4], counts 1 and 2, gives [null], [[4],[4]].
-use crate::same;
 
 pub(crate) fn case_o() -> bool {
     let mut out_offsets = [77i32; 4];
@@ -22,11 +21,11 @@ pub(crate) fn case_o() -> bool {
         &mut out_values,
         &mut out_elements,
     );
-    same::repeat_counts(answer, 2, 2, 0, 0, 3, 1)
-        && same::offsets(&out_offsets, &[0, 1, 3, 77])
-        && same::bytes(&out_rows, &[0b11, 0xaa])
-        && same::offsets(&inner_offsets, &[0, 0, 1, 2, 77])
-        && same::bytes(&inner_rows, &[0b110, 0xaa])
-        && same::values(&out_values, &[4, 4, 77])
-        && same::bytes(&out_elements, &[0b11, 0xaa])
+    compare::repeat_counts(answer, 2, 2, 0, 0, 3, 1)
+        && compare::offsets(&out_offsets, &[0, 1, 3, 77])
+        && compare::bytes(&out_rows, &[0b11, 0xaa])
+        && compare::offsets(&inner_offsets, &[0, 0, 1, 2, 77])
+        && compare::bytes(&inner_rows, &[0b110, 0xaa])
+        && compare::values(&out_values, &[4, 4, 77])
+        && compare::bytes(&out_elements, &[0b11, 0xaa])
 }

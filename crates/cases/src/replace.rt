@@ -1,5 +1,4 @@
 // Case M: replace in [-,7,-] null by 5, n 1, gives [5,7,-]. The null to replace lies over 7.
-use crate::same;
 
 pub(crate) fn case_m() -> bool {
     let mut out_offsets = [77i32; 3];
@@ -22,9 +21,9 @@ pub(crate) fn case_m() -> bool {
         &mut out_values,
         &mut out_elements,
     );
-    same::list_counts(answer, 1, 3, 0, 1)
-        && same::offsets(&out_offsets, &[0, 3, 77])
-        && same::bytes(&out_rows, &[1, 0xaa])
-        && same::values(&out_values, &[5, 7, 0, 77])
-        && same::bytes(&out_elements, &[0b11, 0xaa])
+    compare::list_counts(answer, 1, 3, 0, 1)
+        && compare::offsets(&out_offsets, &[0, 3, 77])
+        && compare::bytes(&out_rows, &[1, 0xaa])
+        && compare::values(&out_values, &[5, 7, 0, 77])
+        && compare::bytes(&out_elements, &[0b11, 0xaa])
 }

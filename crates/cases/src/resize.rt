@@ -1,5 +1,4 @@
 // Case L: resize [1,2] to 4 with a null fill gives [1,2,-,-]. The null lies over a value.
-use crate::same;
 use model::Optional;
 
 pub(crate) fn case_l() -> bool {
@@ -22,9 +21,9 @@ pub(crate) fn case_l() -> bool {
         &mut out_values,
         &mut out_elements,
     );
-    same::list_counts(answer, 1, 4, 0, 2)
-        && same::offsets(&out_offsets, &[0, 4, 77])
-        && same::bytes(&out_rows, &[1, 0xaa])
-        && same::values(&out_values, &[1, 2, 0, 0, 77])
-        && same::bytes(&out_elements, &[0b11, 0xaa])
+    compare::list_counts(answer, 1, 4, 0, 2)
+        && compare::offsets(&out_offsets, &[0, 4, 77])
+        && compare::bytes(&out_rows, &[1, 0xaa])
+        && compare::values(&out_values, &[1, 2, 0, 0, 77])
+        && compare::bytes(&out_elements, &[0b11, 0xaa])
 }

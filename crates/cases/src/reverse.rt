@@ -1,5 +1,4 @@
 // Case A: reverse [1,2,-], null, [] gives [-,2,1], null, []. The null row lies over two values, one of them null.
-use crate::same;
 
 pub(crate) fn case_a() -> bool {
     let mut out_offsets = [77i32; 6];
@@ -16,9 +15,9 @@ pub(crate) fn case_a() -> bool {
         &mut out_values,
         &mut out_elements,
     );
-    same::list_counts(answer, 3, 3, 1, 1)
-        && same::offsets(&out_offsets, &[0, 3, 3, 3, 77, 77])
-        && same::bytes(&out_rows, &[0b101, 0xaa])
-        && same::values(&out_values, &[0, 2, 1, 77, 77])
-        && same::bytes(&out_elements, &[0b110, 0xaa])
+    compare::list_counts(answer, 3, 3, 1, 1)
+        && compare::offsets(&out_offsets, &[0, 3, 3, 3, 77, 77])
+        && compare::bytes(&out_rows, &[0b101, 0xaa])
+        && compare::values(&out_values, &[0, 2, 1, 77, 77])
+        && compare::bytes(&out_elements, &[0b110, 0xaa])
 }

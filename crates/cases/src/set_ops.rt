@@ -1,5 +1,4 @@
 // Cases B to E: distinct, union and intersect.
-use crate::same;
 use model::SetOp;
 
 // Distinct [3,-,3,-,1] gives [3,-,1]. Two values stand before the row, and the nulls lie over different ones.
@@ -18,11 +17,11 @@ pub(crate) fn case_b() -> bool {
         &mut out_values,
         &mut out_elements,
     );
-    same::list_counts(answer, 1, 3, 0, 1)
-        && same::offsets(&out_offsets, &[0, 3, 77])
-        && same::bytes(&out_rows, &[1, 0xaa])
-        && same::values(&out_values, &[3, 0, 1, 77])
-        && same::bytes(&out_elements, &[0b101, 0xaa])
+    compare::list_counts(answer, 1, 3, 0, 1)
+        && compare::offsets(&out_offsets, &[0, 3, 77])
+        && compare::bytes(&out_rows, &[1, 0xaa])
+        && compare::values(&out_values, &[3, 0, 1, 77])
+        && compare::bytes(&out_elements, &[0b101, 0xaa])
 }
 
 // Union [2,1,2], [1,5,-] gives [2,1,5,-].
@@ -46,11 +45,11 @@ pub(crate) fn case_c() -> bool {
         &mut out_values,
         &mut out_elements,
     );
-    same::list_counts(answer, 1, 4, 0, 1)
-        && same::offsets(&out_offsets, &[0, 4, 77])
-        && same::bytes(&out_rows, &[1, 0xaa])
-        && same::values(&out_values, &[2, 1, 5, 0, 77])
-        && same::bytes(&out_elements, &[0b111, 0xaa])
+    compare::list_counts(answer, 1, 4, 0, 1)
+        && compare::offsets(&out_offsets, &[0, 4, 77])
+        && compare::bytes(&out_rows, &[1, 0xaa])
+        && compare::values(&out_values, &[2, 1, 5, 0, 77])
+        && compare::bytes(&out_elements, &[0b111, 0xaa])
 }
 
 // Intersect [1,2], [2,1] gives [1,2].
@@ -74,11 +73,11 @@ pub(crate) fn case_d() -> bool {
         &mut out_values,
         &mut out_elements,
     );
-    same::list_counts(answer, 1, 2, 0, 0)
-        && same::offsets(&out_offsets, &[0, 2, 77])
-        && same::bytes(&out_rows, &[1, 0xaa])
-        && same::values(&out_values, &[1, 2, 77])
-        && same::bytes(&out_elements, &[0b11, 0xaa])
+    compare::list_counts(answer, 1, 2, 0, 0)
+        && compare::offsets(&out_offsets, &[0, 2, 77])
+        && compare::bytes(&out_rows, &[1, 0xaa])
+        && compare::values(&out_values, &[1, 2, 77])
+        && compare::bytes(&out_elements, &[0b11, 0xaa])
 }
 
 // Intersect [1,2], [2,9,1] gives [2,1].
@@ -102,9 +101,9 @@ pub(crate) fn case_e() -> bool {
         &mut out_values,
         &mut out_elements,
     );
-    same::list_counts(answer, 1, 2, 0, 0)
-        && same::offsets(&out_offsets, &[0, 2, 77])
-        && same::bytes(&out_rows, &[1, 0xaa])
-        && same::values(&out_values, &[2, 1, 77])
-        && same::bytes(&out_elements, &[0b11, 0xaa])
+    compare::list_counts(answer, 1, 2, 0, 0)
+        && compare::offsets(&out_offsets, &[0, 2, 77])
+        && compare::bytes(&out_rows, &[1, 0xaa])
+        && compare::values(&out_values, &[2, 1, 77])
+        && compare::bytes(&out_elements, &[0b11, 0xaa])
 }

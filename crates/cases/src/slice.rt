@@ -1,5 +1,4 @@
 // Cases F to J and P: slice. S is [10,20,30,40].
-use crate::same;
 use model::ListAnswer;
 use model::Optional;
 
@@ -74,11 +73,11 @@ pub(crate) fn case_f() -> bool {
         &mut out_values,
         &mut out_elements,
     );
-    same::list_counts(answer, 1, 4, 0, 0)
-        && same::offsets(&out_offsets, &[0, 4, 77])
-        && same::bytes(&out_rows, &[1, 0xaa])
-        && same::values(&out_values, &[10, 20, 30, 40, 77])
-        && same::bytes(&out_elements, &[0b1111, 0xaa])
+    compare::list_counts(answer, 1, 4, 0, 0)
+        && compare::offsets(&out_offsets, &[0, 4, 77])
+        && compare::bytes(&out_rows, &[1, 0xaa])
+        && compare::values(&out_values, &[10, 20, 30, 40, 77])
+        && compare::bytes(&out_elements, &[0b1111, 0xaa])
 }
 
 // S from -9 to -1 gives S.
@@ -95,11 +94,11 @@ pub(crate) fn case_g() -> bool {
         &mut out_values,
         &mut out_elements,
     );
-    same::list_counts(answer, 1, 4, 0, 0)
-        && same::offsets(&out_offsets, &[0, 4, 77])
-        && same::bytes(&out_rows, &[1, 0xaa])
-        && same::values(&out_values, &[10, 20, 30, 40, 77])
-        && same::bytes(&out_elements, &[0b1111, 0xaa])
+    compare::list_counts(answer, 1, 4, 0, 0)
+        && compare::offsets(&out_offsets, &[0, 4, 77])
+        && compare::bytes(&out_rows, &[1, 0xaa])
+        && compare::values(&out_values, &[10, 20, 30, 40, 77])
+        && compare::bytes(&out_elements, &[0b1111, 0xaa])
 }
 
 // S from 4 to 1 by -2 gives [40,20].
@@ -117,11 +116,11 @@ pub(crate) fn case_h() -> bool {
         &mut out_values,
         &mut out_elements,
     );
-    same::list_counts(answer, 1, 2, 0, 0)
-        && same::offsets(&out_offsets, &[0, 2, 77])
-        && same::bytes(&out_rows, &[1, 0xaa])
-        && same::values(&out_values, &[40, 20, 77, 77, 77])
-        && same::bytes(&out_elements, &[0b11, 0xaa])
+    compare::list_counts(answer, 1, 2, 0, 0)
+        && compare::offsets(&out_offsets, &[0, 2, 77])
+        && compare::bytes(&out_rows, &[1, 0xaa])
+        && compare::values(&out_values, &[40, 20, 77, 77, 77])
+        && compare::bytes(&out_elements, &[0b11, 0xaa])
 }
 
 // S from 1 to 0 by 0 gives [].
@@ -139,11 +138,11 @@ pub(crate) fn case_i() -> bool {
         &mut out_values,
         &mut out_elements,
     );
-    same::list_counts(answer, 1, 0, 0, 0)
-        && same::offsets(&out_offsets, &[0, 0, 77])
-        && same::bytes(&out_rows, &[1, 0xaa])
-        && same::values(&out_values, &[77, 77, 77, 77, 77])
-        && same::bytes(&out_elements, &[0xaa, 0xaa])
+    compare::list_counts(answer, 1, 0, 0, 0)
+        && compare::offsets(&out_offsets, &[0, 0, 77])
+        && compare::bytes(&out_rows, &[1, 0xaa])
+        && compare::values(&out_values, &[77, 77, 77, 77, 77])
+        && compare::bytes(&out_elements, &[0xaa, 0xaa])
 }
 
 // S from 1 to 2 by 0 gives refusal 5.
@@ -161,11 +160,11 @@ pub(crate) fn case_j() -> bool {
         &mut out_values,
         &mut out_elements,
     );
-    same::list_refused(answer, 5)
-        && same::offsets(&out_offsets, &[77, 77, 77])
-        && same::bytes(&out_rows, &[0xaa, 0xaa])
-        && same::values(&out_values, &[77, 77, 77, 77, 77])
-        && same::bytes(&out_elements, &[0xaa, 0xaa])
+    compare::list_refused(answer, 5)
+        && compare::offsets(&out_offsets, &[77, 77, 77])
+        && compare::bytes(&out_rows, &[0xaa, 0xaa])
+        && compare::values(&out_values, &[77, 77, 77, 77, 77])
+        && compare::bytes(&out_elements, &[0xaa, 0xaa])
 }
 
 // [10,20,30] from 2 to 3 by 2147483647 gives [20].
@@ -191,9 +190,9 @@ pub(crate) fn case_p() -> bool {
         &mut out_values,
         &mut out_elements,
     );
-    same::list_counts(answer, 1, 1, 0, 0)
-        && same::offsets(&out_offsets, &[0, 1, 77])
-        && same::bytes(&out_rows, &[1, 0xaa])
-        && same::values(&out_values, &[20, 77, 77, 77])
-        && same::bytes(&out_elements, &[1, 0xaa])
+    compare::list_counts(answer, 1, 1, 0, 0)
+        && compare::offsets(&out_offsets, &[0, 1, 77])
+        && compare::bytes(&out_rows, &[1, 0xaa])
+        && compare::values(&out_values, &[20, 77, 77, 77])
+        && compare::bytes(&out_elements, &[1, 0xaa])
 }

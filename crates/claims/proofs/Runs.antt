@@ -1,13 +1,16 @@
--- Demand 3 over the code. Of each public function of `lists`, and of `run_recipe`: what its contract, F.Post, says of a call makes the call a run, of which `runs-agree`
--- (model, proofs/Agreement.antt) speaks: two such runs on columns that show equal rows end in the same. If a contract said less than the
--- definitions, its line here would not hold.
+-- Demand 3 over the code, in one place: `demand-3` is the claim, over any two runs. Each line after it says of a public function of
+-- `lists`, and of `run_recipe`, that what its contract, F.Post, says of a call makes the call a run. If a contract said less of its
+-- answer, written results, trays or tally than the definitions, its line would not hold. Entries.antt does the same for the C entries.
 use Prim.Native.Nat.{ℕ}
 use contract.Lifetimes.{Lfts}
 use denote.Ref.{now}
+use Rattle.model.specs.Column.{Column, Arguments}
+use Rattle.model.specs.Limits.{narrow}
 use Rattle.model.specs.Rows.{unary, setOp, slice, resize, replace, remove}
-use Rattle.model.specs.Call.{anyValue, element, listRepeat}
+use Rattle.model.specs.Call.{Call, anyValue, element, listRepeat, End, Formed, Alike}
 use Rattle.model.specs.Contract.{Slice, lentIf}
-use Rattle.model.specs.Run.{listRun, anyValueRun, elementRun, repeatRun, recipeRun}
+use Rattle.model.specs.Run.{Run, listRun, anyValueRun, elementRun, repeatRun, recipeRun}
+use Rattle.model.proofs.Agreement.{Agree, runs-agree}
 use Rattle.model.specs.declared.ListAnswer.{ListAnswer}
 use Rattle.model.specs.declared.RepeatAnswer.{RepeatAnswer}
 use Rattle.model.specs.declared.ValueAnswer.{ValueAnswer}
@@ -31,6 +34,12 @@ use Rattle.tally.specs.declared.RecipeAnswer.{RecipeAnswer}
 use Rattle.tally.specs.declared.Tally.{Tally}
 use Rattle.recipes.proofs.run_recipe.Reads as Recipe
 use Rattle.claims.specs.Slots.{Slices, Pair, columnOf, argumentsOf, entry4, exit4, entry2, exit2, ListRuns, ValueRuns, RepeatRuns, RecipeRuns}
+
+-- "Take any two runs of one operation or one recipe, whatever its steps and whichever of them, if any, is refused.": two runs on
+-- well-formed columns, alike in what is shown, in arguments, lengths lent and tally, end in the same, and that is what the definitions
+-- give from what is shown alone
+pub demand-3 : {q q′ : Call Column Arguments} {e e′ : End} → Run narrow q e → Run narrow q′ e′ → Formed q → Formed q′ → Alike q q′ → Agree narrow q q′ e e′
+demand-3 r r′ f f′ a = runs-agree narrow r r′ f f′ a
 
 -- c is the list lent, x, y and z the argument columns, o the output, a the answer
 

@@ -1,3 +1,4 @@
 pub mod Put
 pub mod Rows
 pub mod Answers
+pub mod Outputs

@@ -1,10 +1,9 @@
 // The refusals that every operation starts with, and the last one.
 use crate::offsets;
 ghost use Prim.Native.Nat.{_<_};
-ghost use Rattle.model.specs.Bitmap.{from};
-ghost use Rattle.model.specs.Column.{column};
 ghost use Rattle.model.specs.Contract.{room, valueRoom};
 ghost use Rattle.model.specs.Form.{fitsIn, fitsValues};
+ghost use Rattle.model.specs.Held.{lentFrom};
 ghost use Rattle.model.specs.Outcome.{columnsRefusal};
 ghost use mathlib.Core.List.{[], _∷_};
 ghost use mathlib.Core.Path.{_≡_};
@@ -20,7 +19,7 @@ pub fn list_refusal(
 ) -> u8
     requires { ⌜ rstart < 8 ⌝ }
     requires { ⌜ estart < 8 ⌝ }
-    ensures { λ k. ⌜ k ≡ columnsRefusal (column (now (offsets .entry)) (from rstart (now (rows .entry))) (now (values .entry)) (from estart (now (elements .entry))) ∷ []) [] ⌝ }
+    ensures { λ k. ⌜ k ≡ columnsRefusal (lentFrom offsets rows rstart values elements estart ∷ []) [] ⌝ }
 {
     if offsets::are_bad(offsets, values.len()) {
         return 1;

@@ -2,9 +2,9 @@
 ghost use Prim.Native.Nat.{_/_, _<_};
 ghost use Rattle.bitmap.specs.Push.{Covers, pushBit};
 ghost use Rattle.model.specs.Basics.{pick};
-ghost use Rattle.model.specs.Bitmap.{from};
-ghost use Rattle.model.specs.Column.{elemAt, nul};
+ghost use Rattle.model.specs.Column.{nul};
 ghost use Rattle.model.specs.Form.{isVal, underNull, valueOf};
+ghost use Rattle.model.specs.Held.{heldBits, lentElem};
 ghost use lib.IntN.{pos};
 ghost use lib.ListN.{getD, length, set};
 ghost use mathlib.Core.Path.{_≡_};
@@ -42,11 +42,11 @@ pub fn write_elem(
     k: usize,
 )
     requires { ⌜ i < length (now values) ⌝ }
-    requires { ⌜ Covers (from estart (now elements)) (length (now values)) ⌝ }
+    requires { ⌜ Covers (heldBits elements estart) (length (now values)) ⌝ }
     requires { ⌜ k < length (now «out_values») ⌝ }
     requires { ⌜ k / 8 < length (now «out_elements») ⌝ }
-    ensures { λ _. ⌜ now («out_values» .exit) ≡ set (now («out_values» .entry)) k (valueOf (elemAt (now (values .entry)) (from estart (now (elements .entry))) i)) ⌝ }
-    ensures { λ _. ⌜ now («out_elements» .exit) ≡ pushBit (now («out_elements» .entry)) k (isVal (elemAt (now (values .entry)) (from estart (now (elements .entry))) i)) ⌝ }
+    ensures { λ _. ⌜ now («out_values» .exit) ≡ set (now («out_values» .entry)) k (valueOf (lentElem values elements estart i)) ⌝ }
+    ensures { λ _. ⌜ now («out_elements» .exit) ≡ pushBit (now («out_elements» .entry)) k (isVal (lentElem values elements estart i)) ⌝ }
 {
     let valid = bitmap::is_valid(elements, estart, i, values.len());
     let v = value_or_null(values, i, valid);

@@ -5,12 +5,13 @@ use column::offsets;
 use model::ListAnswer;
 use rows::utils;
 ghost use Prim.Native.Nat.{_≤_};
-ghost use Rattle.column.specs.Put.{HasRoom, Holds, Readable};
-ghost use Rattle.column.specs.Rows.{Between, PutsRow, RoomFor, rowFrom};
-ghost use Rattle.model.specs.Bitmap.{from};
-ghost use Rattle.model.specs.Column.{column, elemAt, rowCount, rowsOf};
-ghost use Rattle.model.specs.Contract.{ListMeets, room};
+ghost use Rattle.column.specs.Outputs.{Fills, ReadableRow, RoomForRow, RoomIn, WritesRow};
+ghost use Rattle.column.specs.Put.{Readable};
+ghost use Rattle.column.specs.Rows.{rowFrom};
+ghost use Rattle.model.specs.Column.{rowCount, rowsOf};
+ghost use Rattle.model.specs.Contract.{ListAnswers};
 ghost use Rattle.model.specs.Form.{flat};
+ghost use Rattle.model.specs.Held.{held, heldBits, heldElem, lentBits, lentElem, lentFrom};
 ghost use Rattle.model.specs.Limits.{narrow};
 ghost use Rattle.model.specs.Outcome.{fitted};
 ghost use lib.IntN.{pos};
@@ -26,8 +27,8 @@ fn measure_rows(
     elements: &[u8],
     estart: usize,
 ) -> usize
-    requires column { ⌜ Readable (column (now offsets) (from rstart (now rows)) (now values) (from estart (now elements))) ⌝ }
-    ensures { λ m. ⌜ m ≡ length (flat (rowsOf (column (now (offsets .entry)) (from rstart (now (rows .entry))) (now (values .entry)) (from estart (now (elements .entry)))))) ⌝ }
+    requires column { ⌜ Readable (held offsets rows rstart values elements estart) ⌝ }
+    ensures { λ m. ⌜ m ≡ length (flat (rowsOf (lentFrom offsets rows rstart values elements estart))) ⌝ }
     ensures { λ m. ⌜ m ≤ narrow .offset ⌝ }
 {
     let n = offsets::row_count(offsets);
@@ -61,9 +62,9 @@ fn put_row(
     out_elements: &mut [u8],
     at: usize,
 ) -> usize
-    requires column { ⌜ Between (from rstart (now rows)) n (now values) (from estart (now elements)) r a b ⌝ }
-    requires room { ⌜ RoomFor (rowFrom (from rstart (now rows)) (elemAt (now values) (from estart (now elements))) r a b) r at (length (now «out_rows»)) (length (now «out_values»)) (length (now «out_elements»)) ⌝ }
-    ensures { λ k. ⌜ PutsRow (rowFrom (from rstart (now (rows .entry))) (elemAt (now (values .entry)) (from estart (now (elements .entry)))) r a b) r at (now («out_rows» .entry)) (now («out_rows» .exit)) (now («out_values» .entry)) (now («out_values» .exit)) (now («out_elements» .entry)) (now («out_elements» .exit)) k ⌝ }
+    requires column { ⌜ ReadableRow rows rstart n values elements estart r a b ⌝ }
+    requires room { ⌜ RoomForRow (rowFrom (heldBits rows rstart) (heldElem values elements estart) r a b) r at «out_rows» «out_values» «out_elements» ⌝ }
+    ensures { λ k. ⌜ WritesRow (rowFrom (lentBits rows rstart) (lentElem values elements estart) r a b) r at «out_rows» «out_values» «out_elements» k ⌝ }
 {
     let valid = bitmap::is_valid(rows, rstart, r, n);
     let len = column::rows::row_len(rows, rstart, n, r, a, b);
@@ -94,10 +95,10 @@ fn write_rows(
     out_values: &mut [i64],
     out_elements: &mut [u8],
 )
-    requires column { ⌜ Readable (column (now offsets) (from rstart (now rows)) (now values) (from estart (now elements))) ⌝ }
-    requires small { ⌜ length (flat (rowsOf (column (now offsets) (from rstart (now rows)) (now values) (from estart (now elements))))) ≤ narrow .offset ⌝ }
-    requires room { ⌜ HasRoom (rowCount (now offsets)) (length (flat (rowsOf (column (now offsets) (from rstart (now rows)) (now values) (from estart (now elements)))))) (length (now «out_offsets»)) (length (now «out_rows»)) (length (now «out_values»)) (length (now «out_elements»)) ⌝ }
-    ensures { λ _. ⌜ Holds (rowsOf (column (now (offsets .entry)) (from rstart (now (rows .entry))) (now (values .entry)) (from estart (now (elements .entry))))) (now («out_offsets» .entry)) (now («out_offsets» .exit)) (now («out_rows» .entry)) (now («out_rows» .exit)) (now («out_values» .entry)) (now («out_values» .exit)) (now («out_elements» .entry)) (now («out_elements» .exit)) ⌝ }
+    requires column { ⌜ Readable (held offsets rows rstart values elements estart) ⌝ }
+    requires small { ⌜ length (flat (rowsOf (held offsets rows rstart values elements estart))) ≤ narrow .offset ⌝ }
+    requires room { ⌜ RoomIn (rowCount (now offsets)) (length (flat (rowsOf (held offsets rows rstart values elements estart)))) «out_offsets» «out_rows» «out_values» «out_elements» ⌝ }
+    ensures { λ _. ⌜ Fills (rowsOf (lentFrom offsets rows rstart values elements estart)) «out_offsets» «out_rows» «out_values» «out_elements» ⌝ }
 {
     let n = offsets::row_count(offsets);
     offsets::put_offset(out_offsets, 0, 0);
@@ -141,8 +142,8 @@ pub fn copy(
     out_values: &mut [i64],
     out_elements: &mut [u8],
 ) -> ListAnswer
-    requires { ⌜ Readable (column (now offsets) (from rstart (now rows)) (now values) (from estart (now elements))) ⌝ }
-    ensures { λ k. ⌜ ListMeets (fitted (rowsOf (column (now (offsets .entry)) (from rstart (now (rows .entry))) (now (values .entry)) (from estart (now (elements .entry))))) (room (length (now («out_offsets» .entry))) (length (now («out_rows» .entry))) (length (now («out_values» .entry))) (length (now («out_elements» .entry))))) k (now («out_offsets» .entry)) (now («out_offsets» .exit)) (now («out_rows» .entry)) (now («out_rows» .exit)) (now («out_values» .entry)) (now («out_values» .exit)) (now («out_elements» .entry)) (now («out_elements» .exit)) ⌝ }
+    requires { ⌜ Readable (held offsets rows rstart values elements estart) ⌝ }
+    ensures { λ k. ⌜ ListAnswers (fitted (rowsOf (lentFrom offsets rows rstart values elements estart))) k «out_offsets» «out_rows» «out_values» «out_elements» ⌝ }
 {
     let n = offsets::row_count(offsets);
     let m = measure_rows(offsets, rows, rstart, values, elements, estart);

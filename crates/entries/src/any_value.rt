@@ -5,10 +5,9 @@ use lists::extract;
 use wire::decode_i32;
 use wire::decode_i64;
 ghost use Prim.Native.Nat.{_/_, _≤_};
-ghost use Rattle.entry.specs.Entry.{ValueEntry, ValueReturns, decoded, listSizes, mostRows, size};
+ghost use Rattle.entry.specs.Entry.{ValueEntry, ValueReturned, decoded, listSizes, mostRows, size};
 ghost use Rattle.entry.specs.Inner.{Arrays, Holds};
 ghost use Rattle.model.specs.Basics.{given};
-ghost use Rattle.model.specs.Contract.{valueRoom};
 ghost use Rattle.model.specs.Outcome.{anyValueOutcome};
 ghost use lib.ListN.{length};
 ghost use mathlib.Core.Path.{_≡_};
@@ -29,7 +28,7 @@ fn run(
     requires lent { ⌜ Holds (length (now o)) (length (now v)) (length (now offsets)) (length (now values)) ⌝ }
     requires outputs { ⌜ length (now ov) ≡ length (now «out_values») / 8 ⌝ }
     requires counts { ⌜ 16 ≤ length (now counts) ⌝ }
-    ensures { λ n. ⌜ ValueReturns (anyValueOutcome (decoded offsets rows values elements) (valueRoom (size «out_values» / 8) (size «out_rows»))) n (now («out_values» .entry)) (now («out_values» .exit)) (now («out_rows» .entry)) (now («out_rows» .exit)) (now (counts .entry)) (now (counts .exit)) ⌝ }
+    ensures { λ n. ⌜ ValueReturned (anyValueOutcome (decoded offsets rows values elements)) n «out_values» «out_rows» counts ⌝ }
 {
     decode_i32(offsets, o);
     decode_i64(values, v);

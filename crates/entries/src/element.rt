@@ -5,10 +5,9 @@ use lists::extract;
 use wire::decode_i32;
 use wire::decode_i64;
 ghost use Prim.Native.Nat.{_/_, _≤_};
-ghost use Rattle.entry.specs.Entry.{ValueEntry, ValueReturns, decoded, decodedArguments, listSizes, mostRows, size, valueSizes};
+ghost use Rattle.entry.specs.Entry.{ValueEntry, ValueReturned, decoded, decodedArguments, listSizes, mostRows, size, valueSizes};
 ghost use Rattle.entry.specs.Inner.{Arrays, Holds};
 ghost use Rattle.model.specs.Basics.{given};
-ghost use Rattle.model.specs.Contract.{valueRoom};
 ghost use Rattle.model.specs.Limits.{narrow};
 ghost use Rattle.model.specs.Outcome.{elementOutcome};
 ghost use lib.ListN.{length};
@@ -35,7 +34,7 @@ fn run(
     requires arguments { ⌜ length (now i) ≡ length (now indexes) / 8 ⌝ }
     requires outputs { ⌜ length (now ov) ≡ length (now «out_values») / 8 ⌝ }
     requires counts { ⌜ 16 ≤ length (now counts) ⌝ }
-    ensures { λ n. ⌜ ValueReturns (elementOutcome narrow (decoded offsets rows values elements) (decodedArguments indexes «index_bits») (valueRoom (size «out_values» / 8) (size «out_rows»))) n (now («out_values» .entry)) (now («out_values» .exit)) (now («out_rows» .entry)) (now («out_rows» .exit)) (now (counts .entry)) (now (counts .exit)) ⌝ }
+    ensures { λ n. ⌜ ValueReturned (elementOutcome narrow (decoded offsets rows values elements) (decodedArguments indexes «index_bits»)) n «out_values» «out_rows» counts ⌝ }
 {
     decode_i32(offsets, o);
     decode_i64(values, v);

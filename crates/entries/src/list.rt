@@ -8,11 +8,11 @@ use model::ListAnswer;
 use model::Unary;
 use wire::decode_i32;
 use wire::decode_i64;
-ghost use Prim.Native.Nat.{_/_, _<_, _≤_};
-ghost use Rattle.entry.specs.Entry.{ListEntry, ListReturns, decoded, listSizes, size, unaryCall, unaryOf};
+ghost use Prim.Native.Nat.{_<_, _≤_};
+ghost use Rattle.entry.specs.Entry.{ListEntry, ListReturned, decoded, listSizes, size, unaryCall, unaryOf};
 ghost use Rattle.entry.specs.Inner.{Arrays, Holds};
 ghost use Rattle.model.specs.Basics.{given};
-ghost use Rattle.model.specs.Contract.{ListAnswers, lent, room};
+ghost use Rattle.model.specs.Contract.{ListAnswers, lent};
 ghost use Rattle.model.specs.Limits.{narrow};
 ghost use Rattle.model.specs.Outcome.{listOutcome};
 ghost use Rattle.model.specs.Rows.{unary};
@@ -108,7 +108,7 @@ fn run(
     requires lent { ⌜ Holds (length (now o)) (length (now v)) (length (now offsets)) (length (now values)) ⌝ }
     requires outputs { ⌜ Holds (length (now oo)) (length (now ov)) (length (now «out_offsets»)) (length (now «out_values»)) ⌝ }
     requires counts { ⌜ 32 ≤ length (now counts) ⌝ }
-    ensures { λ n. ⌜ ListReturns (listOutcome narrow (unary op (decoded offsets rows values elements)) (room (size «out_offsets» / 4) (size «out_rows») (size «out_values» / 8) (size «out_elements»))) n (now («out_offsets» .entry)) (now («out_offsets» .exit)) (now («out_rows» .entry)) (now («out_rows» .exit)) (now («out_values» .entry)) (now («out_values» .exit)) (now («out_elements» .entry)) (now («out_elements» .exit)) (now (counts .entry)) (now (counts .exit)) ⌝ }
+    ensures { λ n. ⌜ ListReturned (listOutcome narrow (unary op (decoded offsets rows values elements))) n «out_offsets» «out_rows» «out_values» «out_elements» counts ⌝ }
 {
     decode_i32(offsets, o);
     decode_i64(values, v);

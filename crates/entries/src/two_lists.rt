@@ -5,11 +5,10 @@ use lists::set_ops;
 use model::SetOp;
 use wire::decode_i32;
 use wire::decode_i64;
-ghost use Prim.Native.Nat.{_/_, _<_, _≤_};
-ghost use Rattle.entry.specs.Entry.{ListEntry, ListReturns, decoded, listSizes, setCall, setOf, size};
+ghost use Prim.Native.Nat.{_<_, _≤_};
+ghost use Rattle.entry.specs.Entry.{ListEntry, ListReturned, decoded, listSizes, setCall, setOf, size};
 ghost use Rattle.entry.specs.Inner.{Arrays, Holds};
 ghost use Rattle.model.specs.Basics.{given};
-ghost use Rattle.model.specs.Contract.{room};
 ghost use Rattle.model.specs.Limits.{narrow};
 ghost use Rattle.model.specs.Outcome.{listOutcome};
 ghost use Rattle.model.specs.Rows.{setOp};
@@ -55,7 +54,7 @@ fn run(
     requires right { ⌜ Holds (length (now ro)) (length (now rv)) (length (now «r_offsets»)) (length (now «r_values»)) ⌝ }
     requires outputs { ⌜ Holds (length (now oo)) (length (now ov)) (length (now «out_offsets»)) (length (now «out_values»)) ⌝ }
     requires counts { ⌜ 32 ≤ length (now counts) ⌝ }
-    ensures { λ n. ⌜ ListReturns (listOutcome narrow (setOp op (decoded «l_offsets» «l_rows» «l_values» «l_elements») (decoded «r_offsets» «r_rows» «r_values» «r_elements»)) (room (size «out_offsets» / 4) (size «out_rows») (size «out_values» / 8) (size «out_elements»))) n (now («out_offsets» .entry)) (now («out_offsets» .exit)) (now («out_rows» .entry)) (now («out_rows» .exit)) (now («out_values» .entry)) (now («out_values» .exit)) (now («out_elements» .entry)) (now («out_elements» .exit)) (now (counts .entry)) (now (counts .exit)) ⌝ }
+    ensures { λ n. ⌜ ListReturned (listOutcome narrow (setOp op (decoded «l_offsets» «l_rows» «l_values» «l_elements») (decoded «r_offsets» «r_rows» «r_values» «r_elements»))) n «out_offsets» «out_rows» «out_values» «out_elements» counts ⌝ }
 {
     decode_i32(l_offsets, lo);
     decode_i64(l_values, lv);

@@ -35,6 +35,13 @@ decodedArguments v b = arguments (ints8 (now (v .entry))) (from 0 (now (b .entry
 abbrev pub size : Slice ℕ → ℕ
 size s = length (now (s .entry))
 
+-- the lengths of the slices of bytes for a list answer, and for a value answer, in numbers
+abbrev pub bytesRoom : Slice ℕ → Slice ℕ → Slice ℕ → Slice ℕ → Room
+bytesRoom o r v e = room (size o / 4) (size r) (size v / 8) (size e)
+
+abbrev pub bytesValueRoom : Slice ℕ → Slice ℕ → ValueRoom
+bytesValueRoom v r = valueRoom (size v / 8) (size r)
+
 -- ---- the entry's own refusals
 
 -- a slice of numbers: the bytes of one, the most that the entry takes, and the bytes lent
@@ -121,12 +128,18 @@ pub record ValueReturns (x : Outcome (List Elem)) (n : ℕ) (v v′ r r′ c c�
 
 -- ---- the contracts
 
--- an entry with a list answer: f is what the operation comes to for the lengths lent in numbers, k the refusal of the sizes; then
--- the number returned, and the outputs and the counts
-abbrev pub ListAnswered : Lent (Room → Outcome (List Row)) → ℕ → ℕ → Slice ℕ → Slice ℕ → Slice ℕ → Slice ℕ → Slice ℕ → Type 0
-ListAnswered f k n o r v e c =
-    ListReturns (entered f k (room (size o / 4) (size r) (size v / 8) (size e))) n
+-- the same of slices, f being what the call comes to for the lengths lent in numbers: the number returned, the outputs and the counts
+abbrev pub ListReturned : (Room → Outcome (List Row)) → ℕ → Slice ℕ → Slice ℕ → Slice ℕ → Slice ℕ → Slice ℕ → Type 0
+ListReturned f n o r v e c =
+    ListReturns (f (bytesRoom o r v e)) n
     (now (o .entry)) (now (o .exit)) (now (r .entry)) (now (r .exit)) (now (v .entry)) (now (v .exit)) (now (e .entry)) (now (e .exit)) (now (c .entry)) (now (c .exit))
+
+abbrev pub ValueReturned : (ValueRoom → Outcome (List Elem)) → ℕ → Slice ℕ → Slice ℕ → Slice ℕ → Type 0
+ValueReturned f n v r c = ValueReturns (f (bytesValueRoom v r)) n (now (v .entry)) (now (v .exit)) (now (r .entry)) (now (r .exit)) (now (c .entry)) (now (c .exit))
+
+-- an entry with a list answer: f is what the operation comes to, k the refusal of the sizes
+abbrev pub ListAnswered : Lent (Room → Outcome (List Row)) → ℕ → ℕ → Slice ℕ → Slice ℕ → Slice ℕ → Slice ℕ → Slice ℕ → Type 0
+ListAnswered f k n o r v e c = ListReturned (entered f k) n o r v e c
 
 -- the same, ss being the slices of numbers that the entry reads
 abbrev pub ListEntry : Lent (Room → Outcome (List Row)) → List Numbers → ℕ → Slice ℕ → Slice ℕ → Slice ℕ → Slice ℕ → Slice ℕ → Type 0
@@ -135,5 +148,4 @@ ListEntry f ss n o r v e c = ListAnswered f (sizeRefusal (ss ++ listSizes (size 
 -- an entry with a value answer, the same
 abbrev pub ValueEntry : Lent (ValueRoom → Outcome (List Elem)) → List Numbers → ℕ → Slice ℕ → Slice ℕ → Slice ℕ → Type 0
 ValueEntry f ss n v r c =
-    ValueReturns (entered f (sizeRefusal (ss ++ valueSizes (size v)) (size c) 16) (valueRoom (size v / 8) (size r))) n
-    (now (v .entry)) (now (v .exit)) (now (r .entry)) (now (r .exit)) (now (c .entry)) (now (c .exit))
+    ValueReturned (entered f (sizeRefusal (ss ++ valueSizes (size v)) (size c) 16)) n v r c

@@ -9,8 +9,8 @@ use Rattle.model.specs.Column.{Row}
 use Rattle.model.specs.Contract.{Slice}
 use Rattle.model.specs.Form.{Room}
 use Rattle.model.specs.Outcome.{Outcome}
-use Rattle.entry.specs.Entry.{Numbers, numbers, listSizes, size, sizeRefusal, ListAnswered}
-use Rattle.recipe_bytes.specs.Recipe.{roomIn, Zero, talliedIn}
+use Rattle.entry.specs.Entry.{Numbers, numbers, listSizes, size, bytesRoom, sizeRefusal, ListAnswered}
+use Rattle.recipe_bytes.specs.Recipe.{Zero, talliedIn}
 
 -- the most of a recipe's numbers and of argument values that the entry takes, in the code's arrays
 abbrev pub mostNumbers : ℕ
@@ -44,10 +44,10 @@ tallyAfter k x s = pick (eqb k 0) (talliedIn x s) s
 -- answer.
 abbrev pub RecipeReturns : (Room → Room → Room → Outcome (List Row)) → ℕ → ℕ → Slice ℕ → Slice ℕ → Slice ℕ → Slice ℕ → Slice ℕ → Slice ℕ → Slice ℕ → Slice ℕ → Slice ℕ → Slice ℕ → Slice ℕ → Slice ℕ → Slice ℕ → Slice ℕ → Type 0
 RecipeReturns f k n ao ar av ae bo br bv be o r v e c t =
-    ListAnswered (given (f (roomIn ao ar av ae) (roomIn bo br bv be))) k n o r v e c
+    ListAnswered (given (f (bytesRoom ao ar av ae) (bytesRoom bo br bv be))) k n o r v e c
     × ZeroTray ao ar av ae
     × ZeroTray bo br bv be
-    × (now (t .exit) ≡ tallyAfter k (f (roomIn ao ar av ae) (roomIn bo br bv be) (roomIn o r v e)) (now (t .entry)))
+    × (now (t .exit) ≡ tallyAfter k (f (bytesRoom ao ar av ae) (bytesRoom bo br bv be) (bytesRoom o r v e)) (now (t .entry)))
 
 -- the contract, ss being the slices of numbers that the entry reads
 abbrev pub RecipeEntry : (Room → Room → Room → Outcome (List Row)) → List Numbers → ℕ → Slice ℕ → Slice ℕ → Slice ℕ → Slice ℕ → Slice ℕ → Slice ℕ → Slice ℕ → Slice ℕ → Slice ℕ → Slice ℕ → Slice ℕ → Slice ℕ → Slice ℕ → Slice ℕ → Type 0

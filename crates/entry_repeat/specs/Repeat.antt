@@ -35,18 +35,18 @@ pub record RepeatReturns (x : Outcome (List Outer)) (n : ℕ) (o o′ r r′ io 
   pub elements : e′ ≡ after (λ os. formElements (flat (inner os))) x e
   pub counts : c′ ≡ after (λ os. bytesOfCounts (repeatCounts os)) x c
 
--- the same of slices of bytes
-abbrev pub Returned : Outcome (List Outer) → ℕ → Slice ℕ → Slice ℕ → Slice ℕ → Slice ℕ → Slice ℕ → Slice ℕ → Slice ℕ → Type 0
-Returned x n o r io ir v e c =
-    RepeatReturns x n (now (o .entry)) (now (o .exit)) (now (r .entry)) (now (r .exit)) (now (io .entry)) (now (io .exit)) (now (ir .entry)) (now (ir .exit))
-    (now (v .entry)) (now (v .exit)) (now (e .entry)) (now (e .exit)) (now (c .entry)) (now (c .exit))
-
 -- the lengths lent, in numbers
-abbrev pub roomIn : Slice ℕ → Slice ℕ → Slice ℕ → Slice ℕ → Slice ℕ → Slice ℕ → RepeatRoom
-roomIn o r io ir v e = repeatRoom (size o / 4) (size r) (size io / 4) (size ir) (size v / 8) (size e)
+abbrev pub bytesRepeatRoom : Slice ℕ → Slice ℕ → Slice ℕ → Slice ℕ → Slice ℕ → Slice ℕ → RepeatRoom
+bytesRepeatRoom o r io ir v e = repeatRoom (size o / 4) (size r) (size io / 4) (size ir) (size v / 8) (size e)
+
+-- the same of slices, f being what the call comes to for those lengths
+abbrev pub RepeatReturned : (RepeatRoom → Outcome (List Outer)) → ℕ → Slice ℕ → Slice ℕ → Slice ℕ → Slice ℕ → Slice ℕ → Slice ℕ → Slice ℕ → Type 0
+RepeatReturned f n o r io ir v e c =
+    RepeatReturns (f (bytesRepeatRoom o r io ir v e)) n (now (o .entry)) (now (o .exit)) (now (r .entry)) (now (r .exit)) (now (io .entry)) (now (io .exit)) (now (ir .entry)) (now (ir .exit))
+    (now (v .entry)) (now (v .exit)) (now (e .entry)) (now (e .exit)) (now (c .entry)) (now (c .exit))
 
 -- the contract: f is what the operation comes to for the lengths lent in numbers, ss are the slices of numbers that the entry
 -- reads; then the number returned, and the outputs and the counts
 abbrev pub RepeatEntry : Lent (RepeatRoom → Outcome (List Outer)) → List Numbers → ℕ → Slice ℕ → Slice ℕ → Slice ℕ → Slice ℕ → Slice ℕ → Slice ℕ → Slice ℕ → Type 0
 RepeatEntry f ss n o r io ir v e c =
-    Returned (entered f (sizeRefusal (ss ++ repeatSizes (size o) (size io) (size v)) (size c) 48) (roomIn o r io ir v e)) n o r io ir v e c
+    RepeatReturned (entered f (sizeRefusal (ss ++ repeatSizes (size o) (size io) (size v)) (size c) 48)) n o r io ir v e c

@@ -11,7 +11,7 @@ ghost use Prim.Native.Nat.{_/_, _≤_};
 ghost use Rattle.entry.specs.Entry.{decoded, decodedArguments, listSizes, mostRows, outsize, ragged, size, sizeRefusal, valueSizes};
 ghost use Rattle.entry.specs.Inner.{Arrays, Holds};
 ghost use Rattle.entry_repeat.specs.Inner.{RepeatReady, RepeatSent};
-ghost use Rattle.entry_repeat.specs.Repeat.{RepeatEntry, Returned, mostInner, repeatSizes, roomIn};
+ghost use Rattle.entry_repeat.specs.Repeat.{RepeatEntry, RepeatReturned, mostInner, repeatSizes};
 ghost use Rattle.model.specs.Basics.{any, given};
 ghost use Rattle.model.specs.Form.{over};
 ghost use Rattle.model.specs.Limits.{narrow};
@@ -155,7 +155,7 @@ fn run(
     requires outputs { ⌜ Holds (length (now oo)) (length (now ov)) (length (now «out_offsets»)) (length (now «out_values»)) ⌝ }
     requires inner { ⌜ length (now io) ≡ length (now «inner_offsets») / 4 ⌝ }
     requires counts { ⌜ 48 ≤ length (now counts) ⌝ }
-    ensures { λ n. ⌜ Returned (repeatOutcome narrow (decoded offsets rows values elements) (decodedArguments times «times_bits») (roomIn «out_offsets» «out_rows» «inner_offsets» «inner_rows» «out_values» «out_elements»)) n «out_offsets» «out_rows» «inner_offsets» «inner_rows» «out_values» «out_elements» counts ⌝ }
+    ensures { λ n. ⌜ RepeatReturned (repeatOutcome narrow (decoded offsets rows values elements) (decodedArguments times «times_bits»)) n «out_offsets» «out_rows» «inner_offsets» «inner_rows» «out_values» «out_elements» counts ⌝ }
 {
     decode_i32(offsets, o);
     decode_i64(values, v);

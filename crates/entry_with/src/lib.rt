@@ -12,11 +12,11 @@ use ops::ListOp;
 use wire::decode_i32;
 use wire::decode_i64;
 ghost use Prim.Native.Nat.{_/_, _<_, _≤_};
-ghost use Rattle.entry.specs.Entry.{ListEntry, ListReturns, decoded, decodedArguments, listSizes, mostRows, outsize, ragged, size, sizeRefusal, valueSizes};
+ghost use Rattle.entry.specs.Entry.{ListEntry, ListReturned, decoded, decodedArguments, listSizes, mostRows, outsize, ragged, size, sizeRefusal, valueSizes};
 ghost use Rattle.entry.specs.Inner.{Arrays, Holds};
 ghost use Rattle.entry_with.specs.With.{withCall, withOf};
 ghost use Rattle.model.specs.Basics.{any, given};
-ghost use Rattle.model.specs.Contract.{ListAnswers, lent, lentArguments, room};
+ghost use Rattle.model.specs.Contract.{ListAnswers, lent, lentArguments};
 ghost use Rattle.model.specs.Limits.{narrow};
 ghost use Rattle.model.specs.Outcome.{listOutcome};
 ghost use Rattle.ops.specs.Ops.{callOf};
@@ -249,7 +249,7 @@ fn run(
     requires third { ⌜ length (now z) ≡ length (now third) / 8 ⌝ }
     requires outputs { ⌜ Holds (length (now oo)) (length (now ov)) (length (now «out_offsets»)) (length (now «out_values»)) ⌝ }
     requires counts { ⌜ 32 ≤ length (now counts) ⌝ }
-    ensures { λ n. ⌜ ListReturns (listOutcome narrow (callOf op (decoded offsets rows values elements) (decodedArguments first «first_bits») (decodedArguments second «second_bits») (decodedArguments third «third_bits»)) (room (size «out_offsets» / 4) (size «out_rows») (size «out_values» / 8) (size «out_elements»))) n (now («out_offsets» .entry)) (now («out_offsets» .exit)) (now («out_rows» .entry)) (now («out_rows» .exit)) (now («out_values» .entry)) (now («out_values» .exit)) (now («out_elements» .entry)) (now («out_elements» .exit)) (now (counts .entry)) (now (counts .exit)) ⌝ }
+    ensures { λ n. ⌜ ListReturned (listOutcome narrow (callOf op (decoded offsets rows values elements) (decodedArguments first «first_bits») (decodedArguments second «second_bits») (decodedArguments third «third_bits»))) n «out_offsets» «out_rows» «out_values» «out_elements» counts ⌝ }
 {
     decode_i32(offsets, o);
     decode_i64(values, v);

@@ -1,38 +1,32 @@
 -- Laws of the operations that give one value a row: the whole call.
-use mathlib.Core.Path.{_≡_, refl, sym, ap, _∙_}
-use mathlib.Core.Bool.{Bool, true, false, _||_}
+use mathlib.Core.Path.{_≡_, refl, ap, _∙_}
+use mathlib.Core.Bool.{true, false}
 use mathlib.Core.List.{[], _∷_}
-use Prim.Native.Nat.{ℕ, _+_, _<_}
-use native.Mathlib.Omega.{arith}
-use native.Mathlib.Nat.{zero-add}
+use Prim.Native.Nat.{ℕ, _+_}
 use borrow.Author.Tests.{eq-eqb, ne-eqb}
 use lib.ListN.{length}
 use Rattle.model.specs.Basics.{pick, tab, any}
 use Rattle.model.specs.Bitmap.{shortBits}
-use Rattle.model.specs.Column.{Elem, nul, Row, Column, Arguments, elemAt, rowAt, rowsOf, shownBy, rowCount, refusal1, refusal2, refusal2ᵃ}
+use Rattle.model.specs.Column.{Column, Arguments, rowAt, rowsOf, shownBy, rowCount, refusal1, refusal2, refusal2ᵃ}
 use Rattle.model.specs.Form.{ValueRoom}
 use Rattle.model.specs.Limits.{narrow}
 use Rattle.model.specs.Refusals.{firstOf, elementRefusal}
-use Rattle.model.specs.Rows.{anyValueOf, elementOf, rowOf, argumentOf}
-use Rattle.model.specs.Outcome.{Outcome, refused, gate, columnsRefusal, fittedValues, anyValueShown, anyValueOutcome, elementsMade, elementsRefusal, elementShown, elementOutcome}
-use Rattle.model.proofs.TabLaws.{length-tab, tab-ext, map-tab}
-use Rattle.model.proofs.OutcomeLaws.{gate-open}
-use Rattle.lists.specs.Made.{anyValueAt, anyValues, elementAtRow, elementsOf}
+use Rattle.model.specs.Rows.{anyValueOf, elementOf}
+use Rattle.model.specs.Outcome.{refused, gate, columnsRefusal, fittedValues, anyValueShown, anyValueOutcome, elementsMade, elementsRefusal, elementShown, elementOutcome}
+use Rattle.model.proofs.TabLaws.{tab-ext, map-tab}
+use Rattle.model.proofs.OutcomeLaws.{gate-open, early, two-or-on}
+use Rattle.values.specs.Values.{valueMade, valuesMade}
+use Rattle.values.specs.declared.ValueOp.the-variants as V′
 use Rattle.rows.proofs.FoundLaws.{four-at}
 use Rattle.rows.specs.Found.{fourAt}
-use Rattle.model.proofs.ColumnLaws.{length-rows, row-at, length-shown, argument-at}
-use Rattle.model.proofs.ColumnLaws.{by-row}
-use Rattle.model.proofs.OutcomeLaws.{early, two-or-on}
+use Rattle.model.proofs.ColumnLaws.{length-rows, length-shown, by-row}
 
 -- ---- the calls
 
-pub any-outcome : (c : Column) (l : ValueRoom) → anyValueOutcome c l ≡ gate (columnsRefusal (c ∷ []) []) (fittedValues (anyValues c) l)
-unfolding anyValueOutcome anyValueShown rowsOf anyValues
-any-outcome c l = rw (map-tab anyValueOf (rowAt c) 0 (rowCount (c .offsets)))
-
-pub length-any : (c : Column) → length (anyValues c) ≡ rowCount (c .offsets)
-unfolding anyValues
-length-any c = length-tab (anyValueAt c) 0 (rowCount (c .offsets))
+-- any-value takes no indexes, whatever a is
+pub any-outcome : (c : Column) (a : Arguments) (l : ValueRoom) → anyValueOutcome c l ≡ gate (columnsRefusal (c ∷ []) []) (fittedValues (valuesMade V′.AnyValue c a) l)
+unfolding anyValueOutcome anyValueShown rowsOf valuesMade valueMade
+any-outcome c a l = rw (map-tab anyValueOf (rowAt c) 0 (rowCount (c .offsets)))
 
 module _ (c : Column) (a : Arguments) (l : ValueRoom) where
   pub element-early : (k : ℕ) → k ≡ columnsRefusal (c ∷ []) [] → (k ≡ 0 → ⊥) → elementOutcome narrow c a l ≡ refused k
@@ -60,14 +54,10 @@ module _ (c : Column) (a : Arguments) (l : ValueRoom) where
     unfolding elementsRefusal
     fours = ap firstOf (by-row (elementRefusal narrow) c a e ∙ tab-ext _ _ 0 0 (rowCount (c .offsets)) (λ r h. four-at c (a .values) (a .bits) (0 + r)))
 
-    made-elements : elementsMade (rowsOf c) (shownBy a) ≡ elementsOf c a
-    unfolding elementsMade elementsOf
+    made-elements : elementsMade (rowsOf c) (shownBy a) ≡ valuesMade V′.Element c a
+    unfolding elementsMade valuesMade valueMade
     made-elements = by-row elementOf c a e
 
-    pub element-goes : elementShown narrow (rowsOf c) (shownBy a) l ≡ gate (firstOf (tab (fourAt (c .rows) (a .values) (a .bits)) 0 (rowCount (c .offsets)))) (fittedValues (elementsOf c a) l)
+    pub element-goes : elementShown narrow (rowsOf c) (shownBy a) l ≡ gate (firstOf (tab (fourAt (c .rows) (a .values) (a .bits)) 0 (rowCount (c .offsets)))) (fittedValues (valuesMade V′.Element c a) l)
     unfolding elementShown
     element-goes = rw (length-rows c, length-shown a, eq-eqb (length (a .values)) (rowCount (c .offsets)) e, fours, made-elements) (gate-open 0 _ refl)
-
-pub length-elements : (c : Column) (a : Arguments) → length (elementsOf c a) ≡ rowCount (c .offsets)
-unfolding elementsOf
-length-elements c a = length-tab (elementAtRow c a) 0 (rowCount (c .offsets))

@@ -68,6 +68,9 @@ valueRoom v r = record { values = v; rows = r }
 abbrev pub repeatRoom : ℕ → ℕ → ℕ → ℕ → ℕ → ℕ → RepeatRoom
 repeatRoom o r io ir v e = record { outer-offsets = o; outer-rows = r; lists = room io ir v e }
 
+abbrev pub repeatRoomOf : Slice ℤ → Slice ℕ → Slice ℤ → Slice ℕ → Slice ℤ → Slice ℕ → RepeatRoom
+repeatRoomOf o r io ir v e = record { outer-offsets = length (now (o .entry)); outer-rows = length (now (r .entry)); lists = roomOf io ir v e }
+
 -- the answer and the four outputs, at entry and at exit, are those of the outcome
 pub record ListMeets (x : Outcome (List Row)) (a : ListAnswer) (o o′ : List ℤ) (r r′ : List ℕ) (v v′ : List ℤ) (e e′ : List ℕ) : Type 0 where
   pub answer : told a ≡ answerOf listCounts x
@@ -105,7 +108,7 @@ ValueAnswers f a v r =
 -- the contract of list-repeat
 abbrev pub RepeatAnswers : (RepeatRoom → Outcome (List Outer)) → RepeatAnswer → Slice ℤ → Slice ℕ → Slice ℤ → Slice ℕ → Slice ℤ → Slice ℕ → Type 0
 RepeatAnswers f a o r io ir v e =
-    RepeatMeets (f (repeatRoom (length (now (o .entry))) (length (now (r .entry))) (length (now (io .entry))) (length (now (ir .entry))) (length (now (v .entry))) (length (now (e .entry))))) a
+    RepeatMeets (f (repeatRoomOf o r io ir v e)) a
     (now (o .entry)) (now (o .exit)) (now (r .entry)) (now (r .exit)) (now (io .entry)) (now (io .exit)) (now (ir .entry)) (now (ir .exit)) (now (v .entry)) (now (v .exit)) (now (e .entry)) (now (e .exit))
 
 -- "Trays are all zero after any call.": the four slices of a tray of these lengths, as the call returns

@@ -11,4 +11,5 @@ pub mod Outcome
 pub mod Recipe
 pub mod Call
 pub mod Contract
+pub mod Held
 pub mod Run

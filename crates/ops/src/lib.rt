@@ -12,12 +12,11 @@ use rows::reverse;
 use rows::strided;
 use rows::utils;
 ghost use Prim.Native.Nat.{_≤_};
-ghost use Rattle.column.specs.Put.{Place, Source, Written};
-ghost use Rattle.model.specs.Basics.{tab};
-ghost use Rattle.model.specs.Bitmap.{from};
-ghost use Rattle.model.specs.Column.{elemAt};
-ghost use Rattle.model.specs.Elements.{unaryElems};
+ghost use Rattle.column.specs.Outputs.{ReadableElems, RoomForElems, Writes};
 ghost use Rattle.index.specs.Plan.{planOf, strideOf};
+ghost use Rattle.model.specs.Bitmap.{from};
+ghost use Rattle.model.specs.Elements.{unaryElems};
+ghost use Rattle.model.specs.Held.{heldElems, lentElems};
 ghost use Rattle.model.specs.Limits.{narrow};
 ghost use Rattle.model.specs.Slice.{slicePlan};
 ghost use Rattle.ops.specs.Ops.{Doable, opElems, opNull, planOp, removeOp, replaceOp, resizeOp, rowOpOf, secondLimit, sliceOp, strideOp, takesOf, thirdLimit};
@@ -238,8 +237,8 @@ fn measure_plain(
     a: usize,
     n: usize,
 ) -> usize
-    requires column { ⌜ Source (now values) (from estart (now elements)) a n ⌝ }
-    ensures { λ r. ⌜ r ≡ length (unaryElems op (tab (elemAt (now (values .entry)) (from estart (now (elements .entry)))) a n)) ⌝ }
+    requires column { ⌜ ReadableElems values elements estart a n ⌝ }
+    ensures { λ r. ⌜ r ≡ length (unaryElems op (lentElems values elements estart a n)) ⌝ }
 {
     match op {
         Unary::Reverse => n,
@@ -261,9 +260,9 @@ fn write_plain(
     out_elements: &mut [u8],
     at: usize,
 ) -> usize
-    requires column { ⌜ Source (now values) (from estart (now elements)) a n ⌝ }
-    requires room { ⌜ Place (unaryElems op (tab (elemAt (now values) (from estart (now elements))) a n)) at (length (now «out_values»)) (length (now «out_elements»)) ⌝ }
-    ensures { λ r. ⌜ Written (unaryElems op (tab (elemAt (now (values .entry)) (from estart (now (elements .entry)))) a n)) at (now («out_values» .entry)) (now («out_values» .exit)) (now («out_elements» .entry)) (now («out_elements» .exit)) r ⌝ }
+    requires column { ⌜ ReadableElems values elements estart a n ⌝ }
+    requires room { ⌜ RoomForElems (unaryElems op (heldElems values elements estart a n)) at «out_values» «out_elements» ⌝ }
+    ensures { λ r. ⌜ Writes (unaryElems op (lentElems values elements estart a n)) at «out_values» «out_elements» r ⌝ }
 {
     let k = utils::one_less(n);
     match op {
@@ -319,9 +318,9 @@ pub fn measure(
     a: usize,
     n: usize,
 ) -> usize
-    requires column { ⌜ Source (now values) (from estart (now elements)) a n ⌝ }
+    requires column { ⌜ ReadableElems values elements estart a n ⌝ }
     requires doable { ⌜ Doable op n ⌝ }
-    ensures { λ k. ⌜ k ≡ length (opElems op (tab (elemAt (now (values .entry)) (from estart (now (elements .entry)))) a n)) ⌝ }
+    ensures { λ k. ⌜ k ≡ length (opElems op (lentElems values elements estart a n)) ⌝ }
 {
     match op {
         RowOp::Null => 0,
@@ -363,10 +362,10 @@ pub fn write(
     out_elements: &mut [u8],
     at: usize,
 ) -> usize
-    requires column { ⌜ Source (now values) (from estart (now elements)) a n ⌝ }
+    requires column { ⌜ ReadableElems values elements estart a n ⌝ }
     requires doable { ⌜ Doable op n ⌝ }
-    requires room { ⌜ Place (opElems op (tab (elemAt (now values) (from estart (now elements))) a n)) at (length (now «out_values»)) (length (now «out_elements»)) ⌝ }
-    ensures { λ k. ⌜ Written (opElems op (tab (elemAt (now (values .entry)) (from estart (now (elements .entry)))) a n)) at (now («out_values» .entry)) (now («out_values» .exit)) (now («out_elements» .entry)) (now («out_elements» .exit)) k ⌝ }
+    requires room { ⌜ RoomForElems (opElems op (heldElems values elements estart a n)) at «out_values» «out_elements» ⌝ }
+    ensures { λ k. ⌜ Writes (opElems op (lentElems values elements estart a n)) at «out_values» «out_elements» k ⌝ }
 {
     match op {
         RowOp::Null => at,

@@ -1,19 +1,16 @@
 // Distinct: first occurrences, by comparing with the elements before.
 // After set_ops.rs of datafusion-functions-nested 55.2.0, Apache License 2.0, Apache Software Foundation; changed, see NOTICE.
 use column::elements;
-ghost use Prim.Native.Nat.{_+_};
-ghost use Rattle.column.specs.Put.{Place, Source, Written};
-ghost use Rattle.model.specs.Basics.{tab};
-ghost use Rattle.model.specs.Bitmap.{from};
-ghost use Rattle.model.specs.Column.{elemAt};
+ghost use Rattle.column.specs.Outputs.{ReadableElems, RoomForElems, Writes};
 ghost use Rattle.model.specs.Elements.{distinct};
+ghost use Rattle.model.specs.Held.{heldElems, lentElems};
 ghost use lib.ListN.{length};
 ghost use mathlib.Core.Path.{_≡_};
 
 // How many of the n elements from element a on are first occurrences.
 pub fn measure_distinct(values: &[i64], elements: &[u8], estart: usize, a: usize, n: usize) -> usize
-    requires column { ⌜ Source (now values) (from estart (now elements)) a n ⌝ }
-    ensures { λ r. ⌜ r ≡ length (distinct (tab (elemAt (now (values .entry)) (from estart (now (elements .entry)))) a n)) ⌝ }
+    requires column { ⌜ ReadableElems values elements estart a n ⌝ }
+    ensures { λ r. ⌜ r ≡ length (distinct (lentElems values elements estart a n)) ⌝ }
 {
     let mut len: usize = 0;
     let mut k: usize = 0;
@@ -48,9 +45,9 @@ pub fn write_distinct(
     out_elements: &mut [u8],
     at: usize,
 ) -> usize
-    requires column { ⌜ Source (now values) (from estart (now elements)) a n ⌝ }
-    requires room { ⌜ Place (distinct (tab (elemAt (now values) (from estart (now elements))) a n)) at (length (now «out_values»)) (length (now «out_elements»)) ⌝ }
-    ensures { λ r. ⌜ Written (distinct (tab (elemAt (now (values .entry)) (from estart (now (elements .entry)))) a n)) at (now («out_values» .entry)) (now («out_values» .exit)) (now («out_elements» .entry)) (now («out_elements» .exit)) r ⌝ }
+    requires column { ⌜ ReadableElems values elements estart a n ⌝ }
+    requires room { ⌜ RoomForElems (distinct (heldElems values elements estart a n)) at «out_values» «out_elements» ⌝ }
+    ensures { λ r. ⌜ Writes (distinct (lentElems values elements estart a n)) at «out_values» «out_elements» r ⌝ }
 {
     let mut k: usize = 0;
     let mut left = n;

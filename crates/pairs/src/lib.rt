@@ -5,10 +5,8 @@ pub mod set_ops;
 
 ghost use Prim.Native.Nat.{_+_, _<_, _≤_};
 ghost use Rattle.bitmap.specs.Push.{Covers};
-ghost use Rattle.model.specs.Basics.{tab};
-ghost use Rattle.model.specs.Bitmap.{from};
-ghost use Rattle.model.specs.Column.{elemAt};
 ghost use Rattle.model.specs.Elements.{eqZ, isIn, sameElem};
+ghost use Rattle.model.specs.Held.{heldBits, lentElem, lentElems};
 ghost use Rattle.pairs.specs.Pairs.{hasValue};
 ghost use lib.ListN.{length};
 ghost use mathlib.Core.Path.{_≡_};
@@ -31,10 +29,10 @@ fn same_elem(
     j: usize,
 ) -> bool
     requires { ⌜ i < length (now values) ⌝ }
-    requires { ⌜ Covers (from estart (now elements)) (length (now values)) ⌝ }
+    requires { ⌜ Covers (heldBits elements estart) (length (now values)) ⌝ }
     requires { ⌜ j < length (now others) ⌝ }
-    requires { ⌜ Covers (from ostart (now oelements)) (length (now others)) ⌝ }
-    ensures { λ r. ⌜ r ≡ sameElem (elemAt (now (values .entry)) (from estart (now (elements .entry))) i) (elemAt (now (others .entry)) (from ostart (now (oelements .entry))) j) ⌝ }
+    requires { ⌜ Covers (heldBits oelements ostart) (length (now others)) ⌝ }
+    ensures { λ r. ⌜ r ≡ sameElem (lentElem values elements estart i) (lentElem others oelements ostart j) ⌝ }
 {
     if bitmap::is_valid(elements, estart, i, values.len()) {
         if bitmap::is_valid(oelements, ostart, j, others.len()) {
@@ -103,10 +101,10 @@ pub(crate) fn is_among(
     k: usize,
 ) -> bool
     requires { ⌜ i < length (now values) ⌝ }
-    requires { ⌜ Covers (from estart (now elements)) (length (now values)) ⌝ }
+    requires { ⌜ Covers (heldBits elements estart) (length (now values)) ⌝ }
     requires { ⌜ a + k ≤ length (now others) ⌝ }
-    requires { ⌜ Covers (from ostart (now oelements)) (length (now others)) ⌝ }
-    ensures { λ r. ⌜ r ≡ isIn (elemAt (now (values .entry)) (from estart (now (elements .entry))) i) (tab (elemAt (now (others .entry)) (from ostart (now (oelements .entry)))) a k) ⌝ }
+    requires { ⌜ Covers (heldBits oelements ostart) (length (now others)) ⌝ }
+    ensures { λ r. ⌜ r ≡ isIn (lentElem values elements estart i) (lentElems others oelements ostart a k) ⌝ }
 {
     if (elements.len() == 0) & (oelements.len() == 0) {
         return has_value(others, a, k, values[i]);

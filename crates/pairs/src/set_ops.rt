@@ -4,11 +4,10 @@ use column::elements;
 use model::SetOp;
 ghost use Prim.Native.Nat.{_%_, _+_, _<_, _^_, _≤_};
 ghost use Rattle.bitmap.specs.Push.{Covers};
-ghost use Rattle.column.specs.Put.{Place, Source, Written};
-ghost use Rattle.model.specs.Basics.{pick, tab};
-ghost use Rattle.model.specs.Bitmap.{from};
-ghost use Rattle.model.specs.Column.{elemAt};
+ghost use Rattle.column.specs.Outputs.{ReadableElems, RoomForElems, Writes};
+ghost use Rattle.model.specs.Basics.{pick};
 ghost use Rattle.model.specs.Elements.{setElems};
+ghost use Rattle.model.specs.Held.{heldBits, heldElems, lentBits, lentElem, lentElems};
 ghost use Rattle.pairs.specs.Pairs.{bitsFrom, keeps, kept};
 ghost use lib.Dec.{ltb};
 ghost use lib.ListN.{length};
@@ -30,9 +29,9 @@ fn is_kept(
     m: usize,
     shared: bool,
 ) -> bool
-    requires row { ⌜ Source (now values) (from estart (now elements)) a (k + 1) ⌝ }
-    requires other { ⌜ Source (now others) (from ostart (now oelements)) b m ⌝ }
-    ensures { λ r. ⌜ r ≡ keeps shared (tab (elemAt (now (others .entry)) (from ostart (now (oelements .entry)))) b m) (tab (elemAt (now (values .entry)) (from estart (now (elements .entry)))) a k) (elemAt (now (values .entry)) (from estart (now (elements .entry))) (a + k)) ⌝ }
+    requires row { ⌜ ReadableElems values elements estart a (k + 1) ⌝ }
+    requires other { ⌜ ReadableElems others oelements ostart b m ⌝ }
+    ensures { λ r. ⌜ r ≡ keeps shared (lentElems others oelements ostart b m) (lentElems values elements estart a k) (lentElem values elements estart (a + k)) ⌝ }
 {
     let i = a + k;
     if crate::is_among(values, elements, estart, i, values, elements, estart, a, k) {
@@ -59,9 +58,9 @@ fn measure_kept(
     m: usize,
     shared: bool,
 ) -> usize
-    requires row { ⌜ Source (now values) (from estart (now elements)) a n ⌝ }
-    requires other { ⌜ Source (now others) (from ostart (now oelements)) b m ⌝ }
-    ensures { λ r. ⌜ r ≡ length (kept shared (tab (elemAt (now (others .entry)) (from ostart (now (oelements .entry)))) b m) [] (tab (elemAt (now (values .entry)) (from estart (now (elements .entry)))) a n)) ⌝ }
+    requires row { ⌜ ReadableElems values elements estart a n ⌝ }
+    requires other { ⌜ ReadableElems others oelements ostart b m ⌝ }
+    ensures { λ r. ⌜ r ≡ length (kept shared (lentElems others oelements ostart b m) [] (lentElems values elements estart a n)) ⌝ }
 {
     let mut len: usize = 0;
     let mut k: usize = 0;
@@ -104,10 +103,10 @@ fn write_kept(
     out_elements: &mut [u8],
     at: usize,
 ) -> usize
-    requires row { ⌜ Source (now values) (from estart (now elements)) a n ⌝ }
-    requires other { ⌜ Source (now others) (from ostart (now oelements)) b m ⌝ }
-    requires room { ⌜ Place (kept shared (tab (elemAt (now others) (from ostart (now oelements))) b m) [] (tab (elemAt (now values) (from estart (now elements))) a n)) at (length (now «out_values»)) (length (now «out_elements»)) ⌝ }
-    ensures { λ r. ⌜ Written (kept shared (tab (elemAt (now (others .entry)) (from ostart (now (oelements .entry)))) b m) [] (tab (elemAt (now (values .entry)) (from estart (now (elements .entry)))) a n)) at (now («out_values» .entry)) (now («out_values» .exit)) (now («out_elements» .entry)) (now («out_elements» .exit)) r ⌝ }
+    requires row { ⌜ ReadableElems values elements estart a n ⌝ }
+    requires other { ⌜ ReadableElems others oelements ostart b m ⌝ }
+    requires room { ⌜ RoomForElems (kept shared (heldElems others oelements ostart b m) [] (heldElems values elements estart a n)) at «out_values» «out_elements» ⌝ }
+    ensures { λ r. ⌜ Writes (kept shared (lentElems others oelements ostart b m) [] (lentElems values elements estart a n)) at «out_values» «out_elements» r ⌝ }
 {
     let mut k: usize = 0;
     let mut left = n;
@@ -149,10 +148,10 @@ fn measure_union(
     b: usize,
     m: usize,
 ) -> usize
-    requires left { ⌜ Source (now lvalues) (from lstart (now lelements)) a n ⌝ }
-    requires right { ⌜ Source (now rvalues) (from rstart (now relements)) b m ⌝ }
+    requires left { ⌜ ReadableElems lvalues lelements lstart a n ⌝ }
+    requires right { ⌜ ReadableElems rvalues relements rstart b m ⌝ }
     requires sum { ⌜ n + m < 2 ^ 64 ⌝ }
-    ensures { λ r. ⌜ r ≡ length (setElems SetOp.Union (tab (elemAt (now (lvalues .entry)) (from lstart (now (lelements .entry)))) a n) (tab (elemAt (now (rvalues .entry)) (from rstart (now (relements .entry)))) b m)) ⌝ }
+    ensures { λ r. ⌜ r ≡ length (setElems SetOp.Union (lentElems lvalues lelements lstart a n) (lentElems rvalues relements rstart b m)) ⌝ }
 {
     let first = measure_kept(
         lvalues,
@@ -199,10 +198,10 @@ fn write_union(
     out_elements: &mut [u8],
     at: usize,
 ) -> usize
-    requires left { ⌜ Source (now lvalues) (from lstart (now lelements)) a n ⌝ }
-    requires right { ⌜ Source (now rvalues) (from rstart (now relements)) b m ⌝ }
-    requires room { ⌜ Place (setElems SetOp.Union (tab (elemAt (now lvalues) (from lstart (now lelements))) a n) (tab (elemAt (now rvalues) (from rstart (now relements))) b m)) at (length (now «out_values»)) (length (now «out_elements»)) ⌝ }
-    ensures { λ r. ⌜ Written (setElems SetOp.Union (tab (elemAt (now (lvalues .entry)) (from lstart (now (lelements .entry)))) a n) (tab (elemAt (now (rvalues .entry)) (from rstart (now (relements .entry)))) b m)) at (now («out_values» .entry)) (now («out_values» .exit)) (now («out_elements» .entry)) (now («out_elements» .exit)) r ⌝ }
+    requires left { ⌜ ReadableElems lvalues lelements lstart a n ⌝ }
+    requires right { ⌜ ReadableElems rvalues relements rstart b m ⌝ }
+    requires room { ⌜ RoomForElems (setElems SetOp.Union (heldElems lvalues lelements lstart a n) (heldElems rvalues relements rstart b m)) at «out_values» «out_elements» ⌝ }
+    ensures { λ r. ⌜ Writes (setElems SetOp.Union (lentElems lvalues lelements lstart a n) (lentElems rvalues relements rstart b m)) at «out_values» «out_elements» r ⌝ }
 {
     let next = write_kept(
         lvalues,
@@ -250,9 +249,9 @@ fn longer<'a>(left: &'a [i64], right: &'a [i64]) -> &'a [i64]
 
 // The bitmap of the elements from element a on: from the byte on that holds the first of their bits.
 pub fn row_bits(elements: &[u8], estart: usize, a: usize, n: usize) -> &[u8]
-    requires { ⌜ Covers (from estart (now elements)) n ⌝ }
+    requires { ⌜ Covers (heldBits elements estart) n ⌝ }
     requires { ⌜ a ≤ n ⌝ }
-    ensures { λ r. ⌜ now r ≡ bitsFrom (from estart (now (elements .entry))) a .bytes ⌝ }
+    ensures { λ r. ⌜ now r ≡ bitsFrom (lentBits elements estart) a .bytes ⌝ }
 {
     if elements.len() == 0 {
         return elements;
@@ -284,9 +283,9 @@ fn measure_intersect<'a>(
     b: usize,
     m: usize,
 ) -> usize
-    requires left { ⌜ Source (now lvalues) (from lstart (now lelements)) a n ⌝ }
-    requires right { ⌜ Source (now rvalues) (from rstart (now relements)) b m ⌝ }
-    ensures { λ r. ⌜ r ≡ length (setElems SetOp.Intersect (tab (elemAt (now (lvalues .entry)) (from lstart (now (lelements .entry)))) a n) (tab (elemAt (now (rvalues .entry)) (from rstart (now (relements .entry)))) b m)) ⌝ }
+    requires left { ⌜ ReadableElems lvalues lelements lstart a n ⌝ }
+    requires right { ⌜ ReadableElems rvalues relements rstart b m ⌝ }
+    ensures { λ r. ⌜ r ≡ length (setElems SetOp.Intersect (lentElems lvalues lelements lstart a n) (lentElems rvalues relements rstart b m)) ⌝ }
 {
     let walked = longer(&lvalues[a..a + n], &rvalues[b..b + m]);
     if n < m {
@@ -339,10 +338,10 @@ fn write_intersect<'a>(
     out_elements: &mut [u8],
     at: usize,
 ) -> usize
-    requires left { ⌜ Source (now lvalues) (from lstart (now lelements)) a n ⌝ }
-    requires right { ⌜ Source (now rvalues) (from rstart (now relements)) b m ⌝ }
-    requires room { ⌜ Place (setElems SetOp.Intersect (tab (elemAt (now lvalues) (from lstart (now lelements))) a n) (tab (elemAt (now rvalues) (from rstart (now relements))) b m)) at (length (now «out_values»)) (length (now «out_elements»)) ⌝ }
-    ensures { λ r. ⌜ Written (setElems SetOp.Intersect (tab (elemAt (now (lvalues .entry)) (from lstart (now (lelements .entry)))) a n) (tab (elemAt (now (rvalues .entry)) (from rstart (now (relements .entry)))) b m)) at (now («out_values» .entry)) (now («out_values» .exit)) (now («out_elements» .entry)) (now («out_elements» .exit)) r ⌝ }
+    requires left { ⌜ ReadableElems lvalues lelements lstart a n ⌝ }
+    requires right { ⌜ ReadableElems rvalues relements rstart b m ⌝ }
+    requires room { ⌜ RoomForElems (setElems SetOp.Intersect (heldElems lvalues lelements lstart a n) (heldElems rvalues relements rstart b m)) at «out_values» «out_elements» ⌝ }
+    ensures { λ r. ⌜ Writes (setElems SetOp.Intersect (lentElems lvalues lelements lstart a n) (lentElems rvalues relements rstart b m)) at «out_values» «out_elements» r ⌝ }
 {
     let walked = longer(&lvalues[a..a + n], &rvalues[b..b + m]);
     if n < m {
@@ -399,10 +398,10 @@ pub fn measure_set<'a>(
     b: usize,
     m: usize,
 ) -> usize
-    requires left { ⌜ Source (now lvalues) (from lstart (now lelements)) a n ⌝ }
-    requires right { ⌜ Source (now rvalues) (from rstart (now relements)) b m ⌝ }
+    requires left { ⌜ ReadableElems lvalues lelements lstart a n ⌝ }
+    requires right { ⌜ ReadableElems rvalues relements rstart b m ⌝ }
     requires sum { ⌜ n + m < 2 ^ 64 ⌝ }
-    ensures { λ r. ⌜ r ≡ length (setElems op (tab (elemAt (now (lvalues .entry)) (from lstart (now (lelements .entry)))) a n) (tab (elemAt (now (rvalues .entry)) (from rstart (now (relements .entry)))) b m)) ⌝ }
+    ensures { λ r. ⌜ r ≡ length (setElems op (lentElems lvalues lelements lstart a n) (lentElems rvalues relements rstart b m)) ⌝ }
 {
     match op {
         SetOp::Union => measure_union(
@@ -449,10 +448,10 @@ pub fn write_set<'a>(
     out_elements: &mut [u8],
     at: usize,
 ) -> usize
-    requires left { ⌜ Source (now lvalues) (from lstart (now lelements)) a n ⌝ }
-    requires right { ⌜ Source (now rvalues) (from rstart (now relements)) b m ⌝ }
-    requires room { ⌜ Place (setElems op (tab (elemAt (now lvalues) (from lstart (now lelements))) a n) (tab (elemAt (now rvalues) (from rstart (now relements))) b m)) at (length (now «out_values»)) (length (now «out_elements»)) ⌝ }
-    ensures { λ r. ⌜ Written (setElems op (tab (elemAt (now (lvalues .entry)) (from lstart (now (lelements .entry)))) a n) (tab (elemAt (now (rvalues .entry)) (from rstart (now (relements .entry)))) b m)) at (now («out_values» .entry)) (now («out_values» .exit)) (now («out_elements» .entry)) (now («out_elements» .exit)) r ⌝ }
+    requires left { ⌜ ReadableElems lvalues lelements lstart a n ⌝ }
+    requires right { ⌜ ReadableElems rvalues relements rstart b m ⌝ }
+    requires room { ⌜ RoomForElems (setElems op (heldElems lvalues lelements lstart a n) (heldElems rvalues relements rstart b m)) at «out_values» «out_elements» ⌝ }
+    ensures { λ r. ⌜ Writes (setElems op (lentElems lvalues lelements lstart a n) (lentElems rvalues relements rstart b m)) at «out_values» «out_elements» r ⌝ }
 {
     match op {
         SetOp::Union => write_union(

@@ -7,7 +7,8 @@ use denote.Ref.{now}
 use Rattle.model.specs.Column.{Row}
 use Rattle.model.specs.Contract.{Slice}
 use Rattle.model.specs.Outcome.{Outcome}
-use Rattle.entry.specs.Entry.{ListReturns}
+use Rattle.model.specs.Form.{Room}
+use Rattle.entry.specs.Entry.{ListReturns, bytesRoom}
 use Rattle.recipe_bytes.specs.Recipe.{talliedIn}
 
 -- arrays of ao and bo offsets and av and bv values have those that the trays have, ho and hv, io and iv; oo and ov, as many as lo and
@@ -30,8 +31,8 @@ pub record Leaves (x : Outcome (List Row)) (n : ℕ) (ar ar′ ae ae′ br br′
   pub two-rows : br′ ≡ replicate (length br) 0
   pub two-elements : be′ ≡ replicate (length be) 0
 
--- the same of slices
-abbrev pub Ran : Outcome (List Row) → ℕ → Slice ℕ → Slice ℕ → Slice ℕ → Slice ℕ → Slice ℕ → Slice ℕ → Slice ℕ → Slice ℕ → Slice ℕ → Slice ℕ → Type 0
-Ran x n ar ae br be o r v e c t =
-    Leaves x n (now (ar .entry)) (now (ar .exit)) (now (ae .entry)) (now (ae .exit)) (now (br .entry)) (now (br .exit)) (now (be .entry)) (now (be .exit))
+-- the same of slices, f being what the recipe comes to for the lengths of the output
+abbrev pub Ran : (Room → Outcome (List Row)) → ℕ → Slice ℕ → Slice ℕ → Slice ℕ → Slice ℕ → Slice ℕ → Slice ℕ → Slice ℕ → Slice ℕ → Slice ℕ → Slice ℕ → Type 0
+Ran f n ar ae br be o r v e c t =
+    Leaves (f (bytesRoom o r v e)) n (now (ar .entry)) (now (ar .exit)) (now (ae .entry)) (now (ae .exit)) (now (br .entry)) (now (br .exit)) (now (be .entry)) (now (be .exit))
     (now (o .entry)) (now (o .exit)) (now (r .entry)) (now (r .exit)) (now (v .entry)) (now (v .exit)) (now (e .entry)) (now (e .exit)) (now (c .entry)) (now (c .exit)) (now (t .entry)) (now (t .exit))

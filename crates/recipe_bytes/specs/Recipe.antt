@@ -1,5 +1,5 @@
 -- A recipe and its tally in slices of bytes; numbers stand in them little-endian (wire, specs/Bytes.antt).
-use Prim.Native.Nat.{ℕ, _/_}
+use Prim.Native.Nat.{ℕ}
 use mathlib.Core.Path.{_≡_}
 use mathlib.Core.List.{List, [], _∷_}
 use lib.ListN.{replicate}
@@ -19,9 +19,9 @@ abbrev pub recipeIn : ℕ → Slice ℕ → Slice ℕ → Slice ℕ → Slice �
 recipeIn columns ns o r v e so sr sv se a b =
     recipeOutcome narrow (recipe (nats 4 (now (ns .entry))) columns) (decoded o r v e) (decoded so sr sv se) (decodedArguments a b)
 
--- the lengths of four slices of bytes, in numbers
-abbrev pub roomIn : Slice ℕ → Slice ℕ → Slice ℕ → Slice ℕ → Room
-roomIn o r v e = room (size o / 4) (size r) (size v / 8) (size e)
+-- the lengths of a tray of o offsets and v values, whose bitmaps are r and e
+abbrev pub trayRoom : ℕ → Slice ℕ → ℕ → Slice ℕ → Room
+trayRoom o r v e = room o (size r) v (size e)
 
 -- every byte of a slice is 0 as the call returns
 abbrev pub Zero : Slice ℕ → Type 0

@@ -6,9 +6,9 @@ use wire::encode_u64;
 use wire::get_u64;
 ghost use Prim.Native.Nat.{_≤_};
 ghost use Rattle.entry.specs.Inner.{Holds};
-ghost use Rattle.model.specs.Contract.{room};
+ghost use Rattle.model.specs.Contract.{roomOf};
 ghost use Rattle.recipe_bytes.specs.Inner.{Ran, Roomy};
-ghost use Rattle.recipe_bytes.specs.Recipe.{roomIn, tallyIn, withTally};
+ghost use Rattle.recipe_bytes.specs.Recipe.{trayRoom, tallyIn, withTally};
 ghost use Rattle.recipes.specs.Recipes.{recipeLent};
 ghost use Rattle.tally.specs.Tallies.{tallyOf};
 ghost use lib.ListN.{length};
@@ -66,7 +66,7 @@ fn run<'a>(
     requires outputs { ⌜ Holds (length (now oo)) (length (now ov)) (length (now «out_offsets»)) (length (now «out_values»)) ⌝ }
     requires counts { ⌜ 32 ≤ length (now counts) ⌝ }
     requires tally { ⌜ 16 ≤ length (now tally) ⌝ }
-    ensures { λ n. ⌜ Ran (recipeLent columns ns o rows v elements so «second_rows» sv «second_elements» a «argument_bits» (room (length (now (ao .entry))) (length (now («one_rows» .entry))) (length (now (av .entry))) (length (now («one_elements» .entry)))) (room (length (now (bo .entry))) (length (now («two_rows» .entry))) (length (now (bv .entry))) (length (now («two_elements» .entry)))) (roomIn «out_offsets» «out_rows» «out_values» «out_elements»)) n «one_rows» «one_elements» «two_rows» «two_elements» «out_offsets» «out_rows» «out_values» «out_elements» counts tally ⌝ }
+    ensures { λ n. ⌜ Ran (recipeLent columns ns o rows v elements so «second_rows» sv «second_elements» a «argument_bits» (roomOf ao «one_rows» av «one_elements») (roomOf bo «two_rows» bv «two_elements»)) n «one_rows» «one_elements» «two_rows» «two_elements» «out_offsets» «out_rows» «out_values» «out_elements» counts tally ⌝ }
 {
     let before = get_tally(tally);
     let done = recipes::run_recipe(
@@ -140,7 +140,7 @@ pub fn cut<'a>(
     requires arrays { ⌜ Roomy ho hv io iv (length (now «out_offsets»)) (length (now «out_values»)) (length (now ao)) (length (now av)) (length (now bo)) (length (now bv)) (length (now oo)) (length (now ov)) ⌝ }
     requires counts { ⌜ 32 ≤ length (now counts) ⌝ }
     requires tally { ⌜ 16 ≤ length (now tally) ⌝ }
-    ensures { λ n. ⌜ Ran (recipeLent columns ns o rows v elements so «second_rows» sv «second_elements» a «argument_bits» (room ho (length (now («one_rows» .entry))) hv (length (now («one_elements» .entry)))) (room io (length (now («two_rows» .entry))) iv (length (now («two_elements» .entry)))) (roomIn «out_offsets» «out_rows» «out_values» «out_elements»)) n «one_rows» «one_elements» «two_rows» «two_elements» «out_offsets» «out_rows» «out_values» «out_elements» counts tally ⌝ }
+    ensures { λ n. ⌜ Ran (recipeLent columns ns o rows v elements so «second_rows» sv «second_elements» a «argument_bits» (trayRoom ho «one_rows» hv «one_elements») (trayRoom io «two_rows» iv «two_elements»)) n «one_rows» «one_elements» «two_rows» «two_elements» «out_offsets» «out_rows» «out_values» «out_elements» counts tally ⌝ }
 {
     let mo = out_offsets.len() / 4;
     let mv = out_values.len() / 8;

@@ -3,9 +3,8 @@ use wire::fill_i32;
 use wire::fill_i64;
 use wire::fill_u32;
 ghost use Prim.Native.Nat.{_≤_};
-ghost use Rattle.model.specs.Contract.{room};
 ghost use Rattle.recipe_bytes.specs.Inner.{Ran, Roomy};
-ghost use Rattle.recipe_bytes.specs.Recipe.{recipeIn, roomIn};
+ghost use Rattle.recipe_bytes.specs.Recipe.{recipeIn, trayRoom};
 ghost use Rattle.recipe_inputs.specs.Inner.{Filled, Within};
 ghost use lib.ListN.{length};
 
@@ -81,7 +80,7 @@ pub fn run(
     requires arrays { ⌜ Roomy ho hv io iv (length (now «out_offsets»)) (length (now «out_values»)) (length (now ao)) (length (now av)) (length (now bo)) (length (now bv)) (length (now oo)) (length (now ov)) ⌝ }
     requires counts { ⌜ 32 ≤ length (now counts) ⌝ }
     requires tally { ⌜ 16 ≤ length (now tally) ⌝ }
-    ensures { λ n. ⌜ Ran (recipeIn columns numbers offsets rows values elements «second_offsets» «second_rows» «second_values» «second_elements» arguments «argument_bits» (room ho (length (now («one_rows» .entry))) hv (length (now («one_elements» .entry)))) (room io (length (now («two_rows» .entry))) iv (length (now («two_elements» .entry)))) (roomIn «out_offsets» «out_rows» «out_values» «out_elements»)) n «one_rows» «one_elements» «two_rows» «two_elements» «out_offsets» «out_rows» «out_values» «out_elements» counts tally ⌝ }
+    ensures { λ n. ⌜ Ran (recipeIn columns numbers offsets rows values elements «second_offsets» «second_rows» «second_values» «second_elements» arguments «argument_bits» (trayRoom ho «one_rows» hv «one_elements») (trayRoom io «two_rows» iv «two_elements»)) n «one_rows» «one_elements» «two_rows» «two_elements» «out_offsets» «out_rows» «out_values» «out_elements» counts tally ⌝ }
 {
     decode(
         numbers,

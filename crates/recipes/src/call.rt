@@ -4,9 +4,9 @@ use column::offsets;
 use model::ListAnswer;
 ghost use Prim.Native.Nat.{_*_, _<_, _≤_};
 ghost use Rattle.column.specs.Put.{Readable};
-ghost use Rattle.model.specs.Bitmap.{from};
-ghost use Rattle.model.specs.Column.{arguments, column, rowCount, rowsOf, shownBy};
-ghost use Rattle.model.specs.Contract.{ListMeets, room};
+ghost use Rattle.model.specs.Column.{rowCount, rowsOf, shownBy};
+ghost use Rattle.model.specs.Contract.{ListAnswers, roomOf};
+ghost use Rattle.model.specs.Held.{held, heldArguments, lentArgumentsFrom, lentFrom};
 ghost use Rattle.model.specs.Limits.{narrow};
 ghost use Rattle.model.specs.Recipe.{recipeOutcome, stepped, stepsOf};
 ghost use Rattle.recipes.specs.Recipes.{AllFit, recipe, recipeRefusal};
@@ -50,7 +50,7 @@ fn refusal<'a>(
     requires { ⌜ rrstart < 8 ⌝ }
     requires { ⌜ restart < 8 ⌝ }
     requires { ⌜ start < 8 ⌝ }
-    ensures { λ k. ⌜ k ≡ recipeRefusal (recipe (now (numbers .entry)) columns) (column (now (offsets .entry)) (from rstart (now (rows .entry))) (now (values .entry)) (from estart (now (elements .entry)))) (column (now (roffsets .entry)) (from rrstart (now (rrows .entry))) (now (rvalues .entry)) (from restart (now (relements .entry)))) (arguments (now (args .entry)) (from start (now (bits .entry)))) ⌝ }
+    ensures { λ k. ⌜ k ≡ recipeRefusal (recipe (now (numbers .entry)) columns) (lentFrom offsets rows rstart values elements estart) (lentFrom roffsets rrows rrstart rvalues relements restart) (lentArgumentsFrom args bits start) ⌝ }
 {
     if check::is_malformed(numbers, columns) {
         return 10;
@@ -116,11 +116,11 @@ fn first<'a>(
     out_values: &mut [i64],
     out_elements: &mut [u8],
 ) -> ListAnswer
-    requires column { ⌜ Readable (column (now offsets) (from rstart (now rows)) (now values) (from estart (now elements))) ⌝ }
+    requires column { ⌜ Readable (held offsets rows rstart values elements estart) ⌝ }
     requires rows { ⌜ rowCount (now offsets) ≡ n ⌝ }
-    requires beside { ⌜ Beside n (column (now roffsets) (from rrstart (now rrows)) (now rvalues) (from restart (now relements))) (arguments (now args) (from start (now bits))) ⌝ }
+    requires beside { ⌜ Beside n (held roffsets rrows rrstart rvalues relements restart) (heldArguments args bits start) ⌝ }
     requires fit { ⌜ AllFit (now numbers) n (length (now args)) ⌝ }
-    ensures { λ a. ⌜ ListMeets (stepped narrow (stepsOf (now (numbers .entry))) (rowsOf (column (now (offsets .entry)) (from rstart (now (rows .entry))) (now (values .entry)) (from estart (now (elements .entry))))) (rowsOf (column (now (roffsets .entry)) (from rrstart (now (rrows .entry))) (now (rvalues .entry)) (from restart (now (relements .entry))))) (shownBy (arguments (now (args .entry)) (from start (now (bits .entry))))) (room (length (now («one_offsets» .entry))) (length (now («one_rows» .entry))) (length (now («one_values» .entry))) (length (now («one_elements» .entry)))) (room (length (now («two_offsets» .entry))) (length (now («two_rows» .entry))) (length (now («two_values» .entry))) (length (now («two_elements» .entry)))) (room (length (now («out_offsets» .entry))) (length (now («out_rows» .entry))) (length (now («out_values» .entry))) (length (now («out_elements» .entry))))) a (now («out_offsets» .entry)) (now («out_offsets» .exit)) (now («out_rows» .entry)) (now («out_rows» .exit)) (now («out_values» .entry)) (now («out_values» .exit)) (now («out_elements» .entry)) (now («out_elements» .exit)) ⌝ }
+    ensures { λ a. ⌜ ListAnswers (stepped narrow (stepsOf (now (numbers .entry))) (rowsOf (lentFrom offsets rows rstart values elements estart)) (rowsOf (lentFrom roffsets rrows rrstart rvalues relements restart)) (shownBy (lentArgumentsFrom args bits start)) (roomOf «one_offsets» «one_rows» «one_values» «one_elements») (roomOf «two_offsets» «two_rows» «two_values» «two_elements»)) a «out_offsets» «out_rows» «out_values» «out_elements» ⌝ }
 {
     let count = numbers.len() / 4;
     if count == 0 {
@@ -270,7 +270,7 @@ pub(crate) fn attempt<'a>(
     requires { ⌜ rrstart < 8 ⌝ }
     requires { ⌜ restart < 8 ⌝ }
     requires { ⌜ start < 8 ⌝ }
-    ensures { λ a. ⌜ ListMeets (recipeOutcome narrow (recipe (now (numbers .entry)) columns) (column (now (offsets .entry)) (from rstart (now (rows .entry))) (now (values .entry)) (from estart (now (elements .entry)))) (column (now (roffsets .entry)) (from rrstart (now (rrows .entry))) (now (rvalues .entry)) (from restart (now (relements .entry)))) (arguments (now (args .entry)) (from start (now (bits .entry)))) (room (length (now («one_offsets» .entry))) (length (now («one_rows» .entry))) (length (now («one_values» .entry))) (length (now («one_elements» .entry)))) (room (length (now («two_offsets» .entry))) (length (now («two_rows» .entry))) (length (now («two_values» .entry))) (length (now («two_elements» .entry)))) (room (length (now («out_offsets» .entry))) (length (now («out_rows» .entry))) (length (now («out_values» .entry))) (length (now («out_elements» .entry))))) a (now («out_offsets» .entry)) (now («out_offsets» .exit)) (now («out_rows» .entry)) (now («out_rows» .exit)) (now («out_values» .entry)) (now («out_values» .exit)) (now («out_elements» .entry)) (now («out_elements» .exit)) ⌝ }
+    ensures { λ a. ⌜ ListAnswers (recipeOutcome narrow (recipe (now (numbers .entry)) columns) (lentFrom offsets rows rstart values elements estart) (lentFrom roffsets rrows rrstart rvalues relements restart) (lentArgumentsFrom args bits start) (roomOf «one_offsets» «one_rows» «one_values» «one_elements») (roomOf «two_offsets» «two_rows» «two_values» «two_elements»)) a «out_offsets» «out_rows» «out_values» «out_elements» ⌝ }
 {
     let k = refusal(
         numbers,

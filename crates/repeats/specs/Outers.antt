@@ -4,8 +4,10 @@ use mathlib.Core.Path.{_≡_}
 use mathlib.Core.List.{List, [], _∷_, map}
 use lib.ListN.{length, set}
 use lib.IntN.{ℤ, pos}
+use denote.Ref.{RefT, now}
 use Rattle.model.specs.Bitmap.{bytesFor, pack}
 use Rattle.model.specs.Column.{Row}
+use Rattle.model.specs.Contract.{Slice}
 use Rattle.model.specs.Form.{Outer, isOuter, innerOf, inner, outerLength, flat, over, offsetsFrom}
 use Rattle.model.specs.Limits.{narrow}
 use Rattle.bitmap.specs.Push.{pushBit}
@@ -50,3 +52,16 @@ pub record OutersHold (os : List Outer) (oo oo′ : List ℤ) (ro ro′ : List �
   pub offsets : oo′ ≡ over (offsetsFrom 0 (map outerLength os)) oo
   pub rows : ro′ ≡ over (pack (map isOuter os)) ro
   pub lists : Holds (inner os) io io′ ir ir′ vo vo′ eo eo′
+
+-- the same, said of slices
+abbrev pub RoomForRows : List Row → ℕ → ℕ → RefT (List ℤ) → RefT (List ℕ) → RefT (List ℤ) → RefT (List ℕ) → Type 0
+RoomForRows ws i at o r v e = Fits ws i at (length (now o)) (length (now r)) (length (now v)) (length (now e))
+
+abbrev pub RoomForOuters : List Outer → RefT (List ℤ) → RefT (List ℕ) → RefT (List ℤ) → RefT (List ℕ) → RefT (List ℤ) → RefT (List ℕ) → Type 0
+RoomForOuters os o r io ir v e = OuterRoom os (length (now o)) (length (now r)) (length (now io)) (length (now ir)) (length (now v)) (length (now e))
+
+abbrev pub FillsOuters : List Outer → Slice ℤ → Slice ℕ → Slice ℤ → Slice ℕ → Slice ℤ → Slice ℕ → Type 0
+FillsOuters os o r io ir v e =
+    OutersHold os
+    (now (o .entry)) (now (o .exit)) (now (r .entry)) (now (r .exit)) (now (io .entry)) (now (io .exit)) (now (ir .entry)) (now (ir .exit))
+    (now (v .entry)) (now (v .exit)) (now (e .entry)) (now (e .exit))

@@ -6,15 +6,17 @@ use model::RepeatAnswer;
 use rows::utils;
 ghost use Prim.Native.Nat.{_+_, _<_, _≤_};
 ghost use Rattle.bitmap.specs.Push.{Covers};
+ghost use Rattle.column.specs.Outputs.{ReadableRow};
 ghost use Rattle.column.specs.Put.{Readable, outs, putRows};
-ghost use Rattle.column.specs.Rows.{Between, rowFrom};
-ghost use Rattle.model.specs.Bitmap.{bytesFor, from};
-ghost use Rattle.model.specs.Column.{arguments, column, elemAt, rowCount};
-ghost use Rattle.model.specs.Contract.{RepeatMeets, repeatRoom};
+ghost use Rattle.column.specs.Rows.{rowFrom};
+ghost use Rattle.model.specs.Bitmap.{bytesFor};
+ghost use Rattle.model.specs.Column.{rowCount};
+ghost use Rattle.model.specs.Contract.{RepeatAnswers, repeatRoom};
 ghost use Rattle.model.specs.Form.{flat, inner};
+ghost use Rattle.model.specs.Held.{held, heldArguments, heldBits, heldElem, lentArgumentsFrom, lentBits, lentElem, lentFrom};
 ghost use Rattle.model.specs.Limits.{narrow};
 ghost use Rattle.model.specs.Outcome.{fittedRepeat, repeatOutcome};
-ghost use Rattle.repeats.specs.Outers.{Fits, OuterRoom, OutersHold};
+ghost use Rattle.repeats.specs.Outers.{FillsOuters, RoomForOuters, RoomForRows};
 ghost use Rattle.repeats.specs.Repeats.{Rising, fitsCounts, repeatAnswerFrom, repeatRows, sumsOf, timesAt};
 ghost use lib.ListN.{length, replicate};
 ghost use mathlib.Core.Path.{_≡_};
@@ -27,10 +29,10 @@ enum Sums {
 
 // How often row r of n is repeated: not at all for a null count or one at or below 0.
 fn repeat_count(counts: &[i64], count_bits: &[u8], cstart: usize, n: usize, r: usize) -> usize
-    requires { ⌜ Covers (from cstart (now «count_bits»)) n ⌝ }
+    requires { ⌜ Covers (heldBits «count_bits» cstart) n ⌝ }
     requires { ⌜ length (now counts) ≡ n ⌝ }
     requires { ⌜ r < n ⌝ }
-    ensures { λ t. ⌜ t ≡ timesAt (now (counts .entry)) (from cstart (now («count_bits» .entry))) r ⌝ }
+    ensures { λ t. ⌜ t ≡ timesAt (now (counts .entry)) (lentBits «count_bits» cstart) r ⌝ }
 {
     if !bitmap::is_valid(count_bits, cstart, r, n) {
         return 0;
@@ -48,10 +50,10 @@ fn sum_repeats(
     cstart: usize,
 ) -> Sums
     requires rising { ⌜ Rising (now offsets) ⌝ }
-    requires { ⌜ Covers (from rstart (now rows)) (rowCount (now offsets)) ⌝ }
-    requires { ⌜ Covers (from cstart (now «count_bits»)) (rowCount (now offsets)) ⌝ }
+    requires { ⌜ Covers (heldBits rows rstart) (rowCount (now offsets)) ⌝ }
+    requires { ⌜ Covers (heldBits «count_bits» cstart) (rowCount (now offsets)) ⌝ }
     requires { ⌜ length (now counts) ≡ rowCount (now offsets) ⌝ }
-    ensures { λ s. ⌜ s ≡ sumsOf (now (offsets .entry)) (from rstart (now (rows .entry))) (now (counts .entry)) (from cstart (now («count_bits» .entry))) ⌝ }
+    ensures { λ s. ⌜ s ≡ sumsOf (now (offsets .entry)) (lentBits rows rstart) (now (counts .entry)) (lentBits «count_bits» cstart) ⌝ }
 {
     let n = offsets::row_count(offsets);
     let mut lists: usize = 0;
@@ -98,9 +100,9 @@ fn put_copies(
     first: usize,
     place: usize,
 ) -> usize
-    requires row { ⌜ Between (from rstart (now rows)) n (now values) (from estart (now elements)) r a b ⌝ }
-    requires room { ⌜ Fits (replicate times (rowFrom (from rstart (now rows)) (elemAt (now values) (from estart (now elements))) r a b)) first place (length (now «inner_offsets»)) (length (now «inner_rows»)) (length (now «out_values»)) (length (now «out_elements»)) ⌝ }
-    ensures { λ k. ⌜ outs (now («inner_offsets» .exit)) (now («inner_rows» .exit)) (now («out_values» .exit)) (now («out_elements» .exit)) (first + times) k ≡ putRows (outs (now («inner_offsets» .entry)) (now («inner_rows» .entry)) (now («out_values» .entry)) (now («out_elements» .entry)) first place) (replicate times (rowFrom (from rstart (now (rows .entry))) (elemAt (now (values .entry)) (from estart (now (elements .entry)))) r a b)) ⌝ }
+    requires row { ⌜ ReadableRow rows rstart n values elements estart r a b ⌝ }
+    requires room { ⌜ RoomForRows (replicate times (rowFrom (heldBits rows rstart) (heldElem values elements estart) r a b)) first place «inner_offsets» «inner_rows» «out_values» «out_elements» ⌝ }
+    ensures { λ k. ⌜ outs (now («inner_offsets» .exit)) (now («inner_rows» .exit)) (now («out_values» .exit)) (now («out_elements» .exit)) (first + times) k ≡ putRows (outs (now («inner_offsets» .entry)) (now («inner_rows» .entry)) (now («out_values» .entry)) (now («out_elements» .entry)) first place) (replicate times (rowFrom (lentBits rows rstart) (lentElem values elements estart) r a b)) ⌝ }
 {
     let valid = bitmap::is_valid(rows, rstart, r, n);
     let len = column::rows::row_len(rows, rstart, n, r, a, b);
@@ -144,11 +146,11 @@ fn write_repeats(
     out_values: &mut [i64],
     out_elements: &mut [u8],
 )
-    requires list { ⌜ Readable (column (now offsets) (from rstart (now rows)) (now values) (from estart (now elements))) ⌝ }
-    requires bits { ⌜ Covers (from cstart (now «count_bits»)) (rowCount (now offsets)) ⌝ }
+    requires list { ⌜ Readable (held offsets rows rstart values elements estart) ⌝ }
+    requires bits { ⌜ Covers (heldBits «count_bits» cstart) (rowCount (now offsets)) ⌝ }
     requires equal { ⌜ length (now counts) ≡ rowCount (now offsets) ⌝ }
-    requires room { ⌜ OuterRoom (repeatRows (column (now offsets) (from rstart (now rows)) (now values) (from estart (now elements))) (arguments (now counts) (from cstart (now «count_bits»)))) (length (now «out_offsets»)) (length (now «out_rows»)) (length (now «inner_offsets»)) (length (now «inner_rows»)) (length (now «out_values»)) (length (now «out_elements»)) ⌝ }
-    ensures { λ _. ⌜ OutersHold (repeatRows (column (now (offsets .entry)) (from rstart (now (rows .entry))) (now (values .entry)) (from estart (now (elements .entry)))) (arguments (now (counts .entry)) (from cstart (now («count_bits» .entry))))) (now («out_offsets» .entry)) (now («out_offsets» .exit)) (now («out_rows» .entry)) (now («out_rows» .exit)) (now («inner_offsets» .entry)) (now («inner_offsets» .exit)) (now («inner_rows» .entry)) (now («inner_rows» .exit)) (now («out_values» .entry)) (now («out_values» .exit)) (now («out_elements» .entry)) (now («out_elements» .exit)) ⌝ }
+    requires room { ⌜ RoomForOuters (repeatRows (held offsets rows rstart values elements estart) (heldArguments counts «count_bits» cstart)) «out_offsets» «out_rows» «inner_offsets» «inner_rows» «out_values» «out_elements» ⌝ }
+    ensures { λ _. ⌜ FillsOuters (repeatRows (lentFrom offsets rows rstart values elements estart) (lentArgumentsFrom counts «count_bits» cstart)) «out_offsets» «out_rows» «inner_offsets» «inner_rows» «out_values» «out_elements» ⌝ }
 {
     let n = offsets::row_count(offsets);
     offsets::put_offset(out_offsets, 0, 0);
@@ -261,14 +263,14 @@ fn fill(
     out_values: &mut [i64],
     out_elements: &mut [u8],
 ) -> RepeatAnswer
-    requires list { ⌜ Readable (column (now offsets) (from rstart (now rows)) (now values) (from estart (now elements))) ⌝ }
-    requires bits { ⌜ Covers (from cstart (now «count_bits»)) (rowCount (now offsets)) ⌝ }
+    requires list { ⌜ Readable (held offsets rows rstart values elements estart) ⌝ }
+    requires bits { ⌜ Covers (heldBits «count_bits» cstart) (rowCount (now offsets)) ⌝ }
     requires equal { ⌜ length (now counts) ≡ rowCount (now offsets) ⌝ }
-    requires lists { ⌜ lists ≡ length (inner (repeatRows (column (now offsets) (from rstart (now rows)) (now values) (from estart (now elements))) (arguments (now counts) (from cstart (now «count_bits»))))) ⌝ }
-    requires elements { ⌜ m ≡ length (flat (inner (repeatRows (column (now offsets) (from rstart (now rows)) (now values) (from estart (now elements))) (arguments (now counts) (from cstart (now «count_bits»)))))) ⌝ }
+    requires lists { ⌜ lists ≡ length (inner (repeatRows (held offsets rows rstart values elements estart) (heldArguments counts «count_bits» cstart))) ⌝ }
+    requires elements { ⌜ m ≡ length (flat (inner (repeatRows (held offsets rows rstart values elements estart) (heldArguments counts «count_bits» cstart)))) ⌝ }
     requires few { ⌜ lists ≤ narrow .outer ⌝ }
     requires small { ⌜ m ≤ narrow .repeated ⌝ }
-    ensures { λ k. ⌜ RepeatMeets (fittedRepeat (repeatRows (column (now (offsets .entry)) (from rstart (now (rows .entry))) (now (values .entry)) (from estart (now (elements .entry)))) (arguments (now (counts .entry)) (from cstart (now («count_bits» .entry))))) (repeatRoom (length (now («out_offsets» .entry))) (length (now («out_rows» .entry))) (length (now («inner_offsets» .entry))) (length (now («inner_rows» .entry))) (length (now («out_values» .entry))) (length (now («out_elements» .entry))))) k (now («out_offsets» .entry)) (now («out_offsets» .exit)) (now («out_rows» .entry)) (now («out_rows» .exit)) (now («inner_offsets» .entry)) (now («inner_offsets» .exit)) (now («inner_rows» .entry)) (now («inner_rows» .exit)) (now («out_values» .entry)) (now («out_values» .exit)) (now («out_elements» .entry)) (now («out_elements» .exit)) ⌝ }
+    ensures { λ k. ⌜ RepeatAnswers (fittedRepeat (repeatRows (lentFrom offsets rows rstart values elements estart) (lentArgumentsFrom counts «count_bits» cstart))) k «out_offsets» «out_rows» «inner_offsets» «inner_rows» «out_values» «out_elements» ⌝ }
 {
     let n = offsets::row_count(offsets);
     if !has_room(
@@ -325,7 +327,7 @@ pub fn run(
     requires { ⌜ rstart < 8 ⌝ }
     requires { ⌜ estart < 8 ⌝ }
     requires { ⌜ cstart < 8 ⌝ }
-    ensures { λ k. ⌜ RepeatMeets (repeatOutcome narrow (column (now (offsets .entry)) (from rstart (now (rows .entry))) (now (values .entry)) (from estart (now (elements .entry)))) (arguments (now (counts .entry)) (from cstart (now («count_bits» .entry)))) (repeatRoom (length (now («out_offsets» .entry))) (length (now («out_rows» .entry))) (length (now («inner_offsets» .entry))) (length (now («inner_rows» .entry))) (length (now («out_values» .entry))) (length (now («out_elements» .entry))))) k (now («out_offsets» .entry)) (now («out_offsets» .exit)) (now («out_rows» .entry)) (now («out_rows» .exit)) (now («inner_offsets» .entry)) (now («inner_offsets» .exit)) (now («inner_rows» .entry)) (now («inner_rows» .exit)) (now («out_values» .entry)) (now («out_values» .exit)) (now («out_elements» .entry)) (now («out_elements» .exit)) ⌝ }
+    ensures { λ k. ⌜ RepeatAnswers (repeatOutcome narrow (lentFrom offsets rows rstart values elements estart) (lentArgumentsFrom counts «count_bits» cstart)) k «out_offsets» «out_rows» «inner_offsets» «inner_rows» «out_values» «out_elements» ⌝ }
 {
     let k = checks::list_refusal(offsets, rows, rstart, values, elements, estart);
     if k != 0 {

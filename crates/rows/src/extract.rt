@@ -2,14 +2,13 @@
 // After extract.rs of datafusion-functions-nested 55.2.0, Apache License 2.0, Apache Software Foundation; changed, see NOTICE.
 use column::elements;
 use index::Bound;
-ghost use Prim.Native.Nat.{_+_, _/_, _<_, _≤_};
+ghost use Prim.Native.Nat.{_/_, _<_, _≤_};
 ghost use Rattle.bitmap.specs.Push.{Covers, pushBit};
-ghost use Rattle.column.specs.Put.{Source};
-ghost use Rattle.rows.specs.Found.{FirstAt, elementPlace, foundAt, unfitAt};
-ghost use Rattle.model.specs.Bitmap.{from};
-ghost use Rattle.model.specs.Column.{column, elemAt};
+ghost use Rattle.column.specs.Outputs.{ReadableElems};
 ghost use Rattle.model.specs.Form.{isVal, valueOf};
+ghost use Rattle.model.specs.Held.{heldBits, lentBits, lentElem};
 ghost use Rattle.model.specs.Limits.{narrow};
+ghost use Rattle.rows.specs.Found.{FirstAt, elementPlace, foundAt, unfitAt};
 ghost use lib.ListN.{length, set};
 ghost use mathlib.Core.Path.{_≡_};
 
@@ -25,11 +24,11 @@ pub fn write_found(
     k: usize,
 )
     requires { ⌜ end ≤ length (now values) ⌝ }
-    requires { ⌜ Covers (from estart (now elements)) (length (now values)) ⌝ }
+    requires { ⌜ Covers (heldBits elements estart) (length (now values)) ⌝ }
     requires { ⌜ k < length (now «out_values») ⌝ }
     requires { ⌜ k / 8 < length (now «out_rows») ⌝ }
-    ensures { λ _. ⌜ now («out_values» .exit) ≡ set (now («out_values» .entry)) k (valueOf (foundAt (elemAt (now (values .entry)) (from estart (now (elements .entry)))) i end)) ⌝ }
-    ensures { λ _. ⌜ now («out_rows» .exit) ≡ pushBit (now («out_rows» .entry)) k (isVal (foundAt (elemAt (now (values .entry)) (from estart (now (elements .entry)))) i end)) ⌝ }
+    ensures { λ _. ⌜ now («out_values» .exit) ≡ set (now («out_values» .entry)) k (valueOf (foundAt (lentElem values elements estart) i end)) ⌝ }
+    ensures { λ _. ⌜ now («out_rows» .exit) ≡ pushBit (now («out_rows» .entry)) k (isVal (foundAt (lentElem values elements estart) i end)) ⌝ }
 {
     if i < end {
         elements::write_elem(values, elements, estart, i, out_values, out_rows, k);
@@ -40,8 +39,8 @@ pub fn write_found(
 
 // Where the first valid one of the n elements from element a on stands, or the end.
 pub fn first_valid(values: &[i64], elements: &[u8], estart: usize, a: usize, n: usize) -> usize
-    requires column { ⌜ Source (now values) (from estart (now elements)) a n ⌝ }
-    ensures { λ i. ⌜ FirstAt (elemAt (now (values .entry)) (from estart (now (elements .entry)))) a n i ⌝ }
+    requires column { ⌜ ReadableElems values elements estart a n ⌝ }
+    ensures { λ i. ⌜ FirstAt (lentElem values elements estart) a n i ⌝ }
 {
     let mut p = a;
     let mut left = n;
@@ -65,11 +64,11 @@ pub fn is_unfit(
     istart: usize,
     r: usize,
 ) -> bool
-    requires { ⌜ Covers (from rstart (now rows)) n ⌝ }
-    requires { ⌜ Covers (from istart (now «index_bits»)) n ⌝ }
+    requires { ⌜ Covers (heldBits rows rstart) n ⌝ }
+    requires { ⌜ Covers (heldBits «index_bits» istart) n ⌝ }
     requires { ⌜ length (now indexes) ≡ n ⌝ }
     requires { ⌜ r < n ⌝ }
-    ensures { λ u. ⌜ u ≡ unfitAt (from rstart (now (rows .entry))) (now (indexes .entry)) (from istart (now («index_bits» .entry))) r ⌝ }
+    ensures { λ u. ⌜ u ≡ unfitAt (lentBits rows rstart) (now (indexes .entry)) (lentBits «index_bits» istart) r ⌝ }
 {
     if !bitmap::is_valid(rows, rstart, r, n) {
         return false;
@@ -90,12 +89,12 @@ pub fn element_place(
     a: usize,
     k: usize,
 ) -> usize
-    requires { ⌜ Covers (from istart (now «index_bits»)) n ⌝ }
+    requires { ⌜ Covers (heldBits «index_bits» istart) n ⌝ }
     requires { ⌜ length (now indexes) ≡ n ⌝ }
     requires { ⌜ r < n ⌝ }
     requires { ⌜ a ≤ narrow .offset ⌝ }
     requires { ⌜ k ≤ narrow .offset ⌝ }
-    ensures { λ i. ⌜ i ≡ elementPlace (elemAt (now (indexes .entry)) (from istart (now («index_bits» .entry))) r) a k ⌝ }
+    ensures { λ i. ⌜ i ≡ elementPlace (lentElem indexes «index_bits» istart r) a k ⌝ }
 {
     if !bitmap::is_valid(index_bits, istart, r, n) {
         return a + k;

@@ -2,11 +2,9 @@
 // After remove.rs of datafusion-functions-nested 55.2.0, Apache License 2.0, Apache Software Foundation; changed, see NOTICE.
 use crate::Cell;
 use crate::utils;
-ghost use Rattle.column.specs.Put.{Place, Source, Written};
-ghost use Rattle.model.specs.Basics.{tab};
-ghost use Rattle.model.specs.Bitmap.{from};
-ghost use Rattle.model.specs.Column.{elemAt};
+ghost use Rattle.column.specs.Outputs.{ReadableElems, RoomForElems, Writes};
 ghost use Rattle.model.specs.Elements.{removed};
+ghost use Rattle.model.specs.Held.{heldElems, lentElems};
 ghost use Rattle.rows.specs.Cells.{elemOf};
 ghost use lib.ListN.{length};
 ghost use mathlib.Core.Path.{_≡_};
@@ -21,8 +19,8 @@ pub fn measure_removed(
     element: Cell,
     limit: usize,
 ) -> usize
-    requires column { ⌜ Source (now values) (from estart (now elements)) a n ⌝ }
-    ensures { λ r. ⌜ r ≡ length (removed limit (elemOf element) (tab (elemAt (now (values .entry)) (from estart (now (elements .entry)))) a n)) ⌝ }
+    requires column { ⌜ ReadableElems values elements estart a n ⌝ }
+    ensures { λ r. ⌜ r ≡ length (removed limit (elemOf element) (lentElems values elements estart a n)) ⌝ }
 {
     let mut p = a;
     let mut left = n;
@@ -54,9 +52,9 @@ pub fn write_removed(
     out_elements: &mut [u8],
     at: usize,
 ) -> usize
-    requires column { ⌜ Source (now values) (from estart (now elements)) a n ⌝ }
-    requires room { ⌜ Place (removed limit (elemOf element) (tab (elemAt (now values) (from estart (now elements))) a n)) at (length (now «out_values»)) (length (now «out_elements»)) ⌝ }
-    ensures { λ r. ⌜ Written (removed limit (elemOf element) (tab (elemAt (now (values .entry)) (from estart (now (elements .entry)))) a n)) at (now («out_values» .entry)) (now («out_values» .exit)) (now («out_elements» .entry)) (now («out_elements» .exit)) r ⌝ }
+    requires column { ⌜ ReadableElems values elements estart a n ⌝ }
+    requires room { ⌜ RoomForElems (removed limit (elemOf element) (heldElems values elements estart a n)) at «out_values» «out_elements» ⌝ }
+    ensures { λ r. ⌜ Writes (removed limit (elemOf element) (lentElems values elements estart a n)) at «out_values» «out_elements» r ⌝ }
 {
     let mut p = a;
     let mut left = n;

@@ -2,13 +2,10 @@
 // After replace.rs of datafusion-functions-nested 55.2.0, Apache License 2.0, Apache Software Foundation; changed, see NOTICE.
 use crate::Cell;
 use crate::utils;
-ghost use Rattle.column.specs.Put.{Place, Source, Written};
-ghost use Rattle.model.specs.Basics.{tab};
-ghost use Rattle.model.specs.Bitmap.{from};
-ghost use Rattle.model.specs.Column.{elemAt};
+ghost use Rattle.column.specs.Outputs.{ReadableElems, RoomForElems, Writes};
 ghost use Rattle.model.specs.Elements.{replaced};
+ghost use Rattle.model.specs.Held.{heldElems, lentElems};
 ghost use Rattle.rows.specs.Cells.{elemOf};
-ghost use lib.ListN.{length};
 
 // Writes the n elements from element a on, the first matches as another element: run after run without a match, and past the limit the rest.
 pub fn write_replaced(
@@ -24,9 +21,9 @@ pub fn write_replaced(
     out_elements: &mut [u8],
     at: usize,
 ) -> usize
-    requires column { ⌜ Source (now values) (from estart (now elements)) a n ⌝ }
-    requires room { ⌜ Place (replaced limit (elemOf needle) (elemOf to) (tab (elemAt (now values) (from estart (now elements))) a n)) at (length (now «out_values»)) (length (now «out_elements»)) ⌝ }
-    ensures { λ r. ⌜ Written (replaced limit (elemOf needle) (elemOf to) (tab (elemAt (now (values .entry)) (from estart (now (elements .entry)))) a n)) at (now («out_values» .entry)) (now («out_values» .exit)) (now («out_elements» .entry)) (now («out_elements» .exit)) r ⌝ }
+    requires column { ⌜ ReadableElems values elements estart a n ⌝ }
+    requires room { ⌜ RoomForElems (replaced limit (elemOf needle) (elemOf to) (heldElems values elements estart a n)) at «out_values» «out_elements» ⌝ }
+    ensures { λ r. ⌜ Writes (replaced limit (elemOf needle) (elemOf to) (lentElems values elements estart a n)) at «out_values» «out_elements» r ⌝ }
 {
     let mut p = a;
     let mut left = n;

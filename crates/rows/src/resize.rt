@@ -2,13 +2,11 @@
 // After resize.rs of datafusion-functions-nested 55.2.0, Apache License 2.0, Apache Software Foundation; changed, see NOTICE.
 use crate::Cell;
 use crate::utils;
-ghost use Rattle.column.specs.Put.{Place, Source, Written};
-ghost use Rattle.model.specs.Basics.{tab};
-ghost use Rattle.model.specs.Bitmap.{from};
-ghost use Rattle.model.specs.Column.{elemAt};
+ghost use Rattle.column.specs.Outputs.{ReadableElems, RoomForElems, Writes};
 ghost use Rattle.model.specs.Elements.{resized};
+ghost use Rattle.model.specs.Held.{heldElems, lentElems};
 ghost use Rattle.rows.specs.Cells.{elemOf, fillElem};
-ghost use lib.ListN.{length, replicate};
+ghost use lib.ListN.{replicate};
 ghost use mathlib.Core.Path.{_≡_};
 
 // What a row is filled with: nulls where no fill is lent, else the row's own.
@@ -34,8 +32,8 @@ fn write_fill(
     out_elements: &mut [u8],
     at: usize,
 ) -> usize
-    requires room { ⌜ Place (replicate n (elemOf cell)) at (length (now «out_values»)) (length (now «out_elements»)) ⌝ }
-    ensures { λ r. ⌜ Written (replicate n (elemOf cell)) at (now («out_values» .entry)) (now («out_values» .exit)) (now («out_elements» .entry)) (now («out_elements» .exit)) r ⌝ }
+    requires room { ⌜ RoomForElems (replicate n (elemOf cell)) at «out_values» «out_elements» ⌝ }
+    ensures { λ r. ⌜ Writes (replicate n (elemOf cell)) at «out_values» «out_elements» r ⌝ }
 {
     match cell {
         Cell::Null => runs::write_null(n, out_values, out_elements, at),
@@ -56,9 +54,9 @@ pub fn write_resized(
     out_elements: &mut [u8],
     at: usize,
 ) -> usize
-    requires column { ⌜ Source (now values) (from estart (now elements)) a n ⌝ }
-    requires room { ⌜ Place (resized count (fillElem fill) (tab (elemAt (now values) (from estart (now elements))) a n)) at (length (now «out_values»)) (length (now «out_elements»)) ⌝ }
-    ensures { λ r. ⌜ Written (resized count (fillElem fill) (tab (elemAt (now (values .entry)) (from estart (now (elements .entry)))) a n)) at (now («out_values» .entry)) (now («out_values» .exit)) (now («out_elements» .entry)) (now («out_elements» .exit)) r ⌝ }
+    requires column { ⌜ ReadableElems values elements estart a n ⌝ }
+    requires room { ⌜ RoomForElems (resized count (fillElem fill) (heldElems values elements estart a n)) at «out_values» «out_elements» ⌝ }
+    ensures { λ r. ⌜ Writes (resized count (fillElem fill) (lentElems values elements estart a n)) at «out_values» «out_elements» r ⌝ }
 {
     if count <= n {
         return utils::write_forward(

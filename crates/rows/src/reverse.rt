@@ -1,11 +1,8 @@
 // Reverse: the elements of a row, last first.
 // After reverse.rs of datafusion-functions-nested 55.2.0, Apache License 2.0, Apache Software Foundation; changed, see NOTICE.
 use column::elements;
-ghost use Rattle.column.specs.Put.{Place, Source, Written};
-ghost use Rattle.model.specs.Basics.{tab};
-ghost use Rattle.model.specs.Bitmap.{from};
-ghost use Rattle.model.specs.Column.{elemAt};
-ghost use lib.ListN.{length};
+ghost use Rattle.column.specs.Outputs.{ReadableElems, RoomForElems, Writes};
+ghost use Rattle.model.specs.Held.{heldElems, lentElems};
 ghost use mathlib.Core.List.{reverse};
 
 // Writes the n elements from element a on, one after the other, last first.
@@ -19,9 +16,9 @@ fn write_each_back(
     out_elements: &mut [u8],
     at: usize,
 ) -> usize
-    requires column { ⌜ Source (now values) (from estart (now elements)) a n ⌝ }
-    requires room { ⌜ Place (reverse (tab (elemAt (now values) (from estart (now elements))) a n)) at (length (now «out_values»)) (length (now «out_elements»)) ⌝ }
-    ensures { λ r. ⌜ Written (reverse (tab (elemAt (now (values .entry)) (from estart (now (elements .entry)))) a n)) at (now («out_values» .entry)) (now («out_values» .exit)) (now («out_elements» .entry)) (now («out_elements» .exit)) r ⌝ }
+    requires column { ⌜ ReadableElems values elements estart a n ⌝ }
+    requires room { ⌜ RoomForElems (reverse (heldElems values elements estart a n)) at «out_values» «out_elements» ⌝ }
+    ensures { λ r. ⌜ Writes (reverse (lentElems values elements estart a n)) at «out_values» «out_elements» r ⌝ }
 {
     let mut left = n;
     let mut k = at;
@@ -52,9 +49,9 @@ pub fn write_backward(
     out_elements: &mut [u8],
     at: usize,
 ) -> usize
-    requires column { ⌜ Source (now values) (from estart (now elements)) a n ⌝ }
-    requires room { ⌜ Place (reverse (tab (elemAt (now values) (from estart (now elements))) a n)) at (length (now «out_values»)) (length (now «out_elements»)) ⌝ }
-    ensures { λ r. ⌜ Written (reverse (tab (elemAt (now (values .entry)) (from estart (now (elements .entry)))) a n)) at (now («out_values» .entry)) (now («out_values» .exit)) (now («out_elements» .entry)) (now («out_elements» .exit)) r ⌝ }
+    requires column { ⌜ ReadableElems values elements estart a n ⌝ }
+    requires room { ⌜ RoomForElems (reverse (heldElems values elements estart a n)) at «out_values» «out_elements» ⌝ }
+    ensures { λ r. ⌜ Writes (reverse (lentElems values elements estart a n)) at «out_values» «out_elements» r ⌝ }
 {
     if elements.len() == 0 {
         return runs::write_backward(values, elements, estart, a, n, out_values, out_elements, at);

@@ -3,10 +3,11 @@
 use crate::utils;
 use column::elements;
 ghost use Prim.Native.Nat.{_+_, _<_, _≤_};
-ghost use Rattle.column.specs.Put.{Place, Source, Written, putValues};
+ghost use Rattle.column.specs.Outputs.{ReadableElems, RoomForElems, Writes};
+ghost use Rattle.column.specs.Put.{putValues};
 ghost use Rattle.model.specs.Basics.{tab};
-ghost use Rattle.model.specs.Bitmap.{from};
-ghost use Rattle.model.specs.Column.{elemAt, val};
+ghost use Rattle.model.specs.Column.{val};
+ghost use Rattle.model.specs.Held.{heldElems, lentElems};
 ghost use Rattle.model.specs.Slice.{sliced};
 ghost use Rattle.rows.specs.Strides.{Walks};
 ghost use lib.Dec.{T};
@@ -50,10 +51,10 @@ fn write_each_place(
     out_elements: &mut [u8],
     at: usize,
 ) -> usize
-    requires column { ⌜ Source (now values) (from estart (now elements)) a n ⌝ }
+    requires column { ⌜ ReadableElems values elements estart a n ⌝ }
     requires places { ⌜ Walks start stride count n ⌝ }
-    requires room { ⌜ Place (sliced (natAbs start) stride (natAbs count) (tab (elemAt (now values) (from estart (now elements))) a n)) at (length (now «out_values»)) (length (now «out_elements»)) ⌝ }
-    ensures { λ r. ⌜ Written (sliced (natAbs start) stride (natAbs count) (tab (elemAt (now (values .entry)) (from estart (now (elements .entry)))) a n)) at (now («out_values» .entry)) (now («out_values» .exit)) (now («out_elements» .entry)) (now («out_elements» .exit)) r ⌝ }
+    requires room { ⌜ RoomForElems (sliced (natAbs start) stride (natAbs count) (heldElems values elements estart a n)) at «out_values» «out_elements» ⌝ }
+    ensures { λ r. ⌜ Writes (sliced (natAbs start) stride (natAbs count) (lentElems values elements estart a n)) at «out_values» «out_elements» r ⌝ }
 {
     let mut p = start;
     let mut left = to_usize(count);
@@ -110,11 +111,11 @@ fn write_plain_places(
     out_elements: &mut [u8],
     at: usize,
 ) -> usize
-    requires column { ⌜ Source (now values) (from estart (now elements)) a n ⌝ }
+    requires column { ⌜ ReadableElems values elements estart a n ⌝ }
     requires places { ⌜ Walks start stride count n ⌝ }
-    requires room { ⌜ Place (sliced (natAbs start) stride (natAbs count) (tab (elemAt (now values) (from estart (now elements))) a n)) at (length (now «out_values»)) (length (now «out_elements»)) ⌝ }
+    requires room { ⌜ RoomForElems (sliced (natAbs start) stride (natAbs count) (heldElems values elements estart a n)) at «out_values» «out_elements» ⌝ }
     requires plain { ⌜ length (now elements) ≡ 0 ⌝ }
-    ensures { λ r. ⌜ Written (sliced (natAbs start) stride (natAbs count) (tab (elemAt (now (values .entry)) (from estart (now (elements .entry)))) a n)) at (now («out_values» .entry)) (now («out_values» .exit)) (now («out_elements» .entry)) (now («out_elements» .exit)) r ⌝ }
+    ensures { λ r. ⌜ Writes (sliced (natAbs start) stride (natAbs count) (lentElems values elements estart a n)) at «out_values» «out_elements» r ⌝ }
 {
     copy_places(values, a, n, start, stride, count, out_values, at);
     let many = to_usize(count);
@@ -136,10 +137,10 @@ fn write_places(
     out_elements: &mut [u8],
     at: usize,
 ) -> usize
-    requires column { ⌜ Source (now values) (from estart (now elements)) a n ⌝ }
+    requires column { ⌜ ReadableElems values elements estart a n ⌝ }
     requires places { ⌜ Walks start stride count n ⌝ }
-    requires room { ⌜ Place (sliced (natAbs start) stride (natAbs count) (tab (elemAt (now values) (from estart (now elements))) a n)) at (length (now «out_values»)) (length (now «out_elements»)) ⌝ }
-    ensures { λ r. ⌜ Written (sliced (natAbs start) stride (natAbs count) (tab (elemAt (now (values .entry)) (from estart (now (elements .entry)))) a n)) at (now («out_values» .entry)) (now («out_values» .exit)) (now («out_elements» .entry)) (now («out_elements» .exit)) r ⌝ }
+    requires room { ⌜ RoomForElems (sliced (natAbs start) stride (natAbs count) (heldElems values elements estart a n)) at «out_values» «out_elements» ⌝ }
+    ensures { λ r. ⌜ Writes (sliced (natAbs start) stride (natAbs count) (lentElems values elements estart a n)) at «out_values» «out_elements» r ⌝ }
 {
     if elements.len() == 0 {
         return write_plain_places(
@@ -185,10 +186,10 @@ pub fn write_strided(
     out_elements: &mut [u8],
     at: usize,
 ) -> usize
-    requires column { ⌜ Source (now values) (from estart (now elements)) a n ⌝ }
+    requires column { ⌜ ReadableElems values elements estart a n ⌝ }
     requires places { ⌜ Walks start stride count n ⌝ }
-    requires room { ⌜ Place (sliced (natAbs start) stride (natAbs count) (tab (elemAt (now values) (from estart (now elements))) a n)) at (length (now «out_values»)) (length (now «out_elements»)) ⌝ }
-    ensures { λ r. ⌜ Written (sliced (natAbs start) stride (natAbs count) (tab (elemAt (now (values .entry)) (from estart (now (elements .entry)))) a n)) at (now («out_values» .entry)) (now («out_values» .exit)) (now («out_elements» .entry)) (now («out_elements» .exit)) r ⌝ }
+    requires room { ⌜ RoomForElems (sliced (natAbs start) stride (natAbs count) (heldElems values elements estart a n)) at «out_values» «out_elements» ⌝ }
+    ensures { λ r. ⌜ Writes (sliced (natAbs start) stride (natAbs count) (lentElems values elements estart a n)) at «out_values» «out_elements» r ⌝ }
 {
     if stride != 1 {
         return write_places(

@@ -4,17 +4,16 @@ use crate::Cell;
 use column::elements;
 ghost use Prim.Native.Nat.{_+_, _-_, _/_, _<_, _≤_};
 ghost use Rattle.bitmap.specs.Push.{Covers, pushBit};
-ghost use Rattle.column.specs.Put.{Place, Source, Written};
-ghost use Rattle.model.specs.Basics.{tab};
-ghost use Rattle.model.specs.Bitmap.{from};
-ghost use Rattle.model.specs.Column.{count, elemAt};
+ghost use Rattle.column.specs.Outputs.{ReadableElems, RoomForElems, Writes};
+ghost use Rattle.model.specs.Column.{count};
 ghost use Rattle.model.specs.Elements.{eqZ, sameElem};
+ghost use Rattle.model.specs.Form.{isVal, valueOf};
+ghost use Rattle.model.specs.Held.{heldBits, heldElems, lentElem, lentElems};
+ghost use Rattle.rows.specs.Cells.{elemOf};
+ghost use Rattle.rows.specs.Found.{Before};
 ghost use lib.IntN.{pos};
 ghost use lib.ListN.{getD, length, set};
 ghost use mathlib.Core.Path.{_≡_};
-ghost use Rattle.model.specs.Form.{isVal, valueOf};
-ghost use Rattle.rows.specs.Cells.{elemOf};
-ghost use Rattle.rows.specs.Found.{Before};
 
 // Writes the n elements from element a on, one after the other, from place at of the result on; gives the next place.
 fn write_each(
@@ -27,9 +26,9 @@ fn write_each(
     out_elements: &mut [u8],
     at: usize,
 ) -> usize
-    requires column { ⌜ Source (now values) (from estart (now elements)) a n ⌝ }
-    requires room { ⌜ Place (tab (elemAt (now values) (from estart (now elements))) a n) at (length (now «out_values»)) (length (now «out_elements»)) ⌝ }
-    ensures { λ r. ⌜ Written (tab (elemAt (now (values .entry)) (from estart (now (elements .entry)))) a n) at (now («out_values» .entry)) (now («out_values» .exit)) (now («out_elements» .entry)) (now («out_elements» .exit)) r ⌝ }
+    requires column { ⌜ ReadableElems values elements estart a n ⌝ }
+    requires room { ⌜ RoomForElems (heldElems values elements estart a n) at «out_values» «out_elements» ⌝ }
+    ensures { λ r. ⌜ Writes (lentElems values elements estart a n) at «out_values» «out_elements» r ⌝ }
 {
     let mut p = a;
     let mut left = n;
@@ -54,9 +53,9 @@ pub fn write_forward(
     out_elements: &mut [u8],
     at: usize,
 ) -> usize
-    requires column { ⌜ Source (now values) (from estart (now elements)) a n ⌝ }
-    requires room { ⌜ Place (tab (elemAt (now values) (from estart (now elements))) a n) at (length (now «out_values»)) (length (now «out_elements»)) ⌝ }
-    ensures { λ r. ⌜ Written (tab (elemAt (now (values .entry)) (from estart (now (elements .entry)))) a n) at (now («out_values» .entry)) (now («out_values» .exit)) (now («out_elements» .entry)) (now («out_elements» .exit)) r ⌝ }
+    requires column { ⌜ ReadableElems values elements estart a n ⌝ }
+    requires room { ⌜ RoomForElems (heldElems values elements estart a n) at «out_values» «out_elements» ⌝ }
+    ensures { λ r. ⌜ Writes (lentElems values elements estart a n) at «out_values» «out_elements» r ⌝ }
 {
     if elements.len() == 0 {
         return runs::write_forward(values, elements, estart, a, n, out_values, out_elements, at);
@@ -83,8 +82,8 @@ pub(crate) fn compare_element_to_list(
     cell: Cell,
 ) -> bool
     requires { ⌜ i < length (now values) ⌝ }
-    requires { ⌜ Covers (from estart (now elements)) (length (now values)) ⌝ }
-    ensures { λ r. ⌜ r ≡ sameElem (elemAt (now (values .entry)) (from estart (now (elements .entry))) i) (elemOf cell) ⌝ }
+    requires { ⌜ Covers (heldBits elements estart) (length (now values)) ⌝ }
+    ensures { λ r. ⌜ r ≡ sameElem (lentElem values elements estart i) (elemOf cell) ⌝ }
 {
     let valid = bitmap::is_valid(elements, estart, i, values.len());
     match cell {
@@ -122,8 +121,8 @@ fn before_each(
     n: usize,
     cell: Cell,
 ) -> usize
-    requires column { ⌜ Source (now values) (from estart (now elements)) a n ⌝ }
-    ensures { λ r. ⌜ Before (λ i. sameElem (elemAt (now (values .entry)) (from estart (now (elements .entry))) (a + i)) (elemOf cell)) n r ⌝ }
+    requires column { ⌜ ReadableElems values elements estart a n ⌝ }
+    ensures { λ r. ⌜ Before (λ i. sameElem (lentElem values elements estart (a + i)) (elemOf cell)) n r ⌝ }
 {
     let mut r: usize = 0;
     while r < n {
@@ -144,8 +143,8 @@ pub(crate) fn before_match(
     n: usize,
     cell: Cell,
 ) -> usize
-    requires column { ⌜ Source (now values) (from estart (now elements)) a n ⌝ }
-    ensures { λ r. ⌜ Before (λ i. sameElem (elemAt (now (values .entry)) (from estart (now (elements .entry))) (a + i)) (elemOf cell)) n r ⌝ }
+    requires column { ⌜ ReadableElems values elements estart a n ⌝ }
+    ensures { λ r. ⌜ Before (λ i. sameElem (lentElem values elements estart (a + i)) (elemOf cell)) n r ⌝ }
 {
     if 0 < elements.len() {
         return before_each(values, elements, estart, a, n, cell);

@@ -2,10 +2,11 @@
 use column::elements;
 ghost use Prim.Native.Nat.{_%_, _*_, _+_, _-_, _/_, _<_, _^_, _≤_};
 ghost use Rattle.bitmap.specs.Push.{pushBits};
-ghost use Rattle.column.specs.Put.{Place, Source, Written};
+ghost use Rattle.column.specs.Outputs.{ReadableElems, RoomForElems, Writes};
 ghost use Rattle.model.specs.Basics.{pick, tab};
-ghost use Rattle.model.specs.Bitmap.{bytesFor, from};
-ghost use Rattle.model.specs.Column.{elemAt, nul, val};
+ghost use Rattle.model.specs.Bitmap.{bytesFor};
+ghost use Rattle.model.specs.Column.{nul, val};
+ghost use Rattle.model.specs.Held.{heldElems, lentElems};
 ghost use lib.IntN.{pos};
 ghost use lib.ListN.{getD, length, replicate};
 ghost use lib.Seq.{sets};
@@ -165,10 +166,10 @@ pub fn write_forward(
     out_elements: &mut [u8],
     at: usize,
 ) -> usize
-    requires column { ⌜ Source (now values) (from estart (now elements)) a n ⌝ }
-    requires room { ⌜ Place (tab (elemAt (now values) (from estart (now elements))) a n) at (length (now «out_values»)) (length (now «out_elements»)) ⌝ }
+    requires column { ⌜ ReadableElems values elements estart a n ⌝ }
+    requires room { ⌜ RoomForElems (heldElems values elements estart a n) at «out_values» «out_elements» ⌝ }
     requires plain { ⌜ length (now elements) ≡ 0 ⌝ }
-    ensures { λ r. ⌜ Written (tab (elemAt (now (values .entry)) (from estart (now (elements .entry)))) a n) at (now («out_values» .entry)) (now («out_values» .exit)) (now («out_elements» .entry)) (now («out_elements» .exit)) r ⌝ }
+    ensures { λ r. ⌜ Writes (lentElems values elements estart a n) at «out_values» «out_elements» r ⌝ }
 {
     copy_values(values, a, n, out_values, at);
     push_same(out_elements, at, n, true);
@@ -186,10 +187,10 @@ pub fn write_backward(
     out_elements: &mut [u8],
     at: usize,
 ) -> usize
-    requires column { ⌜ Source (now values) (from estart (now elements)) a n ⌝ }
-    requires room { ⌜ Place (reverse (tab (elemAt (now values) (from estart (now elements))) a n)) at (length (now «out_values»)) (length (now «out_elements»)) ⌝ }
+    requires column { ⌜ ReadableElems values elements estart a n ⌝ }
+    requires room { ⌜ RoomForElems (reverse (heldElems values elements estart a n)) at «out_values» «out_elements» ⌝ }
     requires plain { ⌜ length (now elements) ≡ 0 ⌝ }
-    ensures { λ r. ⌜ Written (reverse (tab (elemAt (now (values .entry)) (from estart (now (elements .entry)))) a n)) at (now («out_values» .entry)) (now («out_values» .exit)) (now («out_elements» .entry)) (now («out_elements» .exit)) r ⌝ }
+    ensures { λ r. ⌜ Writes (reverse (lentElems values elements estart a n)) at «out_values» «out_elements» r ⌝ }
 {
     copy_backward(values, a, n, out_values, at);
     push_same(out_elements, at, n, true);
@@ -204,8 +205,8 @@ pub fn write_value(
     out_elements: &mut [u8],
     at: usize,
 ) -> usize
-    requires room { ⌜ Place (replicate n (val v)) at (length (now «out_values»)) (length (now «out_elements»)) ⌝ }
-    ensures { λ r. ⌜ Written (replicate n (val v)) at (now («out_values» .entry)) (now («out_values» .exit)) (now («out_elements» .entry)) (now («out_elements» .exit)) r ⌝ }
+    requires room { ⌜ RoomForElems (replicate n (val v)) at «out_values» «out_elements» ⌝ }
+    ensures { λ r. ⌜ Writes (replicate n (val v)) at «out_values» «out_elements» r ⌝ }
 {
     fill_values(v, n, out_values, at);
     push_same(out_elements, at, n, true);
@@ -214,8 +215,8 @@ pub fn write_value(
 
 // Writes n nulls; gives the next place.
 pub fn write_null(n: usize, out_values: &mut [i64], out_elements: &mut [u8], at: usize) -> usize
-    requires room { ⌜ Place (replicate n nul) at (length (now «out_values»)) (length (now «out_elements»)) ⌝ }
-    ensures { λ r. ⌜ Written (replicate n nul) at (now («out_values» .entry)) (now («out_values» .exit)) (now («out_elements» .entry)) (now («out_elements» .exit)) r ⌝ }
+    requires room { ⌜ RoomForElems (replicate n nul) at «out_values» «out_elements» ⌝ }
+    ensures { λ r. ⌜ Writes (replicate n nul) at «out_values» «out_elements» r ⌝ }
 {
     fill_values(elements::UNDER_NULL, n, out_values, at);
     push_same(out_elements, at, n, false);

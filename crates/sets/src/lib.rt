@@ -8,13 +8,15 @@ use model::SetOp;
 use pairs::set_ops;
 ghost use Prim.Native.Nat.{_<_, _≤_};
 ghost use Rattle.bitmap.specs.Push.{Covers};
-ghost use Rattle.column.specs.Put.{HasRoom, Holds, Readable};
-ghost use Rattle.column.specs.Rows.{Between, PutsRow, RoomFor, rowFrom};
-ghost use Rattle.model.specs.Bitmap.{from, validAt};
-ghost use Rattle.model.specs.Column.{column, elemAt, rowCount, rowsOf};
-ghost use Rattle.model.specs.Contract.{ListMeets, room};
+ghost use Rattle.column.specs.Outputs.{Fills, ReadableRow, RoomForRow, RoomIn, WritesRow};
+ghost use Rattle.column.specs.Put.{Readable};
+ghost use Rattle.column.specs.Rows.{rowFrom};
+ghost use Rattle.model.specs.Bitmap.{validAt};
+ghost use Rattle.model.specs.Column.{rowCount, rowsOf};
+ghost use Rattle.model.specs.Contract.{ListAnswers};
 ghost use Rattle.model.specs.Elements.{setElems};
 ghost use Rattle.model.specs.Form.{elemsOf, flat};
+ghost use Rattle.model.specs.Held.{held, heldBits, heldElem, lentBits, lentElem, lentFrom};
 ghost use Rattle.model.specs.Limits.{narrow};
 ghost use Rattle.model.specs.Outcome.{afterThree, columnsRefusal, listOutcome};
 ghost use Rattle.model.specs.Refusals.{unionRefusal};
@@ -44,7 +46,7 @@ pub fn lists_refusal(
     requires { ⌜ lestart < 8 ⌝ }
     requires { ⌜ rrstart < 8 ⌝ }
     requires { ⌜ restart < 8 ⌝ }
-    ensures { λ k. ⌜ k ≡ columnsRefusal (column (now (loffsets .entry)) (from lrstart (now (lrows .entry))) (now (lvalues .entry)) (from lestart (now (lelements .entry))) ∷ column (now (roffsets .entry)) (from rrstart (now (rrows .entry))) (now (rvalues .entry)) (from restart (now (relements .entry))) ∷ []) [] ⌝ }
+    ensures { λ k. ⌜ k ≡ columnsRefusal (lentFrom loffsets lrows lrstart lvalues lelements lestart ∷ lentFrom roffsets rrows rrstart rvalues relements restart ∷ []) [] ⌝ }
 {
     let left = checks::list_refusal(loffsets, lrows, lrstart, lvalues, lelements, lestart);
     if left == 1 {
@@ -62,10 +64,10 @@ pub fn lists_refusal(
 
 // Whether row r of n is valid in both lists.
 fn are_valid(lrows: &[u8], lrstart: usize, rrows: &[u8], rrstart: usize, n: usize, r: usize) -> bool
-    requires left { ⌜ Covers (from lrstart (now lrows)) n ⌝ }
-    requires right { ⌜ Covers (from rrstart (now rrows)) n ⌝ }
+    requires left { ⌜ Covers (heldBits lrows lrstart) n ⌝ }
+    requires right { ⌜ Covers (heldBits rrows rrstart) n ⌝ }
     requires there { ⌜ r < n ⌝ }
-    ensures { λ v. ⌜ v ≡ validAt (from lrstart (now (lrows .entry))) r && validAt (from rrstart (now (rrows .entry))) r ⌝ }
+    ensures { λ v. ⌜ v ≡ validAt (lentBits lrows lrstart) r && validAt (lentBits rrows rrstart) r ⌝ }
 {
     if bitmap::is_valid(lrows, lrstart, r, n) {
         return bitmap::is_valid(rrows, rrstart, r, n);
@@ -93,11 +95,11 @@ fn measure_pair<'a>(
     n: usize,
     r: usize,
 ) -> usize
-    requires left { ⌜ Between (from lrstart (now lrows)) n (now lvalues) (from lestart (now lelements)) r a b ⌝ }
-    requires right { ⌜ Between (from rrstart (now rrows)) n (now rvalues) (from restart (now relements)) r c d ⌝ }
+    requires left { ⌜ ReadableRow lrows lrstart n lvalues lelements lestart r a b ⌝ }
+    requires right { ⌜ ReadableRow rrows rrstart n rvalues relements restart r c d ⌝ }
     requires small { ⌜ b ≤ narrow .offset ⌝ }
     requires low { ⌜ d ≤ narrow .offset ⌝ }
-    ensures { λ k. ⌜ k ≡ length (elemsOf (onRows (setElems op) (rowFrom (from lrstart (now (lrows .entry))) (elemAt (now (lvalues .entry)) (from lestart (now (lelements .entry)))) r a b) (rowFrom (from rrstart (now (rrows .entry))) (elemAt (now (rvalues .entry)) (from restart (now (relements .entry)))) r c d))) ⌝ }
+    ensures { λ k. ⌜ k ≡ length (elemsOf (onRows (setElems op) (rowFrom (lentBits lrows lrstart) (lentElem lvalues lelements lestart) r a b) (rowFrom (lentBits rrows rrstart) (lentElem rvalues relements restart) r c d))) ⌝ }
 {
     if !are_valid(lrows, lrstart, rrows, rrstart, n, r) {
         return 0;
@@ -141,10 +143,10 @@ fn put_pair<'a>(
     out_elements: &mut [u8],
     at: usize,
 ) -> usize
-    requires left { ⌜ Between (from lrstart (now lrows)) n (now lvalues) (from lestart (now lelements)) r a b ⌝ }
-    requires right { ⌜ Between (from rrstart (now rrows)) n (now rvalues) (from restart (now relements)) r c d ⌝ }
-    requires room { ⌜ RoomFor (onRows (setElems op) (rowFrom (from lrstart (now lrows)) (elemAt (now lvalues) (from lestart (now lelements))) r a b) (rowFrom (from rrstart (now rrows)) (elemAt (now rvalues) (from restart (now relements))) r c d)) r at (length (now «out_rows»)) (length (now «out_values»)) (length (now «out_elements»)) ⌝ }
-    ensures { λ k. ⌜ PutsRow (onRows (setElems op) (rowFrom (from lrstart (now (lrows .entry))) (elemAt (now (lvalues .entry)) (from lestart (now (lelements .entry)))) r a b) (rowFrom (from rrstart (now (rrows .entry))) (elemAt (now (rvalues .entry)) (from restart (now (relements .entry)))) r c d)) r at (now («out_rows» .entry)) (now («out_rows» .exit)) (now («out_values» .entry)) (now («out_values» .exit)) (now («out_elements» .entry)) (now («out_elements» .exit)) k ⌝ }
+    requires left { ⌜ ReadableRow lrows lrstart n lvalues lelements lestart r a b ⌝ }
+    requires right { ⌜ ReadableRow rrows rrstart n rvalues relements restart r c d ⌝ }
+    requires room { ⌜ RoomForRow (onRows (setElems op) (rowFrom (heldBits lrows lrstart) (heldElem lvalues lelements lestart) r a b) (rowFrom (heldBits rrows rrstart) (heldElem rvalues relements restart) r c d)) r at «out_rows» «out_values» «out_elements» ⌝ }
+    ensures { λ k. ⌜ WritesRow (onRows (setElems op) (rowFrom (lentBits lrows lrstart) (lentElem lvalues lelements lestart) r a b) (rowFrom (lentBits rrows rrstart) (lentElem rvalues relements restart) r c d)) r at «out_rows» «out_values» «out_elements» k ⌝ }
 {
     if !are_valid(lrows, lrstart, rrows, rrstart, n, r) {
         bitmap::push_bit(out_rows, r, false);
@@ -186,10 +188,10 @@ fn measure_pairs<'a>(
     relements: &[u8],
     restart: usize,
 ) -> usize
-    requires left { ⌜ Readable (column (now loffsets) (from lrstart (now lrows)) (now lvalues) (from lestart (now lelements))) ⌝ }
-    requires right { ⌜ Readable (column (now roffsets) (from rrstart (now rrows)) (now rvalues) (from restart (now relements))) ⌝ }
+    requires left { ⌜ Readable (held loffsets lrows lrstart lvalues lelements lestart) ⌝ }
+    requires right { ⌜ Readable (held roffsets rrows rrstart rvalues relements restart) ⌝ }
     requires equal { ⌜ rowCount (now roffsets) ≡ rowCount (now loffsets) ⌝ }
-    ensures { λ m. ⌜ m ≡ length (flat (pairRows op (column (now (loffsets .entry)) (from lrstart (now (lrows .entry))) (now (lvalues .entry)) (from lestart (now (lelements .entry)))) (column (now (roffsets .entry)) (from rrstart (now (rrows .entry))) (now (rvalues .entry)) (from restart (now (relements .entry)))))) ⌝ }
+    ensures { λ m. ⌜ m ≡ length (flat (pairRows op (lentFrom loffsets lrows lrstart lvalues lelements lestart) (lentFrom roffsets rrows rrstart rvalues relements restart))) ⌝ }
     ensures { λ m. ⌜ m ≤ boundOf op (narrow .offset) (narrow .offset) ⌝ }
 {
     let n = offsets::row_count(loffsets);
@@ -247,12 +249,12 @@ fn write_pairs<'a>(
     out_values: &mut [i64],
     out_elements: &mut [u8],
 )
-    requires left { ⌜ Readable (column (now loffsets) (from lrstart (now lrows)) (now lvalues) (from lestart (now lelements))) ⌝ }
-    requires right { ⌜ Readable (column (now roffsets) (from rrstart (now rrows)) (now rvalues) (from restart (now relements))) ⌝ }
+    requires left { ⌜ Readable (held loffsets lrows lrstart lvalues lelements lestart) ⌝ }
+    requires right { ⌜ Readable (held roffsets rrows rrstart rvalues relements restart) ⌝ }
     requires equal { ⌜ rowCount (now roffsets) ≡ rowCount (now loffsets) ⌝ }
-    requires small { ⌜ length (flat (pairRows op (column (now loffsets) (from lrstart (now lrows)) (now lvalues) (from lestart (now lelements))) (column (now roffsets) (from rrstart (now rrows)) (now rvalues) (from restart (now relements))))) ≤ narrow .offset ⌝ }
-    requires room { ⌜ HasRoom (rowCount (now loffsets)) (length (flat (pairRows op (column (now loffsets) (from lrstart (now lrows)) (now lvalues) (from lestart (now lelements))) (column (now roffsets) (from rrstart (now rrows)) (now rvalues) (from restart (now relements)))))) (length (now «out_offsets»)) (length (now «out_rows»)) (length (now «out_values»)) (length (now «out_elements»)) ⌝ }
-    ensures { λ _. ⌜ Holds (pairRows op (column (now (loffsets .entry)) (from lrstart (now (lrows .entry))) (now (lvalues .entry)) (from lestart (now (lelements .entry)))) (column (now (roffsets .entry)) (from rrstart (now (rrows .entry))) (now (rvalues .entry)) (from restart (now (relements .entry))))) (now («out_offsets» .entry)) (now («out_offsets» .exit)) (now («out_rows» .entry)) (now («out_rows» .exit)) (now («out_values» .entry)) (now («out_values» .exit)) (now («out_elements» .entry)) (now («out_elements» .exit)) ⌝ }
+    requires small { ⌜ length (flat (pairRows op (held loffsets lrows lrstart lvalues lelements lestart) (held roffsets rrows rrstart rvalues relements restart))) ≤ narrow .offset ⌝ }
+    requires room { ⌜ RoomIn (rowCount (now loffsets)) (length (flat (pairRows op (held loffsets lrows lrstart lvalues lelements lestart) (held roffsets rrows rrstart rvalues relements restart)))) «out_offsets» «out_rows» «out_values» «out_elements» ⌝ }
+    ensures { λ _. ⌜ Fills (pairRows op (lentFrom loffsets lrows lrstart lvalues lelements lestart) (lentFrom roffsets rrows rrstart rvalues relements restart)) «out_offsets» «out_rows» «out_values» «out_elements» ⌝ }
 {
     let n = offsets::row_count(loffsets);
     offsets::put_offset(out_offsets, 0, 0);
@@ -328,10 +330,10 @@ pub fn after_three<'a>(
     out_values: &mut [i64],
     out_elements: &mut [u8],
 ) -> ListAnswer
-    requires left { ⌜ Readable (column (now loffsets) (from lrstart (now lrows)) (now lvalues) (from lestart (now lelements))) ⌝ }
-    requires right { ⌜ Readable (column (now roffsets) (from rrstart (now rrows)) (now rvalues) (from restart (now relements))) ⌝ }
+    requires left { ⌜ Readable (held loffsets lrows lrstart lvalues lelements lestart) ⌝ }
+    requires right { ⌜ Readable (held roffsets rrows rrstart rvalues relements restart) ⌝ }
     requires equal { ⌜ rowCount (now roffsets) ≡ rowCount (now loffsets) ⌝ }
-    ensures { λ k. ⌜ ListMeets (afterThree narrow (setOp op (rowsOf (column (now (loffsets .entry)) (from lrstart (now (lrows .entry))) (now (lvalues .entry)) (from lestart (now (lelements .entry))))) (rowsOf (column (now (roffsets .entry)) (from rrstart (now (rrows .entry))) (now (rvalues .entry)) (from restart (now (relements .entry)))))) (room (length (now («out_offsets» .entry))) (length (now («out_rows» .entry))) (length (now («out_values» .entry))) (length (now («out_elements» .entry))))) k (now («out_offsets» .entry)) (now («out_offsets» .exit)) (now («out_rows» .entry)) (now («out_rows» .exit)) (now («out_values» .entry)) (now («out_values» .exit)) (now («out_elements» .entry)) (now («out_elements» .exit)) ⌝ }
+    ensures { λ k. ⌜ ListAnswers (afterThree narrow (setOp op (rowsOf (lentFrom loffsets lrows lrstart lvalues lelements lestart)) (rowsOf (lentFrom roffsets rrows rrstart rvalues relements restart)))) k «out_offsets» «out_rows» «out_values» «out_elements» ⌝ }
 {
     let n = offsets::row_count(loffsets);
     let m = measure_pairs(
@@ -409,7 +411,7 @@ pub fn run<'a>(
     requires { ⌜ lestart < 8 ⌝ }
     requires { ⌜ rrstart < 8 ⌝ }
     requires { ⌜ restart < 8 ⌝ }
-    ensures { λ k. ⌜ ListMeets (listOutcome narrow (setOp op (column (now (loffsets .entry)) (from lrstart (now (lrows .entry))) (now (lvalues .entry)) (from lestart (now (lelements .entry)))) (column (now (roffsets .entry)) (from rrstart (now (rrows .entry))) (now (rvalues .entry)) (from restart (now (relements .entry))))) (room (length (now («out_offsets» .entry))) (length (now («out_rows» .entry))) (length (now («out_values» .entry))) (length (now («out_elements» .entry))))) k (now («out_offsets» .entry)) (now («out_offsets» .exit)) (now («out_rows» .entry)) (now («out_rows» .exit)) (now («out_values» .entry)) (now («out_values» .exit)) (now («out_elements» .entry)) (now («out_elements» .exit)) ⌝ }
+    ensures { λ k. ⌜ ListAnswers (listOutcome narrow (setOp op (lentFrom loffsets lrows lrstart lvalues lelements lestart) (lentFrom roffsets rrows rrstart rvalues relements restart))) k «out_offsets» «out_rows» «out_values» «out_elements» ⌝ }
 {
     let k = lists_refusal(
         loffsets,

@@ -98,6 +98,12 @@ module _ (s : Step) (ts : List Step) (ws rs : List Row) (es : List Elem) (a b o 
   unfolding carried thenOn
   chain-made t us ws′ e h = rw (e, h)
 
+  -- the steps after one that made rows, taken from the tray that shows them
+  pub chain-on : (t : Step) (us : List Step) {ws′ vs : List Row} {a′ : Room} {x : ListAnswer} {oo oo′ : List ℤ} {ro ro′ : List ℕ} {vo vo′ : List ℤ} {eo eo′ : List ℕ}
+      → ts ≡ t ∷ us → afterThree narrow (stepCall s ws rs es) a ≡ made ws′ → vs ≡ ws′ → a′ ≡ a
+      → ListMeets (carried narrow t us vs rs es b a′ o) x oo oo′ ro ro′ vo vo′ eo eo′ → ListMeets (carried narrow s ts ws rs es a b o) x oo oo′ ro ro′ vo vo′ eo eo′
+  chain-on t us {ws′} e h v r m = rw (chain-made t us ws′ e h) (rw (v, r) at m)
+
 -- ---- a step that made rows leaves a column at the front of its tray that shows them
 
 pub record Carried (o : Outcome (List Row)) (oo′ : List ℤ) (ro′ : List ℕ) (vo′ : List ℤ) (eo′ : List ℕ) (n m : ℕ) : Type 0 where

@@ -6,9 +6,11 @@ use mathlib.Core.List.{List, [], _∷_}
 use lib.Dec.{ltb}
 use lib.IntN.{ℤ}
 use lib.ListN.{length, take, getD}
+use denote.Ref.{now}
 use Rattle.model.specs.Basics.{pick}
 use Rattle.model.specs.Bitmap.{from, bytesFor}
 use Rattle.model.specs.Column.{Elem, Row, Column, column, Arguments, rowCount}
+use Rattle.model.specs.Contract.{Slice}
 use Rattle.model.specs.Recipe.{Step, stepAt}
 use Rattle.model.specs.Rows.{ListCall, setOp}
 use Rattle.bitmap.specs.Push.{Covers}
@@ -36,6 +38,10 @@ pub record Uses (op : ListOp) (n first second third len : ℕ) : Type 0 where
 -- the column at the front of a tray: n rows of m elements
 abbrev pub front : List ℤ → List ℕ → List ℤ → List ℕ → ℕ → ℕ → Column
 front o r v e n m = column (take (n + 1) o) (from 0 (take (bytesFor n) r)) (take m v) (from 0 (take (bytesFor m) e))
+
+-- of the slices of a tray as the call begins
+abbrev pub lentFront : Slice ℤ → Slice ℕ → Slice ℤ → Slice ℕ → ℕ → ℕ → Column
+lentFront o r v e n m = front (now (o .entry)) (now (r .entry)) (now (v .entry)) (now (e .entry)) n m
 
 pub record Held (n m : ℕ) (o : List ℤ) (r : List ℕ) (v : List ℤ) (e : List ℕ) : Type 0 where
   pub offsets : n + 1 ≤ length o

@@ -3,19 +3,19 @@ use codes::StepOp;
 use model::ListAnswer;
 use ops::ListOp;
 use pairs::set_ops;
-ghost use Prim.Native.Nat.{_+_, _-_, _<_, _≤_};
+ghost use Prim.Native.Nat.{_+_, _-_, _≤_};
 ghost use Rattle.bitmap.specs.Push.{Covers};
 ghost use Rattle.codes.specs.Codes.{step};
 ghost use Rattle.column.specs.Put.{Readable};
 ghost use Rattle.model.specs.Basics.{pick, tab};
-ghost use Rattle.model.specs.Bitmap.{from};
-ghost use Rattle.model.specs.Column.{arguments, column, rowCount, rowsOf, shownBy};
-ghost use Rattle.model.specs.Contract.{ListMeets, room};
+ghost use Rattle.model.specs.Column.{rowCount, rowsOf, shownBy};
+ghost use Rattle.model.specs.Contract.{ListAnswers, roomOf};
+ghost use Rattle.model.specs.Held.{held, heldArguments, heldBits, lentArgumentsFrom, lentFrom};
 ghost use Rattle.model.specs.Limits.{narrow};
 ghost use Rattle.model.specs.Outcome.{afterThree};
 ghost use Rattle.model.specs.Recipe.{carried, columnOf, stepAt, stepCall};
 ghost use Rattle.ops.specs.Ops.{callOf};
-ghost use Rattle.steps.specs.Steps.{Beside, Held, StepFits, Steps, Uses, front};
+ghost use Rattle.steps.specs.Steps.{Beside, Held, StepFits, Steps, Uses, lentFront};
 ghost use lib.ListN.{drop, length, take};
 ghost use mathlib.Core.Path.{_≡_};
 
@@ -51,11 +51,11 @@ fn one_list(
     out_values: &mut [i64],
     out_elements: &mut [u8],
 ) -> ListAnswer
-    requires column { ⌜ Readable (column (now offsets) (from rstart (now rows)) (now values) (from estart (now elements))) ⌝ }
+    requires column { ⌜ Readable (held offsets rows rstart values elements estart) ⌝ }
     requires rows { ⌜ rowCount (now offsets) ≡ n ⌝ }
-    requires bits { ⌜ Covers (from start (now bits)) (length (now args)) ⌝ }
+    requires bits { ⌜ Covers (heldBits bits start) (length (now args)) ⌝ }
     requires uses { ⌜ Uses op n first second third (length (now args)) ⌝ }
-    ensures { λ k. ⌜ ListMeets (afterThree narrow (callOf op (rowsOf (column (now (offsets .entry)) (from rstart (now (rows .entry))) (now (values .entry)) (from estart (now (elements .entry))))) (columnOf (shownBy (arguments (now (args .entry)) (from start (now (bits .entry))))) n first) (columnOf (shownBy (arguments (now (args .entry)) (from start (now (bits .entry))))) n second) (columnOf (shownBy (arguments (now (args .entry)) (from start (now (bits .entry))))) n third)) (room (length (now («out_offsets» .entry))) (length (now («out_rows» .entry))) (length (now («out_values» .entry))) (length (now («out_elements» .entry))))) k (now («out_offsets» .entry)) (now («out_offsets» .exit)) (now («out_rows» .entry)) (now («out_rows» .exit)) (now («out_values» .entry)) (now («out_values» .exit)) (now («out_elements» .entry)) (now («out_elements» .exit)) ⌝ }
+    ensures { λ k. ⌜ ListAnswers (afterThree narrow (callOf op (rowsOf (lentFrom offsets rows rstart values elements estart)) (columnOf (shownBy (lentArgumentsFrom args bits start)) n first) (columnOf (shownBy (lentArgumentsFrom args bits start)) n second) (columnOf (shownBy (lentArgumentsFrom args bits start)) n third))) k «out_offsets» «out_rows» «out_values» «out_elements» ⌝ }
 {
     let k = ops::takes(op);
     let a = first * n;
@@ -121,11 +121,11 @@ pub fn step<'a>(
     out_values: &mut [i64],
     out_elements: &mut [u8],
 ) -> ListAnswer
-    requires column { ⌜ Readable (column (now offsets) (from rstart (now rows)) (now values) (from estart (now elements))) ⌝ }
+    requires column { ⌜ Readable (held offsets rows rstart values elements estart) ⌝ }
     requires rows { ⌜ rowCount (now offsets) ≡ n ⌝ }
-    requires beside { ⌜ Beside n (column (now roffsets) (from rrstart (now rrows)) (now rvalues) (from restart (now relements))) (arguments (now args) (from start (now bits))) ⌝ }
+    requires beside { ⌜ Beside n (held roffsets rrows rrstart rvalues relements restart) (heldArguments args bits start) ⌝ }
     requires fits { ⌜ StepFits (step code first second third) n (length (now args)) ⌝ }
-    ensures { λ k. ⌜ ListMeets (afterThree narrow (stepCall (step code first second third) (rowsOf (column (now (offsets .entry)) (from rstart (now (rows .entry))) (now (values .entry)) (from estart (now (elements .entry))))) (rowsOf (column (now (roffsets .entry)) (from rrstart (now (rrows .entry))) (now (rvalues .entry)) (from restart (now (relements .entry))))) (shownBy (arguments (now (args .entry)) (from start (now (bits .entry)))))) (room (length (now («out_offsets» .entry))) (length (now («out_rows» .entry))) (length (now («out_values» .entry))) (length (now («out_elements» .entry))))) k (now («out_offsets» .entry)) (now («out_offsets» .exit)) (now («out_rows» .entry)) (now («out_rows» .exit)) (now («out_values» .entry)) (now («out_values» .exit)) (now («out_elements» .entry)) (now («out_elements» .exit)) ⌝ }
+    ensures { λ k. ⌜ ListAnswers (afterThree narrow (stepCall (step code first second third) (rowsOf (lentFrom offsets rows rstart values elements estart)) (rowsOf (lentFrom roffsets rrows rrstart rvalues relements restart)) (shownBy (lentArgumentsFrom args bits start)))) k «out_offsets» «out_rows» «out_values» «out_elements» ⌝ }
 {
     match codes::step_op(code) {
         StepOp::One(op) => one_list(
@@ -197,9 +197,9 @@ fn step_from<'a>(
     out_elements: &mut [u8],
 ) -> ListAnswer
     requires held { ⌜ Held n m (now «from_offsets») (now «from_rows») (now «from_values») (now «from_elements») ⌝ }
-    requires beside { ⌜ Beside n (column (now roffsets) (from rrstart (now rrows)) (now rvalues) (from restart (now relements))) (arguments (now args) (from start (now bits))) ⌝ }
+    requires beside { ⌜ Beside n (held roffsets rrows rrstart rvalues relements restart) (heldArguments args bits start) ⌝ }
     requires fits { ⌜ StepFits (step code first second third) n (length (now args)) ⌝ }
-    ensures { λ k. ⌜ ListMeets (afterThree narrow (stepCall (step code first second third) (rowsOf (front (now («from_offsets» .entry)) (now («from_rows» .entry)) (now («from_values» .entry)) (now («from_elements» .entry)) n m)) (rowsOf (column (now (roffsets .entry)) (from rrstart (now (rrows .entry))) (now (rvalues .entry)) (from restart (now (relements .entry))))) (shownBy (arguments (now (args .entry)) (from start (now (bits .entry)))))) (room (length (now («out_offsets» .entry))) (length (now («out_rows» .entry))) (length (now («out_values» .entry))) (length (now («out_elements» .entry))))) k (now («out_offsets» .entry)) (now («out_offsets» .exit)) (now («out_rows» .entry)) (now («out_rows» .exit)) (now («out_values» .entry)) (now («out_values» .exit)) (now («out_elements» .entry)) (now («out_elements» .exit)) ⌝ }
+    ensures { λ k. ⌜ ListAnswers (afterThree narrow (stepCall (step code first second third) (rowsOf (lentFront «from_offsets» «from_rows» «from_values» «from_elements» n m)) (rowsOf (lentFrom roffsets rrows rrstart rvalues relements restart)) (shownBy (lentArgumentsFrom args bits start)))) k «out_offsets» «out_rows» «out_values» «out_elements» ⌝ }
 {
     let no = n + 1;
     let nr = bitmap::bytes_for(n);
@@ -264,8 +264,8 @@ pub fn steps(
 ) -> ListAnswer
     requires steps { ⌜ Steps (now recipe) n (length (now args)) k left ⌝ }
     requires held { ⌜ Held n m (now «from_offsets») (now «from_rows») (now «from_values») (now «from_elements») ⌝ }
-    requires beside { ⌜ Beside n (column (now roffsets) (from rrstart (now rrows)) (now rvalues) (from restart (now relements))) (arguments (now args) (from start (now bits))) ⌝ }
-    ensures { λ a. ⌜ ListMeets (carried narrow (stepAt (now (recipe .entry)) k) (tab (stepAt (now (recipe .entry))) (k + 1) (left - 1)) (rowsOf (front (now («from_offsets» .entry)) (now («from_rows» .entry)) (now («from_values» .entry)) (now («from_elements» .entry)) n m)) (rowsOf (column (now (roffsets .entry)) (from rrstart (now (rrows .entry))) (now (rvalues .entry)) (from restart (now (relements .entry))))) (shownBy (arguments (now (args .entry)) (from start (now (bits .entry))))) (room (length (now («to_offsets» .entry))) (length (now («to_rows» .entry))) (length (now («to_values» .entry))) (length (now («to_elements» .entry)))) (room (length (now («from_offsets» .entry))) (length (now («from_rows» .entry))) (length (now («from_values» .entry))) (length (now («from_elements» .entry)))) (room (length (now («out_offsets» .entry))) (length (now («out_rows» .entry))) (length (now («out_values» .entry))) (length (now («out_elements» .entry))))) a (now («out_offsets» .entry)) (now («out_offsets» .exit)) (now («out_rows» .entry)) (now («out_rows» .exit)) (now («out_values» .entry)) (now («out_values» .exit)) (now («out_elements» .entry)) (now («out_elements» .exit)) ⌝ }
+    requires beside { ⌜ Beside n (held roffsets rrows rrstart rvalues relements restart) (heldArguments args bits start) ⌝ }
+    ensures { λ a. ⌜ ListAnswers (carried narrow (stepAt (now (recipe .entry)) k) (tab (stepAt (now (recipe .entry))) (k + 1) (left - 1)) (rowsOf (lentFront «from_offsets» «from_rows» «from_values» «from_elements» n m)) (rowsOf (lentFrom roffsets rrows rrstart rvalues relements restart)) (shownBy (lentArgumentsFrom args bits start)) (roomOf «to_offsets» «to_rows» «to_values» «to_elements») (roomOf «from_offsets» «from_rows» «from_values» «from_elements»)) a «out_offsets» «out_rows» «out_values» «out_elements» ⌝ }
 {
     let i = 4 * k;
     let code = recipe[i];

@@ -11,7 +11,7 @@ use Rattle.model.specs.Contract.{room}
 use Rattle.model.specs.Recipe.{stepAt}
 use Rattle.column.proofs.AnswerLaws.{list-refused}
 use Rattle.steps.specs.Steps.{front}
-use Rattle.steps.proofs.ChainLaws.{answer-refused, rows-kept, chain-last, chain-refused, chain-made, carries, front-rows, same-room, step-fits, none-left, more-left, next-steps}
+use Rattle.steps.proofs.ChainLaws.{answer-refused, rows-kept, chain-last, chain-refused, chain-on, carries, front-rows, same-room, step-fits, none-left, more-left, next-steps}
 use Prim.Native.Nat.{ℕ, _<_}
 use borrow.Fn.Kinds.{In}
 use borrow.Fn.PlainCycle.{Measures, is, falls, and}
@@ -465,7 +465,7 @@ steps-returns-3 t c =
     let w = c .before .before .before .before .before .before .before .before .before .before .before .before .before .before .before .before .before .before .before .before .before .before .before .before .before .before .before .before .before .before .before .before .before .before .before .before .before .before .before .before .step-from2 in
     let k = carries _ _ (a .n) _ _ _ _ (w .ensures) (c .before .before .before .before .before .before .before .before .before .before .before .before .before .before .before .before .before .before .before .before .before .before .before .before .before .before .before .before .before .before .before .before .answer2 .given .1) (λ ws e. rows-kept (stepAt (a .recipe .now) (a .k)) (rowsOf (front (a .from-offsets .now) (a .from-rows .now) (a .from-values .now) (a .from-elements .now) (a .n) (a .m))) (rowsOf (column (a .roffsets .now) (from (a .rrstart) (a .rrows .now)) (a .rvalues .now) (from (a .restart) (a .relements .now)))) (shownBy (arguments (a .args .now) (from (a .start) (a .bits .now)))) (room (length (a .to-offsets .now)) (length (a .to-rows .now)) (length (a .to-values .now)) (length (a .to-elements .now))) ws e ∙ front-rows he) in
     let l = same-room (w .kept .1 .1 .1 .1 .1 .1 .1 .1 .1 .1 .1 .1 .1 .1 .1 .1 .1 .1 .1 .0) (w .kept .1 .1 .1 .1 .1 .1 .1 .1 .1 .1 .1 .1 .1 .1 .1 .1 .1 .1 .1 .1 .0) (w .kept .1 .1 .1 .1 .1 .1 .1 .1 .1 .1 .1 .1 .1 .1 .1 .1 .1 .1 .1 .1 .1 .0) (w .kept .1 .1 .1 .1 .1 .1 .1 .1 .1 .1 .1 .1 .1 .1 .1 .1 .1 .1 .1 .1 .1 .1 .0) in
-    rw (chain-made (stepAt (a .recipe .now) (a .k)) (tab (stepAt (a .recipe .now)) (a .k + 1) (a .left - 1)) (rowsOf (front (a .from-offsets .now) (a .from-rows .now) (a .from-values .now) (a .from-elements .now) (a .n) (a .m))) (rowsOf (column (a .roffsets .now) (from (a .rrstart) (a .rrows .now)) (a .rvalues .now) (from (a .restart) (a .relements .now)))) (shownBy (arguments (a .args .now) (from (a .start) (a .bits .now)))) (room (length (a .to-offsets .now)) (length (a .to-rows .now)) (length (a .to-values .now)) (length (a .to-elements .now))) (room (length (a .from-offsets .now)) (length (a .from-rows .now)) (length (a .from-values .now)) (length (a .from-elements .now))) (room (length (a .out-offsets .now)) (length (a .out-rows .now)) (length (a .out-values .now)) (length (a .out-elements .now))) _ _ (k .rows) (more-left st (c .before .before .before .before .before .before .before .before .before .before .before .before .before .before .before .before .before .before .before .before .before .before .before .before .before .before .before .before .before .before .before .before .before .before .before .before .before .before .before .before .before .before .before .before .before .before .before .before .before .if1 .left)) (k .is)) (rw (k .shown, l) at (c .before .before .before .before .before .before .before .before .before .before .before .before .before .before .before .before .before .before .steps .ensures))
+    chain-on (stepAt (a .recipe .now) (a .k)) (tab (stepAt (a .recipe .now)) (a .k + 1) (a .left - 1)) (rowsOf (front (a .from-offsets .now) (a .from-rows .now) (a .from-values .now) (a .from-elements .now) (a .n) (a .m))) (rowsOf (column (a .roffsets .now) (from (a .rrstart) (a .rrows .now)) (a .rvalues .now) (from (a .restart) (a .relements .now)))) (shownBy (arguments (a .args .now) (from (a .start) (a .bits .now)))) (room (length (a .to-offsets .now)) (length (a .to-rows .now)) (length (a .to-values .now)) (length (a .to-elements .now))) (room (length (a .from-offsets .now)) (length (a .from-rows .now)) (length (a .from-values .now)) (length (a .from-elements .now))) (room (length (a .out-offsets .now)) (length (a .out-rows .now)) (length (a .out-values .now)) (length (a .out-elements .now))) _ _ (more-left st (c .before .before .before .before .before .before .before .before .before .before .before .before .before .before .before .before .before .before .before .before .before .before .before .before .before .before .before .before .before .before .before .before .before .before .before .before .before .before .before .before .before .before .before .before .before .before .before .before .before .if1 .left)) (k .is) (k .shown) l (c .before .before .before .before .before .before .before .before .before .before .before .before .before .before .before .before .before .before .steps .ensures)
 
 pub +steps-spec : {M : Type 1} → statement M
 +steps-spec = close μ-steps λ t. steps-lts.spec (

@@ -1,25 +1,25 @@
 use borrow.Author.Needs.{needs}
-use borrow.Author.Tests.{not-true, not-false}
 use mathlib.Core.Path.{_≡_, sym, ap, _∙_}
-use Prim.Native.Nat.{ℕ, _≤_}
+use Prim.Native.Nat.{ℕ}
 use native.Mathlib.Omega.{arith}
 use lib.ListN.{length}
 use Rattle.model.specs.Basics.{tab}
-use Rattle.model.specs.Bitmap.{Bits, from, bytesFor}
+use Rattle.model.specs.Bitmap.{Bits, from}
 use Rattle.model.specs.Column.{Column, column, Arguments, arguments, rowsOf, shownBy, rowCount}
 use Rattle.model.specs.Contract.{valueRoom}
-use Rattle.model.specs.Form.{ValueRoom, fitsValues}
+use Rattle.model.specs.Form.{ValueRoom}
 use Rattle.model.specs.Limits.{narrow}
 use Rattle.model.specs.Outcome.{elementOutcome, elementShown, fittedValues, gate}
 use Rattle.model.specs.Refusals.{firstOf}
 use Rattle.model.proofs.OutcomeLaws.{gate-open, gate-shut}
 use Rattle.bitmap.specs.Push.{Covers}
 use Rattle.column.specs.Put.{Readable}
-use Rattle.column.proofs.AnswerLaws.{value-refused, value-made, has-value-room, same-value-fit, values-made, values-short}
+use Rattle.column.proofs.AnswerLaws.{value-refused}
 use Rattle.column.proofs.WalkLaws.{readable}
-use Rattle.lists.specs.Made.{elementsOf}
+use Rattle.values.specs.Values.{valuesMade, Indexed}
+use Rattle.values.specs.declared.ValueOp.the-variants as V′
 use Rattle.rows.specs.Found.{fourAt}
-use Rattle.lists.proofs.ValueLaws.{element-early, element-two, element-shown, element-three, element-goes, length-elements}
+use Rattle.lists.proofs.ValueLaws.{element-early, element-two, element-shown, element-three, element-goes}
 use Rattle.lists.proofs.extract.general_array_element.Statement.{statement}
 use Rattle.lists.proofs.extract.general_array_element.Tie as tie
 
@@ -60,27 +60,15 @@ counted : (e : tie.Else3) → length (A (S₃ e) .values) ≡ rowCount (C (S₃ 
 counted e = e .if3 .left ∙ e .before .row-count .ensures
 
 -- the call, once none of 1, 2 and 3 applies
-goes : (e : tie.Else3) → let s = S₃ e in elementOutcome narrow (C s) (A s) (L s) ≡ gate (firstOf (tab (fourAt (C s .rows) (A s .values) (A s .bits)) 0 (rowCount (C s .offsets)))) (fittedValues (elementsOf (C s) (A s)) (L s))
+goes : (e : tie.Else3) → let s = S₃ e in elementOutcome narrow (C s) (A s) (L s) ≡ gate (firstOf (tab (fourAt (C s .rows) (A s .values) (A s .bits)) 0 (rowCount (C s .offsets)))) (fittedValues (valuesMade V′.Element (C s) (A s)) (L s))
 goes e = let s = S₃ e in shows (e .before .before) ∙ element-goes (C s) (A s) (L s) (counted e)
 
 fours : (k : tie.After-index-refusal) → let s = S₃ (k .before) in k .index-refusal .result ≡ firstOf (tab (fourAt (C s .rows) (A s .values) (A s .bits)) 0 (rowCount (C s .offsets)))
 fours k = let s = S₃ (k .before) in k .index-refusal .ensures ∙ ap (λ (n : ℕ). firstOf (tab (fourAt (C s .rows) (A s .values) (A s .bits)) 0 n)) (k .before .before .row-count .ensures)
 
 -- and once 4 does not
-makes : (e : tie.Else4) → let s = S₃ (e .before .before) in elementOutcome narrow (C s) (A s) (L s) ≡ fittedValues (elementsOf (C s) (A s)) (L s)
+makes : (e : tie.Else4) → let s = S₃ (e .before .before) in elementOutcome narrow (C s) (A s) (L s) ≡ fittedValues (valuesMade V′.Element (C s) (A s)) (L s)
 makes e = goes (e .before .before) ∙ gate-open _ _ (sym (fours (e .before)) ∙ e .if4 .left)
-
-abbrev F : tie.After-has-value-room → tie.Else3
-F h = h .before .before .before
-
-rows-are : (h : tie.After-has-value-room) → let s = S₃ (F h) in F h .before .row-count .result ≡ length (elementsOf (C s) (A s))
-rows-are h = let s = S₃ (F h) in F h .before .row-count .ensures ∙ sym (length-elements (C s) (A s))
-
-room-is : (h : tie.After-has-value-room) → let s = S₃ (F h) in h .has-value-room .result ≡ fitsValues (length (elementsOf (C s) (A s))) (L s)
-room-is h = h .has-value-room .ensures ∙ same-value-fit (L (S₃ (F h))) (rows-are h)
-
-roomy : (e : tie.Else5) → let s = S₃ (F (e .before)) in let n = length (elementsOf (C s) (A s)) in (n ≤ length (s .args .out-values .now)) × (bytesFor n ≤ length (s .args .out-rows .now))
-roomy e = has-value-room _ _ _ (sym (room-is (e .before)) ∙ not-false _ (e .if5 .left))
 
 list-refusal-requires : tie.Need-list-refusal-requires
 list-refusal-requires c κs = search needs
@@ -115,27 +103,11 @@ returns-4 c =
     let k = c .before in
     value-refused _ (goes (k .before) ∙ rw (← fours k) (gate-shut _ _ (c .if4 .taken)))
 
-has-value-room-requires : tie.Need-has-value-room-requires
-has-value-room-requires c κs = search needs
-
-returns-5 : tie.Need-returns-5
-returns-5 c =
-    let h = c .before in
-    let s = S₃ (F h) in
-    value-refused 9 (makes (c .before .before) ∙ values-short (elementsOf (C s) (A s)) (L s) (sym (room-is h) ∙ not-true _ (c .if5 .taken)))
-
-write-elements-requires : tie.Need-write-elements-requires
-write-elements-requires c κs =
-    let e = c .before .before in
-    let g = c .before .before .before .before .before .before in
-    let s = S₃ g in
-    let n = length-elements (C s) (A s) in
-    (list-formed (c .before .before .before .before .before .before .before .before .before .before), (bits-formed (c .before .before .before .before .before .before .before .before), (counted g, (omega (arith, roomy e .0), omega (arith, roomy e .1)))))
-
-value-answer-requires : tie.Need-value-answer-requires
-value-answer-requires c κs =
-    let e = c .before .before .before .before .before .before .before in
-    omega (arith, roomy e .1, rows-are (e .before), c .before .before .before .before .write-elements .kept .1 .1 .1 .1 .1 .1 .1 .1 .1 .1 .0)
+write-fitting-requires : tie.Need-write-fitting-requires
+unfolding Indexed
+write-fitting-requires c κs =
+    let g = c .before .before .before .before in
+    (list-formed (g .before .before .before .before), record { many = counted g; bits = by-count (sym (counted g)) (bits-formed (g .before .before)) })
 
 same-length : tie.Need-same-length
 same-length c = search needs
@@ -143,13 +115,8 @@ same-length c = search needs
 same-length-2 : tie.Need-same-length-2
 same-length-2 c = search needs
 
-returns-6 : tie.Need-returns-6
-returns-6 c =
-    let w = c .before .before .before .before .before .write-elements .ensures in
-    let e = c .before .before .before .before .before .before .before .before in
-    let h = e .before in
-    let s = S₃ (F h) in
-    value-made (elementsOf (C s) (A s)) _ (makes (c .before .before .before .before .before .before .before .before .before .before) ∙ values-made (elementsOf (C s) (A s)) (L s) (sym (room-is h) ∙ not-false _ (e .if5 .left))) (rows-are h) (w .values) (w .rows) (c .value-answer .ensures)
+returns-5 : tie.Need-returns-5
+returns-5 c = rw (makes (c .before .before .before .before .before .before)) (c .before .before .before .write-fitting .ensures)
 
 pub general-array-element-spec : {M : Type 1} → statement M
 general-array-element-spec =
@@ -163,10 +130,7 @@ general-array-element-spec =
     returns-3
     index-refusal-requires
     returns-4
-    has-value-room-requires
-    returns-5
-    write-elements-requires
-    value-answer-requires
+    write-fitting-requires
     same-length
     same-length-2
-    returns-6)
+    returns-5)

@@ -1,20 +1,43 @@
-use mathlib.Core.Path.{_≡_, sym, _∙_}
+use mathlib.Core.Path.{_∙_}
 use mathlib.Core.List.{List}
-use Prim.Native.Nat.{_+_, _-_, _/_}
-use native.Mathlib.Omega.{arith}
+use Prim.Native.Nat.{_-_, _/_}
 use lib.ListN.{length}
 use Rattle.model.specs.Basics.{tab}
 use Rattle.model.specs.Bitmap.{from}
-use Rattle.model.specs.Column.{Column, column, Arguments, arguments, rowsOf, shownBy}
+use Rattle.model.specs.Column.{Elem, Row, Column, column, arguments, rowsOf, shownBy}
 use Rattle.model.specs.Contract.{room}
+use Rattle.model.specs.Form.{Room}
 use Rattle.model.specs.Recipe.{stepAt}
 use Rattle.model.proofs.ColumnLaws.{length-rows}
 use Rattle.column.proofs.AnswerLaws.{list-refused}
-use Rattle.steps.proofs.ChainLaws.{answer-refused, rows-kept, chain-last, chain-refused, chain-made, carries, same-room}
+use Rattle.steps.proofs.ChainLaws.{answer-refused, rows-kept, chain-last, chain-refused, chain-on, carries, same-room}
 use Rattle.recipes.proofs.CallLaws.{no-steps, some-steps, first-fits, steps-after, rest-none, rest-some}
 use borrow.Author.Needs.{needs}
 use Rattle.recipes.proofs.call.first.Statement.{statement}
 use Rattle.recipes.proofs.call.first.Tie as tie
+
+abbrev C : tie.Start → Column
+C s = let a = s .args in column (a .offsets .now) (from (a .rstart) (a .rows .now)) (a .values .now) (from (a .estart) (a .elements .now))
+
+-- the rows carried at first, the second list's, and the arguments
+abbrev Ws : tie.Start → List Row
+Ws s = rowsOf (C s)
+
+abbrev Rs : tie.Start → List Row
+Rs s = let a = s .args in rowsOf (column (a .roffsets .now) (from (a .rrstart) (a .rrows .now)) (a .rvalues .now) (from (a .restart) (a .relements .now)))
+
+abbrev Es : tie.Start → List Elem
+Es s = let a = s .args in shownBy (arguments (a .args .now) (from (a .start) (a .bits .now)))
+
+-- the lengths of the trays and the output
+abbrev One : tie.Start → Room
+One s = let a = s .args in room (length (a .one-offsets .now)) (length (a .one-rows .now)) (length (a .one-values .now)) (length (a .one-elements .now))
+
+abbrev Two : tie.Start → Room
+Two s = let a = s .args in room (length (a .two-offsets .now)) (length (a .two-rows .now)) (length (a .two-values .now)) (length (a .two-elements .now))
+
+abbrev Out : tie.Start → Room
+Out s = let a = s .args in room (length (a .out-offsets .now)) (length (a .out-rows .now)) (length (a .out-values .now)) (length (a .out-elements .now))
 
 copy-requires : tie.Need-copy-requires
 copy-requires c κs = search needs
@@ -36,7 +59,7 @@ returns c =
     let s = c .before .before .before .before .before .before .before .before .before .before .before .before .before .before .before .before .before .before .before .before .before .before .before .before in
     let a = s .args in
     let ft = s .pre .1 .1 .1 in
-    rw (no-steps (a .numbers .now) (rowsOf (column (a .offsets .now) (from (a .rstart) (a .rows .now)) (a .values .now) (from (a .estart) (a .elements .now)))) (rowsOf (column (a .roffsets .now) (from (a .rrstart) (a .rrows .now)) (a .rvalues .now) (from (a .restart) (a .relements .now)))) (shownBy (arguments (a .args .now) (from (a .start) (a .bits .now)))) (room (length (a .one-offsets .now)) (length (a .one-rows .now)) (length (a .one-values .now)) (length (a .one-elements .now))) (room (length (a .two-offsets .now)) (length (a .two-rows .now)) (length (a .two-values .now)) (length (a .two-elements .now))) (room (length (a .out-offsets .now)) (length (a .out-rows .now)) (length (a .out-values .now)) (length (a .out-elements .now))) (c .before .before .before .before .before .before .before .before .before .before .before .if1 .taken)) (c .before .before .before .before .before .before .copy .ensures)
+    rw (no-steps (a .numbers .now) (Ws s) (Rs s) (Es s) (One s) (Two s) (Out s) (c .before .before .before .before .before .before .before .before .before .before .before .if1 .taken)) (c .before .before .before .before .before .before .copy .ensures)
 
 shared-slice-read-code : tie.Need-shared-slice-read-code
 shared-slice-read-code c = search needs
@@ -74,7 +97,7 @@ returns-2 c =
     let s = c .before .before .before .before .before .before .before .before .before .before .before .before .before .before .before .before .before .before .before .before .before .before .before .before .before .before .before .before .before in
     let a = s .args in
     let ft = s .pre .1 .1 .1 in
-    rw (some-steps (a .numbers .now) (rowsOf (column (a .offsets .now) (from (a .rstart) (a .rows .now)) (a .values .now) (from (a .estart) (a .elements .now)))) (rowsOf (column (a .roffsets .now) (from (a .rrstart) (a .rrows .now)) (a .rvalues .now) (from (a .restart) (a .relements .now)))) (shownBy (arguments (a .args .now) (from (a .start) (a .bits .now)))) (room (length (a .one-offsets .now)) (length (a .one-rows .now)) (length (a .one-values .now)) (length (a .one-elements .now))) (room (length (a .two-offsets .now)) (length (a .two-rows .now)) (length (a .two-values .now)) (length (a .two-elements .now))) (room (length (a .out-offsets .now)) (length (a .out-rows .now)) (length (a .out-values .now)) (length (a .out-elements .now))) (c .before .before .before .before .before .before .before .before .before .before .before .before .before .before .before .before .if1 .left), chain-last (stepAt (a .numbers .now) 0) (tab (stepAt (a .numbers .now)) 1 (length (a .numbers .now) / 4 - 1)) (rowsOf (column (a .offsets .now) (from (a .rstart) (a .rows .now)) (a .values .now) (from (a .estart) (a .elements .now)))) (rowsOf (column (a .roffsets .now) (from (a .rrstart) (a .rrows .now)) (a .rvalues .now) (from (a .restart) (a .relements .now)))) (shownBy (arguments (a .args .now) (from (a .start) (a .bits .now)))) (room (length (a .one-offsets .now)) (length (a .one-rows .now)) (length (a .one-values .now)) (length (a .one-elements .now))) (room (length (a .two-offsets .now)) (length (a .two-rows .now)) (length (a .two-values .now)) (length (a .two-elements .now))) (room (length (a .out-offsets .now)) (length (a .out-rows .now)) (length (a .out-values .now)) (length (a .out-elements .now))) (rest-none (a .numbers .now) (c .before .before .before .before .before .before .before .before .before .before .before .if2 .taken))) (c .before .before .before .before .before .before .step .ensures)
+    rw (some-steps (a .numbers .now) (Ws s) (Rs s) (Es s) (One s) (Two s) (Out s) (c .before .before .before .before .before .before .before .before .before .before .before .before .before .before .before .before .if1 .left), chain-last (stepAt (a .numbers .now) 0) (tab (stepAt (a .numbers .now)) 1 (length (a .numbers .now) / 4 - 1)) (Ws s) (Rs s) (Es s) (One s) (Two s) (Out s) (rest-none (a .numbers .now) (c .before .before .before .before .before .before .before .before .before .before .before .if2 .taken))) (c .before .before .before .before .before .before .step .ensures)
 
 step-requires-2 : tie.Need-step-requires-2
 step-requires-2 c κs =
@@ -98,7 +121,7 @@ steps-requires c κs =
     let a = s .args in
     let ft = s .pre .1 .1 .1 in
     let w = c .before .before .before .before .before .before .before .before .before .before .before .before .before .before .before .before .before .before .before .before .before .step2 in
-    let k = carries _ _ (a .n) _ _ _ _ (w .ensures) (c .before .before .before .before .before .before .before .before .before .before .before .before .before .answer2 .given .1) (λ ws e. rows-kept (stepAt (a .numbers .now) 0) (rowsOf (column (a .offsets .now) (from (a .rstart) (a .rows .now)) (a .values .now) (from (a .estart) (a .elements .now)))) (rowsOf (column (a .roffsets .now) (from (a .rrstart) (a .rrows .now)) (a .rvalues .now) (from (a .restart) (a .relements .now)))) (shownBy (arguments (a .args .now) (from (a .start) (a .bits .now)))) (room (length (a .one-offsets .now)) (length (a .one-rows .now)) (length (a .one-values .now)) (length (a .one-elements .now))) ws e ∙ length-rows (column (a .offsets .now) (from (a .rstart) (a .rows .now)) (a .values .now) (from (a .estart) (a .elements .now))) ∙ s .pre .1 .0) in
+    let k = carries _ _ (a .n) _ _ _ _ (w .ensures) (c .before .before .before .before .before .before .before .before .before .before .before .before .before .answer2 .given .1) (λ ws e. rows-kept (stepAt (a .numbers .now) 0) (Ws s) (Rs s) (Es s) (One s) ws e ∙ length-rows (C s) ∙ s .pre .1 .0) in
     (steps-after ft (c .before .before .before .before .before .before .before .before .before .before .before .before .before .before .before .before .before .before .before .before .before .before .before .before .before .before .before .before .before .before .before .if1 .left) (c .before .before .before .before .before .before .before .before .before .before .before .before .before .before .before .before .before .before .before .before .before .before .before .before .before .before .if2 .left), (k .held, s .pre .1 .1 .0))
 
 same-length-9 : tie.Need-same-length-9
@@ -119,7 +142,7 @@ returns-3 c =
     let a = s .args in
     let ft = s .pre .1 .1 .1 in
     let w = c .before .before .before .before .before .before .before .before .before .step2 in
-    list-refused _ (some-steps (a .numbers .now) (rowsOf (column (a .offsets .now) (from (a .rstart) (a .rows .now)) (a .values .now) (from (a .estart) (a .elements .now)))) (rowsOf (column (a .roffsets .now) (from (a .rrstart) (a .rrows .now)) (a .rvalues .now) (from (a .restart) (a .relements .now)))) (shownBy (arguments (a .args .now) (from (a .start) (a .bits .now)))) (room (length (a .one-offsets .now)) (length (a .one-rows .now)) (length (a .one-values .now)) (length (a .one-elements .now))) (room (length (a .two-offsets .now)) (length (a .two-rows .now)) (length (a .two-values .now)) (length (a .two-elements .now))) (room (length (a .out-offsets .now)) (length (a .out-rows .now)) (length (a .out-values .now)) (length (a .out-elements .now))) (c .before .before .before .before .before .before .before .before .before .before .before .before .before .before .before .before .before .before .before .if1 .left) ∙ chain-refused (stepAt (a .numbers .now) 0) (tab (stepAt (a .numbers .now)) 1 (length (a .numbers .now) / 4 - 1)) (rowsOf (column (a .offsets .now) (from (a .rstart) (a .rows .now)) (a .values .now) (from (a .estart) (a .elements .now)))) (rowsOf (column (a .roffsets .now) (from (a .rrstart) (a .rrows .now)) (a .rvalues .now) (from (a .restart) (a .relements .now)))) (shownBy (arguments (a .args .now) (from (a .start) (a .bits .now)))) (room (length (a .one-offsets .now)) (length (a .one-rows .now)) (length (a .one-values .now)) (length (a .one-elements .now))) (room (length (a .two-offsets .now)) (length (a .two-rows .now)) (length (a .two-values .now)) (length (a .two-elements .now))) (room (length (a .out-offsets .now)) (length (a .out-rows .now)) (length (a .out-values .now)) (length (a .out-elements .now))) _ _ _ (rest-some (a .numbers .now) (c .before .before .before .before .before .before .before .before .before .before .before .before .before .before .before .before .before .before .before .if1 .left) (c .before .before .before .before .before .before .before .before .before .before .before .before .before .before .if2 .left)) (answer-refused _ _ _ (c .before .answer .given .1) (w .ensures .answer)))
+    list-refused _ (some-steps (a .numbers .now) (Ws s) (Rs s) (Es s) (One s) (Two s) (Out s) (c .before .before .before .before .before .before .before .before .before .before .before .before .before .before .before .before .before .before .before .if1 .left) ∙ chain-refused (stepAt (a .numbers .now) 0) (tab (stepAt (a .numbers .now)) 1 (length (a .numbers .now) / 4 - 1)) (Ws s) (Rs s) (Es s) (One s) (Two s) (Out s) _ _ _ (rest-some (a .numbers .now) (c .before .before .before .before .before .before .before .before .before .before .before .before .before .before .before .before .before .before .before .if1 .left) (c .before .before .before .before .before .before .before .before .before .before .before .before .before .before .if2 .left)) (answer-refused _ _ _ (c .before .answer .given .1) (w .ensures .answer)))
 
 same-length-13 : tie.Need-same-length-13
 same-length-13 c = c .before .before .before .before .before .before .before .before .before .before .before .before .before .before .before .before .before .before .steps .kept .1 .1 .1 .1 .1 .1 .1 .1 .1 .1 .1 .1 .1 .1 .0 ∙ c .before .before .before .before .before .before .before .before .before .before .before .before .before .before .before .before .before .before .before .before .before .before .before .before .before .before .before .before .before .before .before .before .before .before .before .before .before .before .before .before .step2 .kept .1 .1 .1 .1 .1 .1 .1 .1 .1 .1 .1 .1 .1 .1 .1 .1 .1 .1 .1 .1 .0
@@ -163,9 +186,9 @@ returns-4 c =
     let a = s .args in
     let ft = s .pre .1 .1 .1 in
     let w = c .before .before .before .before .before .before .before .before .before .before .before .before .before .before .before .before .before .before .before .before .before .before .before .before .before .before .before .before .before .before .before .before .before .before .before .before .before .before .before .before .step2 in
-    let k = carries _ _ (a .n) _ _ _ _ (w .ensures) (c .before .before .before .before .before .before .before .before .before .before .before .before .before .before .before .before .before .before .before .before .before .before .before .before .before .before .before .before .before .before .before .before .answer2 .given .1) (λ ws e. rows-kept (stepAt (a .numbers .now) 0) (rowsOf (column (a .offsets .now) (from (a .rstart) (a .rows .now)) (a .values .now) (from (a .estart) (a .elements .now)))) (rowsOf (column (a .roffsets .now) (from (a .rrstart) (a .rrows .now)) (a .rvalues .now) (from (a .restart) (a .relements .now)))) (shownBy (arguments (a .args .now) (from (a .start) (a .bits .now)))) (room (length (a .one-offsets .now)) (length (a .one-rows .now)) (length (a .one-values .now)) (length (a .one-elements .now))) ws e ∙ length-rows (column (a .offsets .now) (from (a .rstart) (a .rows .now)) (a .values .now) (from (a .estart) (a .elements .now))) ∙ s .pre .1 .0) in
+    let k = carries _ _ (a .n) _ _ _ _ (w .ensures) (c .before .before .before .before .before .before .before .before .before .before .before .before .before .before .before .before .before .before .before .before .before .before .before .before .before .before .before .before .before .before .before .before .answer2 .given .1) (λ ws e. rows-kept (stepAt (a .numbers .now) 0) (Ws s) (Rs s) (Es s) (One s) ws e ∙ length-rows (C s) ∙ s .pre .1 .0) in
     let l = same-room (w .kept .1 .1 .1 .1 .1 .1 .1 .1 .1 .1 .1 .1 .1 .1 .1 .1 .1 .1 .1 .1 .0) (w .kept .1 .1 .1 .1 .1 .1 .1 .1 .1 .1 .1 .1 .1 .1 .1 .1 .1 .1 .1 .1 .1 .0) (w .kept .1 .1 .1 .1 .1 .1 .1 .1 .1 .1 .1 .1 .1 .1 .1 .1 .1 .1 .1 .1 .1 .1 .0) (w .kept .1 .1 .1 .1 .1 .1 .1 .1 .1 .1 .1 .1 .1 .1 .1 .1 .1 .1 .1 .1 .1 .1 .1 .0) in
-    rw (some-steps (a .numbers .now) (rowsOf (column (a .offsets .now) (from (a .rstart) (a .rows .now)) (a .values .now) (from (a .estart) (a .elements .now)))) (rowsOf (column (a .roffsets .now) (from (a .rrstart) (a .rrows .now)) (a .rvalues .now) (from (a .restart) (a .relements .now)))) (shownBy (arguments (a .args .now) (from (a .start) (a .bits .now)))) (room (length (a .one-offsets .now)) (length (a .one-rows .now)) (length (a .one-values .now)) (length (a .one-elements .now))) (room (length (a .two-offsets .now)) (length (a .two-rows .now)) (length (a .two-values .now)) (length (a .two-elements .now))) (room (length (a .out-offsets .now)) (length (a .out-rows .now)) (length (a .out-values .now)) (length (a .out-elements .now))) (c .before .before .before .before .before .before .before .before .before .before .before .before .before .before .before .before .before .before .before .before .before .before .before .before .before .before .before .before .before .before .before .before .before .before .before .before .before .before .before .before .before .before .before .before .before .before .before .before .before .before .if1 .left), chain-made (stepAt (a .numbers .now) 0) (tab (stepAt (a .numbers .now)) 1 (length (a .numbers .now) / 4 - 1)) (rowsOf (column (a .offsets .now) (from (a .rstart) (a .rows .now)) (a .values .now) (from (a .estart) (a .elements .now)))) (rowsOf (column (a .roffsets .now) (from (a .rrstart) (a .rrows .now)) (a .rvalues .now) (from (a .restart) (a .relements .now)))) (shownBy (arguments (a .args .now) (from (a .start) (a .bits .now)))) (room (length (a .one-offsets .now)) (length (a .one-rows .now)) (length (a .one-values .now)) (length (a .one-elements .now))) (room (length (a .two-offsets .now)) (length (a .two-rows .now)) (length (a .two-values .now)) (length (a .two-elements .now))) (room (length (a .out-offsets .now)) (length (a .out-rows .now)) (length (a .out-values .now)) (length (a .out-elements .now))) _ _ (k .rows) (rest-some (a .numbers .now) (c .before .before .before .before .before .before .before .before .before .before .before .before .before .before .before .before .before .before .before .before .before .before .before .before .before .before .before .before .before .before .before .before .before .before .before .before .before .before .before .before .before .before .before .before .before .before .before .before .before .before .if1 .left) (c .before .before .before .before .before .before .before .before .before .before .before .before .before .before .before .before .before .before .before .before .before .before .before .before .before .before .before .before .before .before .before .before .before .before .before .before .before .before .before .before .before .before .before .before .before .if2 .left)) (k .is)) (rw (k .shown, l) at (c .before .before .before .before .before .before .before .before .before .before .before .before .before .before .before .before .before .before .steps .ensures))
+    rw (some-steps (a .numbers .now) (Ws s) (Rs s) (Es s) (One s) (Two s) (Out s) (c .before .before .before .before .before .before .before .before .before .before .before .before .before .before .before .before .before .before .before .before .before .before .before .before .before .before .before .before .before .before .before .before .before .before .before .before .before .before .before .before .before .before .before .before .before .before .before .before .before .before .if1 .left)) (chain-on (stepAt (a .numbers .now) 0) (tab (stepAt (a .numbers .now)) 1 (length (a .numbers .now) / 4 - 1)) (Ws s) (Rs s) (Es s) (One s) (Two s) (Out s) _ _ (rest-some (a .numbers .now) (c .before .before .before .before .before .before .before .before .before .before .before .before .before .before .before .before .before .before .before .before .before .before .before .before .before .before .before .before .before .before .before .before .before .before .before .before .before .before .before .before .before .before .before .before .before .before .before .before .before .before .if1 .left) (c .before .before .before .before .before .before .before .before .before .before .before .before .before .before .before .before .before .before .before .before .before .before .before .before .before .before .before .before .before .before .before .before .before .before .before .before .before .before .before .before .before .before .before .before .before .if2 .left)) (k .is) (k .shown) l (c .before .before .before .before .before .before .before .before .before .before .before .before .before .before .before .before .before .before .steps .ensures))
 
 pub first-spec : {M : Type 1} → statement M
 first-spec =

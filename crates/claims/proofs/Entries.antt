@@ -1,0 +1,197 @@
+-- Demand 3 over the C entries. Of each entry of `duthlan`: where the number that it returned is below 100, so that it took the
+-- sizes, what it returned and wrote are the bytes of what the call ends in. Calls that are alike end in one thing (`one-end`),
+-- so two calls of an entry that took their sizes return one number and write the same bytes.
+use Prim.Native.Nat.{ℕ, zero, suc, _≤_, _<_}
+use mathlib.Core.Path.{_≡_, refl, ap, _∙_}
+use mathlib.Core.Bool.{Bool, true, false, _||_}
+use mathlib.Core.List.{List, flatMap}
+use native.Mathlib.Omega.{arith}
+use contract.Lifetimes.{Lfts}
+use lib.Dec.{ltb}
+use denote.Ref.{now}
+use Rattle.model.specs.Basics.{pick, any, Lent, given}
+use Rattle.model.specs.Column.{Elem, Row, Column, Arguments}
+use Rattle.model.specs.Form.{Room, ValueRoom, RepeatRoom, Outer}
+use Rattle.model.specs.Limits.{narrow}
+use Rattle.model.specs.Rows.{unary, setOp, onLent}
+use Rattle.model.specs.Outcome.{Outcome, refused, made, listOutcome, anyValueOutcome, elementOutcome, repeatOutcome}
+use Rattle.model.specs.Recipe.{recipeOutcome}
+use Rattle.model.specs.Call.{Call, Formed, Alike, list, anyValue, element, listRepeat, recipe, end, listEnd, valueEnd, repeatEnd, recipeEnd, listNumbers, listBitmaps, answerOf, written}
+use Rattle.model.specs.Contract.{Slice}
+use Rattle.model.specs.declared.Unary.{Unary}
+use Rattle.model.specs.declared.SetOp.{SetOp}
+use Rattle.model.proofs.Agreement.{agreement}
+use Rattle.model.proofs.OutcomeLaws.{gate-open, gate-shut}
+use Rattle.ops.specs.Ops.{callOf}
+use Rattle.ops.specs.declared.ListOp.{ListOp}
+use Rattle.wire.specs.Bytes.{nats, bytesOf, bytesOfCounts}
+use Rattle.entry.specs.Entry.{Numbers, ragged, outsize, sizeRefusal, entered, unaryOf, unaryCall, setOf, setCall, numberOf, ListReturned, ValueReturned}
+use Rattle.entry.specs.Inner.{numberIn, countsIn}
+use Rattle.entry_with.specs.With.{withOf, withCall}
+use Rattle.entry_repeat.specs.Repeat.{RepeatReturned}
+use Rattle.entry_recipe.specs.Recipe.{recipeSizeRefusal, tallyAfter}
+use Rattle.recipe_bytes.specs.Recipe.{tallyIn}
+use Rattle.recipes.specs.Recipes.{recipe as recipeOf}
+use Rattle.duthlan.proofs.duthlan_list.Reads as OneList
+use Rattle.duthlan.proofs.duthlan_list_with.Reads as ListWith
+use Rattle.duthlan.proofs.duthlan_lists.Reads as TwoLists
+use Rattle.duthlan.proofs.duthlan_any_value.Reads as AnyValue
+use Rattle.duthlan.proofs.duthlan_element.Reads as Element
+use Rattle.duthlan.proofs.duthlan_list_repeat.Reads as ListRepeat
+use Rattle.duthlan.proofs.duthlan_recipe.Reads as Recipe
+use Rattle.claims.specs.Bytes.{ByteSlices, BytePair, columnIn, argumentsIn, roomIn, valueRoomIn, repeatRoomIn, enter4, leave4, enter2, leave2, ListBytes, ValueBytes, RepeatBytes, RecipeBytes, overTally}
+
+-- calls that are alike, on well-formed columns, end in one thing
+pub one-end : (q q′ : Call Column Arguments) → Formed q → Formed q′ → Alike q q′ → end narrow q ≡ end narrow q′
+one-end q q′ f f′ a = agreement narrow q q′ f f′ a .shares
+
+-- ---- an outcome's bytes are those of its end
+
+list-bytes : (x : Outcome (List Row)) {n : ℕ} (o : ByteSlices) (c : Slice ℕ) → ListReturned (λ l. x) n (o .offsets) (o .rows) (o .values) (o .elements) c → ListBytes (listEnd x) n o c
+unfolding listEnd listNumbers listBitmaps answerOf written numberOf numberIn countsIn bytesOf bytesOfCounts flatMap
+list-bytes (refused k) o c h = record {
+  answer = record { number = h .number; counts = h .counts };
+  offsets = h .offsets;
+  rows = h .rows;
+  values = h .values;
+  elements = h .elements;
+}
+list-bytes (made ws) o c h = record {
+  answer = record { number = h .number; counts = h .counts };
+  offsets = h .offsets;
+  rows = h .rows;
+  values = h .values;
+  elements = h .elements;
+}
+
+value-bytes : (x : Outcome (List Elem)) {n : ℕ} (o : BytePair) (c : Slice ℕ) → ValueReturned (λ l. x) n (o .numbers) (o .bits) c → ValueBytes (valueEnd x) n o c
+unfolding valueEnd answerOf written numberOf numberIn countsIn bytesOf bytesOfCounts flatMap
+value-bytes (refused k) o c h = record { answer = record { number = h .number; counts = h .counts }; values = h .values; rows = h .rows }
+value-bytes (made es) o c h = record { answer = record { number = h .number; counts = h .counts }; values = h .values; rows = h .rows }
+
+repeat-bytes : (x : Outcome (List Outer)) {n : ℕ} (b : BytePair) (o : ByteSlices) (c : Slice ℕ)
+    → RepeatReturned (λ l. x) n (b .numbers) (b .bits) (o .offsets) (o .rows) (o .values) (o .elements) c → RepeatBytes (repeatEnd x) n b o c
+unfolding repeatEnd answerOf written numberOf numberIn countsIn bytesOf bytesOfCounts flatMap
+repeat-bytes (refused k) b o c h = record {
+  answer = record { number = h .number; counts = h .counts };
+  outer-offsets = h .offsets;
+  outer-rows = h .rows;
+  offsets = h .inner-offsets;
+  rows = h .inner-rows;
+  values = h .values;
+  elements = h .elements;
+}
+repeat-bytes (made os) b o c h = record {
+  answer = record { number = h .number; counts = h .counts };
+  outer-offsets = h .offsets;
+  outer-rows = h .rows;
+  offsets = h .inner-offsets;
+  rows = h .inner-rows;
+  values = h .values;
+  elements = h .elements;
+}
+
+-- ---- a number below 100 says that the sizes were taken
+
+-- a number from 100 on, or 0
+abbrev Far : ℕ → Type 0
+Far k = (k ≡ 0 → ⊥) → 100 ≤ k
+
+far-or : (t : Bool) (k j : ℕ) → 100 ≤ k → Far j → Far (pick t k j)
+far-or true k j h f z = h
+far-or false k j h f z = f z
+
+size-far : (ss : List Numbers) (counts need : ℕ) → Far (sizeRefusal ss counts need)
+unfolding sizeRefusal
+size-far ss counts need = far-or (any ragged ss || ltb counts need) 100 _ (omega arith) (far-or (any outsize ss) 101 0 (omega arith) (λ z. absurd (z refl)))
+
+recipe-far : (ss : List Numbers) (counts tally : ℕ) → Far (recipeSizeRefusal ss counts tally)
+unfolding recipeSizeRefusal
+recipe-far ss counts tally = far-or (ltb tally 16) 100 _ (omega arith) (size-far ss counts 32)
+
+below : {A L : Type 0} (f : L → Outcome A) (l : L) (k n : ℕ) → Far k → n ≡ numberOf (entered (given f) k l) → n < 100 → k ≡ 0
+unfolding entered numberOf
+below f l zero n far e h = refl
+below f l (suc k) n far e h =
+    let s : suc k ≡ 0 → ⊥ = λ y. omega (arith, y) in
+    let q : n ≡ suc k = e ∙ ap numberOf (gate-shut (suc k) (f l) s) in
+    let z : ⊥ = omega (arith, far s, q) in
+    absurd z
+
+taken : {A L : Type 0} (f : L → Outcome A) (l : L) (k n : ℕ) → Far k → n ≡ numberOf (entered (given f) k l) → n < 100 → entered (given f) k l ≡ f l
+unfolding entered
+taken f l k n far e h = gate-open k (f l) (below f l k n far e h)
+
+module _ {n : ℕ} (b : n < 100) (k : ℕ) (far : Far k) where
+  list-taken : (o : ByteSlices) (c : Slice ℕ) {F : Lent (Room → Outcome (List Row))} (f : Room → Outcome (List Row)) → F ≡ given f
+      → ListReturned (entered F k) n (o .offsets) (o .rows) (o .values) (o .elements) c → ListBytes (listEnd (f (roomIn o))) n o c
+  list-taken o c f e h =
+      let g = rw e at h in
+      list-bytes (f (roomIn o)) o c (rw (taken f (roomIn o) k n far (g .number) b) at g)
+
+  value-taken : (o : BytePair) (c : Slice ℕ) (f : ValueRoom → Outcome (List Elem)) → ValueReturned (entered (given f) k) n (o .numbers) (o .bits) c → ValueBytes (valueEnd (f (valueRoomIn o))) n o c
+  value-taken o c f h = value-bytes (f (valueRoomIn o)) o c (rw (taken f (valueRoomIn o) k n far (h .number) b) at h)
+
+  repeat-taken : (p : BytePair) (o : ByteSlices) (c : Slice ℕ) (f : RepeatRoom → Outcome (List Outer))
+      → RepeatReturned (entered (given f) k) n (p .numbers) (p .bits) (o .offsets) (o .rows) (o .values) (o .elements) c → RepeatBytes (repeatEnd (f (repeatRoomIn p o))) n p o c
+  repeat-taken p o c f h = repeat-bytes (f (repeatRoomIn p o)) p o c (rw (taken f (repeatRoomIn p o) k n far (h .number) b) at h)
+
+names : {A B : Type 0} (f : A → B) {u : Lent A} {k : A} → u ≡ given k → onLent f u ≡ given (f k)
+unfolding onLent
+names f e = rw e
+
+-- ---- the entries: c and d are the lists lent, x, y and z the argument columns, o the output, cs the counts, n the number returned
+
+-- k is the operation that the code names
+pub one-list : (κs : Lfts 9) (op op′ : ℕ) (c o : ByteSlices) (cs : Slice ℕ) (n : ℕ) (k : Unary)
+    → OneList.Post κs (op, enter4 c (enter4 o (cs .entry, tt))) n (op′, leave4 c (leave4 o (cs .exit, tt)))
+    → n < 100 → unaryOf op ≡ given k → ListBytes (end narrow (list (unary k (columnIn c)) (roomIn o))) n o cs
+unfolding end unaryCall
+one-list κs op op′ c o cs n k h b e = list-taken b _ (size-far _ _ _) o cs _ (names (λ j. listOutcome narrow (unary j (columnIn c))) e) h
+
+pub list-with : (κs : Lfts 15) (op op′ : ℕ) (c : ByteSlices) (x y z : BytePair) (o : ByteSlices) (cs : Slice ℕ) (n : ℕ) (k : ListOp)
+    → ListWith.Post κs (op, enter4 c (enter2 x (enter2 y (enter2 z (enter4 o (cs .entry, tt)))))) n (op′, leave4 c (leave2 x (leave2 y (leave2 z (leave4 o (cs .exit, tt))))))
+    → n < 100 → withOf op ≡ given k → ListBytes (end narrow (list (callOf k (columnIn c) (argumentsIn x) (argumentsIn y) (argumentsIn z)) (roomIn o))) n o cs
+unfolding end withCall
+list-with κs op op′ c x y z o cs n k h b e = list-taken b _ (size-far _ _ _) o cs _ (names (λ j. listOutcome narrow (callOf j (columnIn c) (argumentsIn x) (argumentsIn y) (argumentsIn z))) e) h
+
+pub two-lists : (κs : Lfts 13) (op op′ : ℕ) (c d o : ByteSlices) (cs : Slice ℕ) (n : ℕ) (k : SetOp)
+    → TwoLists.Post κs (op, enter4 c (enter4 d (enter4 o (cs .entry, tt)))) n (op′, leave4 c (leave4 d (leave4 o (cs .exit, tt))))
+    → n < 100 → setOf op ≡ given k → ListBytes (end narrow (list (setOp k (columnIn c) (columnIn d)) (roomIn o))) n o cs
+unfolding end setCall
+two-lists κs op op′ c d o cs n k h b e = list-taken b _ (size-far _ _ _) o cs _ (names (λ j. listOutcome narrow (setOp j (columnIn c) (columnIn d))) e) h
+
+pub any-value : (κs : Lfts 7) (c : ByteSlices) (o : BytePair) (cs : Slice ℕ) (n : ℕ)
+    → AnyValue.Post κs (enter4 c (enter2 o (cs .entry, tt))) n (leave4 c (leave2 o (cs .exit, tt)))
+    → n < 100 → ValueBytes (end narrow (anyValue (columnIn c) (valueRoomIn o))) n o cs
+unfolding end
+any-value κs c o cs n h b = value-taken b _ (size-far _ _ _) o cs (anyValueOutcome (columnIn c)) h
+
+pub elements : (κs : Lfts 9) (c : ByteSlices) (x o : BytePair) (cs : Slice ℕ) (n : ℕ)
+    → Element.Post κs (enter4 c (enter2 x (enter2 o (cs .entry, tt)))) n (leave4 c (leave2 x (leave2 o (cs .exit, tt))))
+    → n < 100 → ValueBytes (end narrow (element (columnIn c) (argumentsIn x) (valueRoomIn o))) n o cs
+unfolding end
+elements κs c x o cs n h b = value-taken b _ (size-far _ _ _) o cs (elementOutcome narrow (columnIn c) (argumentsIn x)) h
+
+-- p is the output's outer lists
+pub repeats : (κs : Lfts 13) (c : ByteSlices) (x p : BytePair) (o : ByteSlices) (cs : Slice ℕ) (n : ℕ)
+    → ListRepeat.Post κs (enter4 c (enter2 x (enter2 p (enter4 o (cs .entry, tt))))) n (leave4 c (leave2 x (leave2 p (leave4 o (cs .exit, tt)))))
+    → n < 100 → RepeatBytes (end narrow (listRepeat (columnIn c) (argumentsIn x) (repeatRoomIn p o))) n p o cs
+unfolding end
+repeats κs c x p o cs n h b = repeat-taken b _ (size-far _ _ _) p o cs (repeatOutcome narrow (columnIn c) (argumentsIn x)) h
+
+-- ns are the recipe's numbers, l and m the trays, t the tally
+pub recipes : (κs : Lfts 25) (k k′ : ℕ) (ns : Slice ℕ) (c d : ByteSlices) (x : BytePair) (l m o : ByteSlices) (cs t : Slice ℕ) (n : ℕ)
+    → Recipe.Post κs (k, (ns .entry, enter4 c (enter4 d (enter2 x (enter4 l (enter4 m (enter4 o (cs .entry, (t .entry, tt)))))))))
+    n (k′, (ns .exit, leave4 c (leave4 d (leave2 x (leave4 l (leave4 m (leave4 o (cs .exit, (t .exit, tt)))))))))
+    → n < 100 → RecipeBytes (end narrow (recipe (recipeOf (nats 4 (now (ns .entry))) k) (columnIn c) (columnIn d) (argumentsIn x) (roomIn l) (roomIn m) (roomIn o) (tallyIn (now (t .entry))))) n l m o cs t
+unfolding end recipeEnd listEnd overTally tallyAfter
+recipes κs k k′ ns c d x l m o cs t n h b =
+    let f = recipeOutcome narrow (recipeOf (nats 4 (now (ns .entry))) k) (columnIn c) (columnIn d) (argumentsIn x) (roomIn l) (roomIn m) in
+    let a = list-taken b _ (recipe-far _ _ _) o cs f refl (h .0) in
+    record {
+      answer = record { answer = record { number = a .answer .number; counts = a .answer .counts }; offsets = a .offsets; rows = a .rows; values = a .values; elements = a .elements };
+      one = record { offsets = h .1 .0; rows = h .1 .1; values = h .1 .2; elements = h .1 .3 };
+      two = record { offsets = h .2 .0; rows = h .2 .1; values = h .2 .2; elements = h .2 .3 };
+      tally = rw (below f (roomIn o) _ n (recipe-far _ _ _) (h .0 .number) b) at (h .3);
+    }

@@ -2,8 +2,9 @@
 //! not from how the case was made; a run fails where a kind that it must reach was not reached.
 //!
 //! Each refusal is demanded from both sides: the number that is refused, and the nearest that is
-//! not. What is demanded of the rows of an operation is written out by hand, so that it also checks
-//! the model: a row that becomes something else leaves a demand unmet.
+//! not. What is demanded of the rows of element, slice, resize, replace, remove and list-repeat is
+//! written out by hand with what they become, so that it also checks the model: a row that becomes
+//! something else leaves a demand unmet.
 
 use crate::entry::{Case, Entry, Expected, Input, SliceKind};
 use crate::generate::{Column, Harm};
@@ -233,7 +234,8 @@ fn is_slice(operation: Operation) -> bool {
     matches!(operation, Operation::Slice | Operation::SliceWithoutStride)
 }
 
-/// What the rows of a call met: all rows of an accepted call, the first bad row of a refused one.
+/// What the first rows of a call met: of an accepted call as far as they are looked at, of a
+/// refused one the first bad row.
 pub fn rows_met(input: &Input, number: u32) -> Vec<String> {
     let operation = input.entry.known_operation();
     let shown = model::shown(&input.lists, input.taken());

@@ -1,8 +1,8 @@
 //! The port's C entries behind safe functions.
 //!
 //! A slice passes as a pointer and a length in bytes. The entries demand nothing of their caller
-//! but that each pointer may be read, or written, for its length and that no output overlaps
-//! another slice. Rust's borrow rules give both: a `&mut [u8]` overlaps no other borrow.
+//! but that each pointer is not null and may be read, or written, for its length, and that no output
+//! overlaps another slice. Rust's borrow rules give all: a `&mut [u8]` overlaps no other borrow.
 
 #[cfg(mock)]
 pub use crate::mock::LIBRARY;

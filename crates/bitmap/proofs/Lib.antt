@@ -1,3 +1,4 @@
 pub mod BitLaws
 pub mod OnesLaws
 pub mod PackLaws
+pub mod PartLaws

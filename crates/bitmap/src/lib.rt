@@ -1,6 +1,6 @@
 // Bits of a bitmap: bit i is bit i mod 8 of byte i div 8, bit 0 lowest. An inner crate: its callers meet what it asks.
 ghost use Prim.Native.Nat.{_%_, _+_, _/_, _<_, _^_, _≤_};
-ghost use Rattle.bitmap.specs.Push.{Covers, pushBit, trues};
+ghost use Rattle.bitmap.specs.Push.{Covers, bitsFrom, pushBit, trues};
 ghost use Rattle.model.specs.Basics.{tab};
 ghost use Rattle.model.specs.Bitmap.{bitAt, bytesFor, shortBits, validAt};
 ghost use Rattle.model.specs.Held.{heldBits, lentBits};
@@ -69,6 +69,27 @@ pub fn is_valid(bitmap: &[u8], start: usize, i: usize, n: usize) -> bool
         return true;
     }
     bit_from(bitmap, start, i)
+}
+
+// The bitmap from bit a on: from the byte on that holds that bit.
+pub fn bits_from(bitmap: &[u8], start: usize, a: usize, n: usize) -> &[u8]
+    requires { ⌜ Covers (heldBits bitmap start) n ⌝ }
+    requires { ⌜ a ≤ n ⌝ }
+    ensures { λ r. ⌜ now r ≡ bitsFrom (lentBits bitmap start) a .bytes ⌝ }
+{
+    if bitmap.len() == 0 {
+        return bitmap;
+    }
+    let byte = a / 8 + (start + a % 8) / 8;
+    &bitmap[byte..]
+}
+
+// The place of that bit in its byte.
+pub fn start_from(start: usize, a: usize) -> usize
+    requires { ⌜ start < 8 ⌝ }
+    ensures { λ r. ⌜ r ≡ (start + a) % 8 ⌝ }
+{
+    (start + a % 8) % 8
 }
 
 // How many of the m lowest bits of a byte are set: the others are masked.

@@ -1,8 +1,8 @@
--- Demand 3 over the C entries. Of each entry of `duthlan`: where the number that it returned is below 100, so that it took the
--- sizes, what it returned and wrote are the bytes of what the call ends in. Calls that are alike end in one thing (`one-end`),
--- so two calls of an entry that took their sizes return one number and write the same bytes.
+-- Demand 3 over the C entries. Of each entry of `duthlan`: where the number that it returned is below 100, and so none of the
+-- entry's own, what it returned and wrote are the bytes of what the call ends in. Calls that are alike end in one thing, so two such
+-- calls of an entry return one number (`one-number`), and both write the bytes of one end (`one-end-written`).
 use Prim.Native.Nat.{ℕ, zero, suc, _≤_, _<_}
-use mathlib.Core.Path.{_≡_, refl, ap, _∙_}
+use mathlib.Core.Path.{_≡_, refl, sym, ap, _∙_}
 use mathlib.Core.Bool.{Bool, true, false, _||_}
 use mathlib.Core.List.{List, flatMap}
 use native.Mathlib.Omega.{arith}
@@ -16,7 +16,7 @@ use Rattle.model.specs.Limits.{narrow}
 use Rattle.model.specs.Rows.{unary, setOp, onLent}
 use Rattle.model.specs.Outcome.{Outcome, refused, made, listOutcome, anyValueOutcome, elementOutcome, repeatOutcome}
 use Rattle.model.specs.Recipe.{recipeOutcome}
-use Rattle.model.specs.Call.{Call, Formed, Alike, list, anyValue, element, listRepeat, recipe, end, listEnd, valueEnd, repeatEnd, recipeEnd, listNumbers, listBitmaps, answerOf, written}
+use Rattle.model.specs.Call.{Call, End, Formed, Alike, list, anyValue, element, listRepeat, recipe, end, listEnd, valueEnd, repeatEnd, recipeEnd, listNumbers, listBitmaps, answerOf, written}
 use Rattle.model.specs.Contract.{Slice}
 use Rattle.model.specs.declared.Unary.{Unary}
 use Rattle.model.specs.declared.SetOp.{SetOp}
@@ -39,11 +39,18 @@ use Rattle.duthlan.proofs.duthlan_any_value.Reads as AnyValue
 use Rattle.duthlan.proofs.duthlan_element.Reads as Element
 use Rattle.duthlan.proofs.duthlan_list_repeat.Reads as ListRepeat
 use Rattle.duthlan.proofs.duthlan_recipe.Reads as Recipe
-use Rattle.claims.specs.Bytes.{ByteSlices, BytePair, columnIn, argumentsIn, roomIn, valueRoomIn, repeatRoomIn, enter4, leave4, enter2, leave2, ListBytes, ValueBytes, RepeatBytes, RecipeBytes, overTally}
+use Rattle.claims.specs.Bytes.{ByteSlices, BytePair, columnIn, argumentsIn, roomIn, valueRoomIn, repeatRoomIn, enter4, leave4, enter2, leave2, AnswerBytes, ListBytes, ValueBytes, RepeatBytes, RecipeBytes, overTally}
 
 -- calls that are alike, on well-formed columns, end in one thing
 pub one-end : (q q′ : Call Column Arguments) → Formed q → Formed q′ → Alike q q′ → end narrow q ≡ end narrow q′
 one-end q q′ f f′ a = agreement narrow q q′ f f′ a .shares
+
+-- what a call of an entry says of its end (ListBytes, ValueBytes, RepeatBytes or RecipeBytes below), it says of an alike call's
+pub one-end-written : (P : End → Type 0) {q q′ : Call Column Arguments} → Formed q → Formed q′ → Alike q q′ → P (end narrow q′) → P (end narrow q)
+one-end-written P {q} {q′} f f′ a h = rw (one-end q q′ f f′ a) h
+
+pub one-number : {q q′ : Call Column Arguments} {n n′ : ℕ} {c c′ : Slice ℕ} → Formed q → Formed q′ → Alike q q′ → AnswerBytes (end narrow q) n c → AnswerBytes (end narrow q′) n′ c′ → n ≡ n′
+one-number {q} {q′} f f′ a h h′ = h .number ∙ ap (λ (x : End). numberIn (x .answer)) (one-end q q′ f f′ a) ∙ sym (h′ .number)
 
 -- ---- an outcome's bytes are those of its end
 

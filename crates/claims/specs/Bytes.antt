@@ -44,19 +44,19 @@ abbrev pub repeatRoomIn : BytePair → ByteSlices → RepeatRoom
 repeatRoomIn b o = bytesRepeatRoom (b .numbers) (b .bits) (o .offsets) (o .rows) (o .values) (o .elements)
 
 -- slices among a function's parameters, before the others, at entry and at exit
-abbrev pub Byte : Type 0 → Type 0
-Byte A = RefT (List ℕ) × A
+abbrev pub Before1 : Type 0 → Type 0
+Before1 A = RefT (List ℕ) × A
 
-abbrev pub enter4 : {A : Type 0} → ByteSlices → A → Byte (Byte (Byte (Byte A)))
+abbrev pub enter4 : {A : Type 0} → ByteSlices → A → Before1 (Before1 (Before1 (Before1 A)))
 enter4 c k = (c .offsets .entry, (c .rows .entry, (c .values .entry, (c .elements .entry, k))))
 
-abbrev pub leave4 : {A : Type 0} → ByteSlices → A → Byte (Byte (Byte (Byte A)))
+abbrev pub leave4 : {A : Type 0} → ByteSlices → A → Before1 (Before1 (Before1 (Before1 A)))
 leave4 c k = (c .offsets .exit, (c .rows .exit, (c .values .exit, (c .elements .exit, k))))
 
-abbrev pub enter2 : {A : Type 0} → BytePair → A → Byte (Byte A)
+abbrev pub enter2 : {A : Type 0} → BytePair → A → Before1 (Before1 A)
 enter2 x k = (x .numbers .entry, (x .bits .entry, k))
 
-abbrev pub leave2 : {A : Type 0} → BytePair → A → Byte (Byte A)
+abbrev pub leave2 : {A : Type 0} → BytePair → A → Before1 (Before1 A)
 leave2 x k = (x .numbers .exit, (x .bits .exit, k))
 
 -- the slice s holds w over what it held as the call began

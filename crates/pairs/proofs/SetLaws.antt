@@ -21,7 +21,8 @@ use Rattle.model.specs.declared.SetOp.{SetOp}
 use Rattle.model.specs.declared.SetOp.the-variants.{Union, Intersect}
 use Rattle.model.proofs.TabLaws.{length-tab, tab-step, tab-none, tab-last, length-map}
 use Rattle.column.specs.Put.{Source, Place, Written}
-use Rattle.pairs.specs.Pairs.{keeps, kept, bitsFrom}
+use Rattle.bitmap.specs.Push.{bitsFrom}
+use Rattle.pairs.specs.Pairs.{keeps, kept}
 use Rattle.pairs.proofs.PairLaws.{not-so, same-eq, isIn-append}
 use Rattle.pairs.proofs.PartLaws.{cut-source, cut-row, Longer, longer-right, longer-left}
 

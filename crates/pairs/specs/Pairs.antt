@@ -1,11 +1,10 @@
--- A search among values, what a walk over one row of a pair keeps, and the bitmap of a row by itself.
-use Prim.Native.Nat.{ℕ, _+_, _/_, _%_}
+-- A search among values, and what a walk over one row of a pair keeps.
+use Prim.Native.Nat.{ℕ, _+_}
 use mathlib.Core.Bool.{Bool, not, _&&_}
 use mathlib.Core.List.{List, [], _∷_, _++_}
 use lib.IntN.{ℤ, pos}
-use lib.ListN.{getD, drop}
+use lib.ListN.{getD}
 use Rattle.model.specs.Basics.{pick, tab}
-use Rattle.model.specs.Bitmap.{Bits, from}
 use Rattle.model.specs.Column.{Elem, val}
 use Rattle.model.specs.Elements.{isIn}
 
@@ -24,7 +23,3 @@ keeps shared others seen e = not (isIn e seen) && pick shared (isIn e others) (n
 unfoldable pub kept : Bool → List Elem → List Elem → List Elem → List Elem
 kept shared others seen [] = []
 kept shared others seen (e ∷ es) = pick (keeps shared others seen e) (e ∷ kept shared others (seen ++ (e ∷ [])) es) (kept shared others (seen ++ (e ∷ [])) es)
-
--- the bitmap of the elements from element a on: from the byte on that holds the first of their bits
-unfoldable pub bitsFrom : Bits → ℕ → Bits
-bitsFrom eb a = from ((eb .start + a) % 8) (drop ((eb .start + a) / 8) (eb .bytes))

@@ -2,13 +2,12 @@
 // After set_ops.rs of datafusion-functions-nested 55.2.0, Apache License 2.0, Apache Software Foundation; changed, see NOTICE.
 use column::elements;
 use model::SetOp;
-ghost use Prim.Native.Nat.{_%_, _+_, _<_, _^_, _≤_};
-ghost use Rattle.bitmap.specs.Push.{Covers};
+ghost use Prim.Native.Nat.{_+_, _<_, _^_};
 ghost use Rattle.column.specs.Outputs.{ReadableElems, RoomForElems, Writes};
 ghost use Rattle.model.specs.Basics.{pick};
 ghost use Rattle.model.specs.Elements.{setElems};
-ghost use Rattle.model.specs.Held.{heldBits, heldElems, lentBits, lentElem, lentElems};
-ghost use Rattle.pairs.specs.Pairs.{bitsFrom, keeps, kept};
+ghost use Rattle.model.specs.Held.{heldElems, lentElem, lentElems};
+ghost use Rattle.pairs.specs.Pairs.{keeps, kept};
 ghost use lib.Dec.{ltb};
 ghost use lib.ListN.{length};
 ghost use mathlib.Core.List.{[]};
@@ -247,27 +246,6 @@ fn longer<'a>(left: &'a [i64], right: &'a [i64]) -> &'a [i64]
     left
 }
 
-// The bitmap of the elements from element a on: from the byte on that holds the first of their bits.
-pub fn row_bits(elements: &[u8], estart: usize, a: usize, n: usize) -> &[u8]
-    requires { ⌜ Covers (heldBits elements estart) n ⌝ }
-    requires { ⌜ a ≤ n ⌝ }
-    ensures { λ r. ⌜ now r ≡ bitsFrom (lentBits elements estart) a .bytes ⌝ }
-{
-    if elements.len() == 0 {
-        return elements;
-    }
-    let byte = a / 8 + (estart + a % 8) / 8;
-    &elements[byte..]
-}
-
-// The place of that first bit in its byte.
-pub fn row_start(estart: usize, a: usize) -> usize
-    requires { ⌜ estart < 8 ⌝ }
-    ensures { λ r. ⌜ r ≡ (estart + a) % 8 ⌝ }
-{
-    (estart + a % 8) % 8
-}
-
 // The length of the intersection. Both rows are cut out of their columns, and the values walked are the part that `longer` hands
 // back. References with lifetimes of their own can't be one result or one local (the prover doesn't cover it), so the values of
 // both rows share a lifetime here and in each caller; bitmap and other row, which don't, go by the same test in two calls.
@@ -289,8 +267,8 @@ fn measure_intersect<'a>(
 {
     let walked = longer(&lvalues[a..a + n], &rvalues[b..b + m]);
     if n < m {
-        let bits = row_bits(relements, rstart, b, rvalues.len());
-        let start = row_start(rstart, b);
+        let bits = bitmap::bits_from(relements, rstart, b, rvalues.len());
+        let start = bitmap::start_from(rstart, b);
         return measure_kept(
             walked,
             bits,
@@ -305,8 +283,8 @@ fn measure_intersect<'a>(
             true,
         );
     }
-    let bits = row_bits(lelements, lstart, a, lvalues.len());
-    let start = row_start(lstart, a);
+    let bits = bitmap::bits_from(lelements, lstart, a, lvalues.len());
+    let start = bitmap::start_from(lstart, a);
     measure_kept(
         walked,
         bits,
@@ -345,8 +323,8 @@ fn write_intersect<'a>(
 {
     let walked = longer(&lvalues[a..a + n], &rvalues[b..b + m]);
     if n < m {
-        let bits = row_bits(relements, rstart, b, rvalues.len());
-        let start = row_start(rstart, b);
+        let bits = bitmap::bits_from(relements, rstart, b, rvalues.len());
+        let start = bitmap::start_from(rstart, b);
         return write_kept(
             walked,
             bits,
@@ -364,8 +342,8 @@ fn write_intersect<'a>(
             at,
         );
     }
-    let bits = row_bits(lelements, lstart, a, lvalues.len());
-    let start = row_start(lstart, a);
+    let bits = bitmap::bits_from(lelements, lstart, a, lvalues.len());
+    let start = bitmap::start_from(lstart, a);
     write_kept(
         walked,
         bits,

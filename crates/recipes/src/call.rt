@@ -37,20 +37,20 @@ fn refusal<'a>(
     estart: usize,
     roffsets: &[i32],
     rrows: &[u8],
-    rrstart: usize,
+    r_rstart: usize,
     rvalues: &'a [i64],
     relements: &[u8],
-    restart: usize,
+    r_estart: usize,
     args: &[i64],
     bits: &[u8],
     start: usize,
 ) -> u8
     requires { ⌜ rstart < 8 ⌝ }
     requires { ⌜ estart < 8 ⌝ }
-    requires { ⌜ rrstart < 8 ⌝ }
-    requires { ⌜ restart < 8 ⌝ }
+    requires { ⌜ «r_rstart» < 8 ⌝ }
+    requires { ⌜ «r_estart» < 8 ⌝ }
     requires { ⌜ start < 8 ⌝ }
-    ensures { λ k. ⌜ k ≡ recipeRefusal (recipe (now (numbers .entry)) columns) (lentFrom offsets rows rstart values elements estart) (lentFrom roffsets rrows rrstart rvalues relements restart) (lentArgumentsFrom args bits start) ⌝ }
+    ensures { λ k. ⌜ k ≡ recipeRefusal (recipe (now (numbers .entry)) columns) (lentFrom offsets rows rstart values elements estart) (lentFrom roffsets rrows «r_rstart» rvalues relements «r_estart») (lentArgumentsFrom args bits start) ⌝ }
 {
     if check::is_malformed(numbers, columns) {
         return 10;
@@ -64,10 +64,10 @@ fn refusal<'a>(
         estart,
         roffsets,
         rrows,
-        rrstart,
+        r_rstart,
         rvalues,
         relements,
-        restart,
+        r_estart,
     );
     if k != 0 {
         return k;
@@ -85,7 +85,7 @@ fn refusal<'a>(
 }
 
 // The steps of a recipe that nothing refuses before them: none copies the list, one writes the output, more go through the trays.
-fn first<'a>(
+fn take_steps<'a>(
     numbers: &[u32],
     n: usize,
     offsets: &[i32],
@@ -96,10 +96,10 @@ fn first<'a>(
     estart: usize,
     roffsets: &[i32],
     rrows: &[u8],
-    rrstart: usize,
+    r_rstart: usize,
     rvalues: &'a [i64],
     relements: &[u8],
-    restart: usize,
+    r_estart: usize,
     args: &[i64],
     bits: &[u8],
     start: usize,
@@ -118,9 +118,9 @@ fn first<'a>(
 ) -> ListAnswer
     requires column { ⌜ Readable (held offsets rows rstart values elements estart) ⌝ }
     requires rows { ⌜ rowCount (now offsets) ≡ n ⌝ }
-    requires beside { ⌜ Beside n (held roffsets rrows rrstart rvalues relements restart) (heldArguments args bits start) ⌝ }
+    requires beside { ⌜ Beside n (held roffsets rrows «r_rstart» rvalues relements «r_estart») (heldArguments args bits start) ⌝ }
     requires fit { ⌜ AllFit (now numbers) n (length (now args)) ⌝ }
-    ensures { λ a. ⌜ ListAnswers (stepped narrow (stepsOf (now (numbers .entry))) (rowsOf (lentFrom offsets rows rstart values elements estart)) (rowsOf (lentFrom roffsets rrows rrstart rvalues relements restart)) (shownBy (lentArgumentsFrom args bits start)) (roomOf «one_offsets» «one_rows» «one_values» «one_elements») (roomOf «two_offsets» «two_rows» «two_values» «two_elements»)) a «out_offsets» «out_rows» «out_values» «out_elements» ⌝ }
+    ensures { λ a. ⌜ ListAnswers (stepped narrow (stepsOf (now (numbers .entry))) (rowsOf (lentFrom offsets rows rstart values elements estart)) (rowsOf (lentFrom roffsets rrows «r_rstart» rvalues relements «r_estart»)) (shownBy (lentArgumentsFrom args bits start)) (roomOf «one_offsets» «one_rows» «one_values» «one_elements») (roomOf «two_offsets» «two_rows» «two_values» «two_elements»)) a «out_offsets» «out_rows» «out_values» «out_elements» ⌝ }
 {
     let count = numbers.len() / 4;
     if count == 0 {
@@ -156,10 +156,10 @@ fn first<'a>(
             estart,
             roffsets,
             rrows,
-            rrstart,
+            r_rstart,
             rvalues,
             relements,
-            restart,
+            r_estart,
             args,
             bits,
             start,
@@ -183,10 +183,10 @@ fn first<'a>(
         estart,
         roffsets,
         rrows,
-        rrstart,
+        r_rstart,
         rvalues,
         relements,
-        restart,
+        r_estart,
         args,
         bits,
         start,
@@ -210,10 +210,10 @@ fn first<'a>(
             m,
             roffsets,
             rrows,
-            rrstart,
+            r_rstart,
             rvalues,
             relements,
-            restart,
+            r_estart,
             args,
             bits,
             start,
@@ -245,10 +245,10 @@ pub(crate) fn attempt<'a>(
     estart: usize,
     roffsets: &[i32],
     rrows: &[u8],
-    rrstart: usize,
+    r_rstart: usize,
     rvalues: &'a [i64],
     relements: &[u8],
-    restart: usize,
+    r_estart: usize,
     args: &[i64],
     bits: &[u8],
     start: usize,
@@ -267,10 +267,10 @@ pub(crate) fn attempt<'a>(
 ) -> ListAnswer
     requires { ⌜ rstart < 8 ⌝ }
     requires { ⌜ estart < 8 ⌝ }
-    requires { ⌜ rrstart < 8 ⌝ }
-    requires { ⌜ restart < 8 ⌝ }
+    requires { ⌜ «r_rstart» < 8 ⌝ }
+    requires { ⌜ «r_estart» < 8 ⌝ }
     requires { ⌜ start < 8 ⌝ }
-    ensures { λ a. ⌜ ListAnswers (recipeOutcome narrow (recipe (now (numbers .entry)) columns) (lentFrom offsets rows rstart values elements estart) (lentFrom roffsets rrows rrstart rvalues relements restart) (lentArgumentsFrom args bits start) (roomOf «one_offsets» «one_rows» «one_values» «one_elements») (roomOf «two_offsets» «two_rows» «two_values» «two_elements»)) a «out_offsets» «out_rows» «out_values» «out_elements» ⌝ }
+    ensures { λ a. ⌜ ListAnswers (recipeOutcome narrow (recipe (now (numbers .entry)) columns) (lentFrom offsets rows rstart values elements estart) (lentFrom roffsets rrows «r_rstart» rvalues relements «r_estart») (lentArgumentsFrom args bits start) (roomOf «one_offsets» «one_rows» «one_values» «one_elements») (roomOf «two_offsets» «two_rows» «two_values» «two_elements»)) a «out_offsets» «out_rows» «out_values» «out_elements» ⌝ }
 {
     let k = refusal(
         numbers,
@@ -283,10 +283,10 @@ pub(crate) fn attempt<'a>(
         estart,
         roffsets,
         rrows,
-        rrstart,
+        r_rstart,
         rvalues,
         relements,
-        restart,
+        r_estart,
         args,
         bits,
         start,
@@ -295,7 +295,7 @@ pub(crate) fn attempt<'a>(
         return ListAnswer::Refused(k);
     }
     let n = offsets::row_count(offsets);
-    first(
+    take_steps(
         numbers,
         n,
         offsets,
@@ -306,10 +306,10 @@ pub(crate) fn attempt<'a>(
         estart,
         roffsets,
         rrows,
-        rrstart,
+        r_rstart,
         rvalues,
         relements,
-        restart,
+        r_estart,
         args,
         bits,
         start,

@@ -18,7 +18,7 @@ use Rattle.index.specs.Place.{indexBound}
 abbrev pub foundAt : (ℕ → Elem) → ℕ → ℕ → Elem
 foundAt E i end = pick (ltb i end) (E i) nul
 
--- i is where the first valid one of the n elements from a on stands, or the end
+-- what stands at i, or a null at the end, is what any-value makes of the n elements from a on
 pub record FirstAt (E : ℕ → Elem) (a n i : ℕ) : Type 0 where
   pub inside : i ≤ a + n
   pub found : foundAt E i (a + n) ≡ firstValid (tab E a n)

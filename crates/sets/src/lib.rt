@@ -31,28 +31,28 @@ ghost use mathlib.Core.Path.{_≡_};
 pub fn lists_refusal(
     loffsets: &[i32],
     lrows: &[u8],
-    lrstart: usize,
+    l_rstart: usize,
     lvalues: &[i64],
     lelements: &[u8],
-    lestart: usize,
+    l_estart: usize,
     roffsets: &[i32],
     rrows: &[u8],
-    rrstart: usize,
+    r_rstart: usize,
     rvalues: &[i64],
     relements: &[u8],
-    restart: usize,
+    r_estart: usize,
 ) -> u8
-    requires { ⌜ lrstart < 8 ⌝ }
-    requires { ⌜ lestart < 8 ⌝ }
-    requires { ⌜ rrstart < 8 ⌝ }
-    requires { ⌜ restart < 8 ⌝ }
-    ensures { λ k. ⌜ k ≡ columnsRefusal (lentFrom loffsets lrows lrstart lvalues lelements lestart ∷ lentFrom roffsets rrows rrstart rvalues relements restart ∷ []) [] ⌝ }
+    requires { ⌜ «l_rstart» < 8 ⌝ }
+    requires { ⌜ «l_estart» < 8 ⌝ }
+    requires { ⌜ «r_rstart» < 8 ⌝ }
+    requires { ⌜ «r_estart» < 8 ⌝ }
+    ensures { λ k. ⌜ k ≡ columnsRefusal (lentFrom loffsets lrows «l_rstart» lvalues lelements «l_estart» ∷ lentFrom roffsets rrows «r_rstart» rvalues relements «r_estart» ∷ []) [] ⌝ }
 {
-    let left = checks::list_refusal(loffsets, lrows, lrstart, lvalues, lelements, lestart);
+    let left = checks::list_refusal(loffsets, lrows, l_rstart, lvalues, lelements, l_estart);
     if left == 1 {
         return 1;
     }
-    let right = checks::list_refusal(roffsets, rrows, rrstart, rvalues, relements, restart);
+    let right = checks::list_refusal(roffsets, rrows, r_rstart, rvalues, relements, r_estart);
     if right == 1 {
         return 1;
     }
@@ -63,14 +63,21 @@ pub fn lists_refusal(
 }
 
 // Whether row r of n is valid in both lists.
-fn are_valid(lrows: &[u8], lrstart: usize, rrows: &[u8], rrstart: usize, n: usize, r: usize) -> bool
-    requires left { ⌜ Covers (heldBits lrows lrstart) n ⌝ }
-    requires right { ⌜ Covers (heldBits rrows rrstart) n ⌝ }
+fn are_valid(
+    lrows: &[u8],
+    l_rstart: usize,
+    rrows: &[u8],
+    r_rstart: usize,
+    n: usize,
+    r: usize,
+) -> bool
+    requires left { ⌜ Covers (heldBits lrows «l_rstart») n ⌝ }
+    requires right { ⌜ Covers (heldBits rrows «r_rstart») n ⌝ }
     requires there { ⌜ r < n ⌝ }
-    ensures { λ v. ⌜ v ≡ validAt (lentBits lrows lrstart) r && validAt (lentBits rrows rrstart) r ⌝ }
+    ensures { λ v. ⌜ v ≡ validAt (lentBits lrows «l_rstart») r && validAt (lentBits rrows «r_rstart») r ⌝ }
 {
-    if bitmap::is_valid(lrows, lrstart, r, n) {
-        return bitmap::is_valid(rrows, rrstart, r, n);
+    if bitmap::is_valid(lrows, l_rstart, r, n) {
+        return bitmap::is_valid(rrows, r_rstart, r, n);
     }
     false
 }
@@ -79,41 +86,41 @@ fn are_valid(lrows: &[u8], lrstart: usize, rrows: &[u8], rrstart: usize, n: usiz
 fn measure_pair<'a>(
     op: SetOp,
     lrows: &[u8],
-    lrstart: usize,
+    l_rstart: usize,
     lvalues: &'a [i64],
     lelements: &[u8],
-    lestart: usize,
+    l_estart: usize,
     a: usize,
     b: usize,
     rrows: &[u8],
-    rrstart: usize,
+    r_rstart: usize,
     rvalues: &'a [i64],
     relements: &[u8],
-    restart: usize,
+    r_estart: usize,
     c: usize,
     d: usize,
     n: usize,
     r: usize,
 ) -> usize
-    requires left { ⌜ ReadableRow lrows lrstart n lvalues lelements lestart r a b ⌝ }
-    requires right { ⌜ ReadableRow rrows rrstart n rvalues relements restart r c d ⌝ }
+    requires left { ⌜ ReadableRow lrows «l_rstart» n lvalues lelements «l_estart» r a b ⌝ }
+    requires right { ⌜ ReadableRow rrows «r_rstart» n rvalues relements «r_estart» r c d ⌝ }
     requires small { ⌜ b ≤ narrow .offset ⌝ }
     requires low { ⌜ d ≤ narrow .offset ⌝ }
-    ensures { λ k. ⌜ k ≡ length (elemsOf (onRows (setElems op) (rowFrom (lentBits lrows lrstart) (lentElem lvalues lelements lestart) r a b) (rowFrom (lentBits rrows rrstart) (lentElem rvalues relements restart) r c d))) ⌝ }
+    ensures { λ k. ⌜ k ≡ length (elemsOf (onRows (setElems op) (rowFrom (lentBits lrows «l_rstart») (lentElem lvalues lelements «l_estart») r a b) (rowFrom (lentBits rrows «r_rstart») (lentElem rvalues relements «r_estart») r c d))) ⌝ }
 {
-    if !are_valid(lrows, lrstart, rrows, rrstart, n, r) {
+    if !are_valid(lrows, l_rstart, rrows, r_rstart, n, r) {
         return 0;
     }
     set_ops::measure_set(
         op,
         lvalues,
         lelements,
-        lestart,
+        l_estart,
         a,
         b - a,
         rvalues,
         relements,
-        restart,
+        r_estart,
         c,
         d - c,
     )
@@ -123,17 +130,17 @@ fn measure_pair<'a>(
 fn put_pair<'a>(
     op: SetOp,
     lrows: &[u8],
-    lrstart: usize,
+    l_rstart: usize,
     lvalues: &'a [i64],
     lelements: &[u8],
-    lestart: usize,
+    l_estart: usize,
     a: usize,
     b: usize,
     rrows: &[u8],
-    rrstart: usize,
+    r_rstart: usize,
     rvalues: &'a [i64],
     relements: &[u8],
-    restart: usize,
+    r_estart: usize,
     c: usize,
     d: usize,
     n: usize,
@@ -143,12 +150,12 @@ fn put_pair<'a>(
     out_elements: &mut [u8],
     at: usize,
 ) -> usize
-    requires left { ⌜ ReadableRow lrows lrstart n lvalues lelements lestart r a b ⌝ }
-    requires right { ⌜ ReadableRow rrows rrstart n rvalues relements restart r c d ⌝ }
-    requires room { ⌜ RoomForRow (onRows (setElems op) (rowFrom (heldBits lrows lrstart) (heldElem lvalues lelements lestart) r a b) (rowFrom (heldBits rrows rrstart) (heldElem rvalues relements restart) r c d)) r at «out_rows» «out_values» «out_elements» ⌝ }
-    ensures { λ k. ⌜ WritesRow (onRows (setElems op) (rowFrom (lentBits lrows lrstart) (lentElem lvalues lelements lestart) r a b) (rowFrom (lentBits rrows rrstart) (lentElem rvalues relements restart) r c d)) r at «out_rows» «out_values» «out_elements» k ⌝ }
+    requires left { ⌜ ReadableRow lrows «l_rstart» n lvalues lelements «l_estart» r a b ⌝ }
+    requires right { ⌜ ReadableRow rrows «r_rstart» n rvalues relements «r_estart» r c d ⌝ }
+    requires room { ⌜ RoomForRow (onRows (setElems op) (rowFrom (heldBits lrows «l_rstart») (heldElem lvalues lelements «l_estart») r a b) (rowFrom (heldBits rrows «r_rstart») (heldElem rvalues relements «r_estart») r c d)) r at «out_rows» «out_values» «out_elements» ⌝ }
+    ensures { λ k. ⌜ WritesRow (onRows (setElems op) (rowFrom (lentBits lrows «l_rstart») (lentElem lvalues lelements «l_estart») r a b) (rowFrom (lentBits rrows «r_rstart») (lentElem rvalues relements «r_estart») r c d)) r at «out_rows» «out_values» «out_elements» k ⌝ }
 {
-    if !are_valid(lrows, lrstart, rrows, rrstart, n, r) {
+    if !are_valid(lrows, l_rstart, rrows, r_rstart, n, r) {
         bitmap::push_bit(out_rows, r, false);
         return at;
     }
@@ -156,12 +163,12 @@ fn put_pair<'a>(
         op,
         lvalues,
         lelements,
-        lestart,
+        l_estart,
         a,
         b - a,
         rvalues,
         relements,
-        restart,
+        r_estart,
         c,
         d - c,
         out_values,
@@ -177,21 +184,21 @@ fn measure_pairs<'a>(
     op: SetOp,
     loffsets: &[i32],
     lrows: &[u8],
-    lrstart: usize,
+    l_rstart: usize,
     lvalues: &'a [i64],
     lelements: &[u8],
-    lestart: usize,
+    l_estart: usize,
     roffsets: &[i32],
     rrows: &[u8],
-    rrstart: usize,
+    r_rstart: usize,
     rvalues: &'a [i64],
     relements: &[u8],
-    restart: usize,
+    r_estart: usize,
 ) -> usize
-    requires left { ⌜ Readable (held loffsets lrows lrstart lvalues lelements lestart) ⌝ }
-    requires right { ⌜ Readable (held roffsets rrows rrstart rvalues relements restart) ⌝ }
+    requires left { ⌜ Readable (held loffsets lrows «l_rstart» lvalues lelements «l_estart») ⌝ }
+    requires right { ⌜ Readable (held roffsets rrows «r_rstart» rvalues relements «r_estart») ⌝ }
     requires equal { ⌜ rowCount (now roffsets) ≡ rowCount (now loffsets) ⌝ }
-    ensures { λ m. ⌜ m ≡ length (flat (pairRows op (lentFrom loffsets lrows lrstart lvalues lelements lestart) (lentFrom roffsets rrows rrstart rvalues relements restart))) ⌝ }
+    ensures { λ m. ⌜ m ≡ length (flat (pairRows op (lentFrom loffsets lrows «l_rstart» lvalues lelements «l_estart») (lentFrom roffsets rrows «r_rstart» rvalues relements «r_estart»))) ⌝ }
     ensures { λ m. ⌜ m ≤ boundOf op (narrow .offset) (narrow .offset) ⌝ }
 {
     let n = offsets::row_count(loffsets);
@@ -206,17 +213,17 @@ fn measure_pairs<'a>(
         let len = measure_pair(
             op,
             lrows,
-            lrstart,
+            l_rstart,
             lvalues,
             lelements,
-            lestart,
+            l_estart,
             a,
             b,
             rrows,
-            rrstart,
+            r_rstart,
             rvalues,
             relements,
-            restart,
+            r_estart,
             c,
             d,
             n,
@@ -234,27 +241,27 @@ fn write_pairs<'a>(
     op: SetOp,
     loffsets: &[i32],
     lrows: &[u8],
-    lrstart: usize,
+    l_rstart: usize,
     lvalues: &'a [i64],
     lelements: &[u8],
-    lestart: usize,
+    l_estart: usize,
     roffsets: &[i32],
     rrows: &[u8],
-    rrstart: usize,
+    r_rstart: usize,
     rvalues: &'a [i64],
     relements: &[u8],
-    restart: usize,
+    r_estart: usize,
     out_offsets: &mut [i32],
     out_rows: &mut [u8],
     out_values: &mut [i64],
     out_elements: &mut [u8],
 )
-    requires left { ⌜ Readable (held loffsets lrows lrstart lvalues lelements lestart) ⌝ }
-    requires right { ⌜ Readable (held roffsets rrows rrstart rvalues relements restart) ⌝ }
+    requires left { ⌜ Readable (held loffsets lrows «l_rstart» lvalues lelements «l_estart») ⌝ }
+    requires right { ⌜ Readable (held roffsets rrows «r_rstart» rvalues relements «r_estart») ⌝ }
     requires equal { ⌜ rowCount (now roffsets) ≡ rowCount (now loffsets) ⌝ }
-    requires small { ⌜ length (flat (pairRows op (held loffsets lrows lrstart lvalues lelements lestart) (held roffsets rrows rrstart rvalues relements restart))) ≤ narrow .offset ⌝ }
-    requires room { ⌜ RoomIn (rowCount (now loffsets)) (length (flat (pairRows op (held loffsets lrows lrstart lvalues lelements lestart) (held roffsets rrows rrstart rvalues relements restart)))) «out_offsets» «out_rows» «out_values» «out_elements» ⌝ }
-    ensures { λ _. ⌜ Fills (pairRows op (lentFrom loffsets lrows lrstart lvalues lelements lestart) (lentFrom roffsets rrows rrstart rvalues relements restart)) «out_offsets» «out_rows» «out_values» «out_elements» ⌝ }
+    requires small { ⌜ length (flat (pairRows op (held loffsets lrows «l_rstart» lvalues lelements «l_estart») (held roffsets rrows «r_rstart» rvalues relements «r_estart»))) ≤ narrow .offset ⌝ }
+    requires room { ⌜ RoomIn (rowCount (now loffsets)) (length (flat (pairRows op (held loffsets lrows «l_rstart» lvalues lelements «l_estart») (held roffsets rrows «r_rstart» rvalues relements «r_estart»)))) «out_offsets» «out_rows» «out_values» «out_elements» ⌝ }
+    ensures { λ _. ⌜ Fills (pairRows op (lentFrom loffsets lrows «l_rstart» lvalues lelements «l_estart») (lentFrom roffsets rrows «r_rstart» rvalues relements «r_estart»)) «out_offsets» «out_rows» «out_values» «out_elements» ⌝ }
 {
     let n = offsets::row_count(loffsets);
     offsets::put_offset(out_offsets, 0, 0);
@@ -269,17 +276,17 @@ fn write_pairs<'a>(
         at = put_pair(
             op,
             lrows,
-            lrstart,
+            l_rstart,
             lvalues,
             lelements,
-            lestart,
+            l_estart,
             a,
             b,
             rrows,
-            rrstart,
+            r_rstart,
             rvalues,
             relements,
-            restart,
+            r_estart,
             c,
             d,
             n,
@@ -315,41 +322,41 @@ pub fn after_three<'a>(
     op: SetOp,
     loffsets: &[i32],
     lrows: &[u8],
-    lrstart: usize,
+    l_rstart: usize,
     lvalues: &'a [i64],
     lelements: &[u8],
-    lestart: usize,
+    l_estart: usize,
     roffsets: &[i32],
     rrows: &[u8],
-    rrstart: usize,
+    r_rstart: usize,
     rvalues: &'a [i64],
     relements: &[u8],
-    restart: usize,
+    r_estart: usize,
     out_offsets: &mut [i32],
     out_rows: &mut [u8],
     out_values: &mut [i64],
     out_elements: &mut [u8],
 ) -> ListAnswer
-    requires left { ⌜ Readable (held loffsets lrows lrstart lvalues lelements lestart) ⌝ }
-    requires right { ⌜ Readable (held roffsets rrows rrstart rvalues relements restart) ⌝ }
+    requires left { ⌜ Readable (held loffsets lrows «l_rstart» lvalues lelements «l_estart») ⌝ }
+    requires right { ⌜ Readable (held roffsets rrows «r_rstart» rvalues relements «r_estart») ⌝ }
     requires equal { ⌜ rowCount (now roffsets) ≡ rowCount (now loffsets) ⌝ }
-    ensures { λ k. ⌜ ListAnswers (afterThree narrow (setOp op (rowsOf (lentFrom loffsets lrows lrstart lvalues lelements lestart)) (rowsOf (lentFrom roffsets rrows rrstart rvalues relements restart)))) k «out_offsets» «out_rows» «out_values» «out_elements» ⌝ }
+    ensures { λ k. ⌜ ListAnswers (afterThree narrow (setOp op (rowsOf (lentFrom loffsets lrows «l_rstart» lvalues lelements «l_estart»)) (rowsOf (lentFrom roffsets rrows «r_rstart» rvalues relements «r_estart»)))) k «out_offsets» «out_rows» «out_values» «out_elements» ⌝ }
 {
     let n = offsets::row_count(loffsets);
     let m = measure_pairs(
         op,
         loffsets,
         lrows,
-        lrstart,
+        l_rstart,
         lvalues,
         lelements,
-        lestart,
+        l_estart,
         roffsets,
         rrows,
-        rrstart,
+        r_rstart,
         rvalues,
         relements,
-        restart,
+        r_estart,
     );
     let long = union_refusal(op, m);
     if long != 0 {
@@ -369,16 +376,16 @@ pub fn after_three<'a>(
         op,
         loffsets,
         lrows,
-        lrstart,
+        l_rstart,
         lvalues,
         lelements,
-        lestart,
+        l_estart,
         roffsets,
         rrows,
-        rrstart,
+        r_rstart,
         rvalues,
         relements,
-        restart,
+        r_estart,
         out_offsets,
         out_rows,
         out_values,
@@ -392,40 +399,40 @@ pub fn run<'a>(
     op: SetOp,
     loffsets: &[i32],
     lrows: &[u8],
-    lrstart: usize,
+    l_rstart: usize,
     lvalues: &'a [i64],
     lelements: &[u8],
-    lestart: usize,
+    l_estart: usize,
     roffsets: &[i32],
     rrows: &[u8],
-    rrstart: usize,
+    r_rstart: usize,
     rvalues: &'a [i64],
     relements: &[u8],
-    restart: usize,
+    r_estart: usize,
     out_offsets: &mut [i32],
     out_rows: &mut [u8],
     out_values: &mut [i64],
     out_elements: &mut [u8],
 ) -> ListAnswer
-    requires { ⌜ lrstart < 8 ⌝ }
-    requires { ⌜ lestart < 8 ⌝ }
-    requires { ⌜ rrstart < 8 ⌝ }
-    requires { ⌜ restart < 8 ⌝ }
-    ensures { λ k. ⌜ ListAnswers (listOutcome narrow (setOp op (lentFrom loffsets lrows lrstart lvalues lelements lestart) (lentFrom roffsets rrows rrstart rvalues relements restart))) k «out_offsets» «out_rows» «out_values» «out_elements» ⌝ }
+    requires { ⌜ «l_rstart» < 8 ⌝ }
+    requires { ⌜ «l_estart» < 8 ⌝ }
+    requires { ⌜ «r_rstart» < 8 ⌝ }
+    requires { ⌜ «r_estart» < 8 ⌝ }
+    ensures { λ k. ⌜ ListAnswers (listOutcome narrow (setOp op (lentFrom loffsets lrows «l_rstart» lvalues lelements «l_estart») (lentFrom roffsets rrows «r_rstart» rvalues relements «r_estart»))) k «out_offsets» «out_rows» «out_values» «out_elements» ⌝ }
 {
     let k = lists_refusal(
         loffsets,
         lrows,
-        lrstart,
+        l_rstart,
         lvalues,
         lelements,
-        lestart,
+        l_estart,
         roffsets,
         rrows,
-        rrstart,
+        r_rstart,
         rvalues,
         relements,
-        restart,
+        r_estart,
     );
     if k != 0 {
         return ListAnswer::Refused(k);
@@ -437,16 +444,16 @@ pub fn run<'a>(
         op,
         loffsets,
         lrows,
-        lrstart,
+        l_rstart,
         lvalues,
         lelements,
-        lestart,
+        l_estart,
         roffsets,
         rrows,
-        rrstart,
+        r_rstart,
         rvalues,
         relements,
-        restart,
+        r_estart,
         out_offsets,
         out_rows,
         out_values,

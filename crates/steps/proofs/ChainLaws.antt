@@ -26,7 +26,7 @@ use Rattle.ops.specs.Ops.{callOf}
 use Rattle.ops.specs.declared.ListOp.{ListOp}
 use Rattle.ops.specs.declared.ListOp.the-variants as L
 use Rattle.codes.specs.Codes.{stepOp}
-use Rattle.steps.specs.Steps.{front, Held, Steps, StepFits, opCall}
+use Rattle.steps.specs.Steps.{front, AtFront, Steps, StepFits, opCall}
 use Rattle.codes.specs.declared.StepOp.{StepOp}
 use Rattle.codes.specs.declared.StepOp.the-variants as S
 use Rattle.steps.proofs.RoundLaws.{held-over, rows-over}
@@ -109,7 +109,7 @@ module _ (s : Step) (ts : List Step) (ws rs : List Row) (es : List Elem) (a b o 
 pub record Carried (o : Outcome (List Row)) (oo′ : List ℤ) (ro′ : List ℕ) (vo′ : List ℤ) (eo′ : List ℕ) (n m : ℕ) : Type 0 where
   pub rows : List Row
   pub is : o ≡ made rows
-  pub held : Held n m oo′ ro′ vo′ eo′
+  pub held : AtFront n m oo′ ro′ vo′ eo′
   pub shown : rowsOf (front oo′ ro′ vo′ eo′ n m) ≡ rows
 
 pub carries : (o : Outcome (List Row)) (a : ListAnswer) (n r m p q : ℕ) {oo oo′ : List ℤ} {ro ro′ : List ℕ} {vo vo′ : List ℤ} {eo eo′ : List ℕ}
@@ -130,7 +130,7 @@ carries o a n r m p q {oo} {oo′} {ro} {ro′} {vo} {vo′} {eo} {eo′} h e f 
     }
 
 -- the rows at the front of a tray are as many as it holds
-pub front-rows : {n m : ℕ} {o : List ℤ} {r : List ℕ} {v : List ℤ} {e : List ℕ} → Held n m o r v e → length (rowsOf (front o r v e n m)) ≡ n
+pub front-rows : {n m : ℕ} {o : List ℤ} {r : List ℕ} {v : List ℤ} {e : List ℕ} → AtFront n m o r v e → length (rowsOf (front o r v e n m)) ≡ n
 front-rows {n} {m} {o} {r} {v} {e} h = let l = length-take-le (n + 1) o (h .offsets) in length-rows (front o r v e n m) ∙ omega arith
 
 pub same-room : {x x′ y y′ z z′ w w′ : ℕ} → x′ ≡ x → y′ ≡ y → z′ ≡ z → w′ ≡ w → room x′ y′ z′ w′ ≡ room x y z w

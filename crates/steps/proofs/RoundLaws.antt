@@ -20,7 +20,7 @@ use Rattle.bitmap.proofs.PackLaws.{valid-pack}
 use Rattle.column.specs.Put.{Readable}
 use Rattle.column.proofs.RowLaws.{flat-append}
 use Rattle.column.proofs.PutLaws.{flat-snoc}
-use Rattle.steps.specs.Steps.{front, Held}
+use Rattle.steps.specs.Steps.{front, AtFront}
 
 -- ---- elements
 
@@ -154,7 +154,7 @@ module _ (ws : List Row) (d₁ : List ℤ) (d₂ : List ℕ) (d₃ : List ℤ) (
         take-at (formElements (flat ws)) (drop (length (formElements (flat ws))) d₄) (bytesFor m) (length-pack (map isVal (flat ws)) ∙ ap bytesFor (length-map isVal (flat ws) ∙ sym f)),
       )
 
-  pub held-over : Held n m (over (formOffsets ws) d₁) (over (formRows ws) d₂) (over (formValues (flat ws)) d₃) (over (formElements (flat ws)) d₄)
+  pub held-over : AtFront n m (over (formOffsets ws) d₁) (over (formRows ws) d₂) (over (formValues (flat ws)) d₃) (over (formElements (flat ws)) d₄)
   held-over = record {
     offsets = omega (arith, length-append (formOffsets ws) (drop (length (formOffsets ws)) d₁), length-offsets 0 (map lengthOf ws), length-map lengthOf ws);
     rows = omega (arith, length-append (formRows ws) (drop (length (formRows ws)) d₂), length-pack (map isRow ws), length-map isRow ws);

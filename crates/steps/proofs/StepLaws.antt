@@ -21,8 +21,9 @@ use Rattle.model.proofs.ColumnLaws.{argument-at, length-shown}
 use Rattle.model.proofs.TabLaws.{tab-ext, length-tab}
 use Rattle.bitmap.specs.Push.{Covers}
 use Rattle.column.specs.Put.{Source}
-use Rattle.pairs.specs.Pairs.{bitsFrom}
-use Rattle.pairs.proofs.PartLaws.{row-from, covers-from, length-part}
+use Rattle.bitmap.specs.Push.{bitsFrom}
+use Rattle.bitmap.proofs.PartLaws.{covers-from}
+use Rattle.pairs.proofs.PartLaws.{row-from, length-part}
 use Rattle.ops.specs.Ops.{callOf, takesOf}
 use Rattle.ops.specs.declared.ListOp.{ListOp}
 use Rattle.ops.specs.declared.ListOp.the-variants as L

@@ -43,7 +43,7 @@ front o r v e n m = column (take (n + 1) o) (from 0 (take (bytesFor n) r)) (take
 abbrev pub lentFront : Slice ℤ → Slice ℕ → Slice ℤ → Slice ℕ → ℕ → ℕ → Column
 lentFront o r v e n m = front (now (o .entry)) (now (r .entry)) (now (v .entry)) (now (e .entry)) n m
 
-pub record Held (n m : ℕ) (o : List ℤ) (r : List ℕ) (v : List ℤ) (e : List ℕ) : Type 0 where
+pub record AtFront (n m : ℕ) (o : List ℤ) (r : List ℕ) (v : List ℤ) (e : List ℕ) : Type 0 where
   pub offsets : n + 1 ≤ length o
   pub rows : bytesFor n ≤ length r
   pub values : m ≤ length v

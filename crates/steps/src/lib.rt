@@ -2,7 +2,6 @@
 use codes::StepOp;
 use model::ListAnswer;
 use ops::ListOp;
-use pairs::set_ops;
 ghost use Prim.Native.Nat.{_+_, _-_, _≤_};
 ghost use Rattle.bitmap.specs.Push.{Covers};
 ghost use Rattle.codes.specs.Codes.{step};
@@ -15,7 +14,7 @@ ghost use Rattle.model.specs.Limits.{narrow};
 ghost use Rattle.model.specs.Outcome.{afterThree};
 ghost use Rattle.model.specs.Recipe.{carried, columnOf, stepAt, stepCall};
 ghost use Rattle.ops.specs.Ops.{callOf};
-ghost use Rattle.steps.specs.Steps.{Beside, Held, StepFits, Steps, Uses, lentFront};
+ghost use Rattle.steps.specs.Steps.{Beside, AtFront, StepFits, Steps, Uses, lentFront};
 ghost use lib.ListN.{drop, length, take};
 ghost use mathlib.Core.Path.{_≡_};
 
@@ -62,14 +61,14 @@ fn one_list(
     let b = second * n;
     let c = third * n;
     let x = column_values(0 < k, args, a, n);
-    let xbits = set_ops::row_bits(bits, start, a, args.len());
-    let xstart = set_ops::row_start(start, a);
+    let xbits = bitmap::bits_from(bits, start, a, args.len());
+    let xstart = bitmap::start_from(start, a);
     let y = column_values(1 < k, args, b, n);
-    let ybits = set_ops::row_bits(bits, start, b, args.len());
-    let ystart = set_ops::row_start(start, b);
+    let ybits = bitmap::bits_from(bits, start, b, args.len());
+    let ystart = bitmap::start_from(start, b);
     let z = column_values(2 < k, args, c, n);
-    let zbits = set_ops::row_bits(bits, start, c, args.len());
-    let zstart = set_ops::row_start(start, c);
+    let zbits = bitmap::bits_from(bits, start, c, args.len());
+    let zstart = bitmap::start_from(start, c);
     args::after_three(
         op,
         offsets,
@@ -109,10 +108,10 @@ pub fn step<'a>(
     estart: usize,
     roffsets: &[i32],
     rrows: &[u8],
-    rrstart: usize,
+    r_rstart: usize,
     rvalues: &'a [i64],
     relements: &[u8],
-    restart: usize,
+    r_estart: usize,
     args: &[i64],
     bits: &[u8],
     start: usize,
@@ -123,9 +122,9 @@ pub fn step<'a>(
 ) -> ListAnswer
     requires column { ⌜ Readable (held offsets rows rstart values elements estart) ⌝ }
     requires rows { ⌜ rowCount (now offsets) ≡ n ⌝ }
-    requires beside { ⌜ Beside n (held roffsets rrows rrstart rvalues relements restart) (heldArguments args bits start) ⌝ }
+    requires beside { ⌜ Beside n (held roffsets rrows «r_rstart» rvalues relements «r_estart») (heldArguments args bits start) ⌝ }
     requires fits { ⌜ StepFits (step code first second third) n (length (now args)) ⌝ }
-    ensures { λ k. ⌜ ListAnswers (afterThree narrow (stepCall (step code first second third) (rowsOf (lentFrom offsets rows rstart values elements estart)) (rowsOf (lentFrom roffsets rrows rrstart rvalues relements restart)) (shownBy (lentArgumentsFrom args bits start)))) k «out_offsets» «out_rows» «out_values» «out_elements» ⌝ }
+    ensures { λ k. ⌜ ListAnswers (afterThree narrow (stepCall (step code first second third) (rowsOf (lentFrom offsets rows rstart values elements estart)) (rowsOf (lentFrom roffsets rrows «r_rstart» rvalues relements «r_estart»)) (shownBy (lentArgumentsFrom args bits start)))) k «out_offsets» «out_rows» «out_values» «out_elements» ⌝ }
 {
     match codes::step_op(code) {
         StepOp::One(op) => one_list(
@@ -158,10 +157,10 @@ pub fn step<'a>(
             estart,
             roffsets,
             rrows,
-            rrstart,
+            r_rstart,
             rvalues,
             relements,
-            restart,
+            r_estart,
             out_offsets,
             out_rows,
             out_values,
@@ -184,10 +183,10 @@ fn step_from<'a>(
     from_elements: &[u8],
     roffsets: &[i32],
     rrows: &[u8],
-    rrstart: usize,
+    r_rstart: usize,
     rvalues: &'a [i64],
     relements: &[u8],
-    restart: usize,
+    r_estart: usize,
     args: &[i64],
     bits: &[u8],
     start: usize,
@@ -196,10 +195,10 @@ fn step_from<'a>(
     out_values: &mut [i64],
     out_elements: &mut [u8],
 ) -> ListAnswer
-    requires held { ⌜ Held n m (now «from_offsets») (now «from_rows») (now «from_values») (now «from_elements») ⌝ }
-    requires beside { ⌜ Beside n (held roffsets rrows rrstart rvalues relements restart) (heldArguments args bits start) ⌝ }
+    requires held { ⌜ AtFront n m (now «from_offsets») (now «from_rows») (now «from_values») (now «from_elements») ⌝ }
+    requires beside { ⌜ Beside n (held roffsets rrows «r_rstart» rvalues relements «r_estart») (heldArguments args bits start) ⌝ }
     requires fits { ⌜ StepFits (step code first second third) n (length (now args)) ⌝ }
-    ensures { λ k. ⌜ ListAnswers (afterThree narrow (stepCall (step code first second third) (rowsOf (lentFront «from_offsets» «from_rows» «from_values» «from_elements» n m)) (rowsOf (lentFrom roffsets rrows rrstart rvalues relements restart)) (shownBy (lentArgumentsFrom args bits start)))) k «out_offsets» «out_rows» «out_values» «out_elements» ⌝ }
+    ensures { λ k. ⌜ ListAnswers (afterThree narrow (stepCall (step code first second third) (rowsOf (lentFront «from_offsets» «from_rows» «from_values» «from_elements» n m)) (rowsOf (lentFrom roffsets rrows «r_rstart» rvalues relements «r_estart»)) (shownBy (lentArgumentsFrom args bits start)))) k «out_offsets» «out_rows» «out_values» «out_elements» ⌝ }
 {
     let no = n + 1;
     let nr = bitmap::bytes_for(n);
@@ -218,10 +217,10 @@ fn step_from<'a>(
         0,
         roffsets,
         rrows,
-        rrstart,
+        r_rstart,
         rvalues,
         relements,
-        restart,
+        r_estart,
         args,
         bits,
         start,
@@ -242,10 +241,10 @@ pub fn steps(
     m: usize,
     roffsets: &[i32],
     rrows: &[u8],
-    rrstart: usize,
+    r_rstart: usize,
     rvalues: &[i64],
     relements: &[u8],
-    restart: usize,
+    r_estart: usize,
     args: &[i64],
     bits: &[u8],
     start: usize,
@@ -263,9 +262,9 @@ pub fn steps(
     out_elements: &mut [u8],
 ) -> ListAnswer
     requires steps { ⌜ Steps (now recipe) n (length (now args)) k left ⌝ }
-    requires held { ⌜ Held n m (now «from_offsets») (now «from_rows») (now «from_values») (now «from_elements») ⌝ }
-    requires beside { ⌜ Beside n (held roffsets rrows rrstart rvalues relements restart) (heldArguments args bits start) ⌝ }
-    ensures { λ a. ⌜ ListAnswers (carried narrow (stepAt (now (recipe .entry)) k) (tab (stepAt (now (recipe .entry))) (k + 1) (left - 1)) (rowsOf (lentFront «from_offsets» «from_rows» «from_values» «from_elements» n m)) (rowsOf (lentFrom roffsets rrows rrstart rvalues relements restart)) (shownBy (lentArgumentsFrom args bits start)) (roomOf «to_offsets» «to_rows» «to_values» «to_elements») (roomOf «from_offsets» «from_rows» «from_values» «from_elements»)) a «out_offsets» «out_rows» «out_values» «out_elements» ⌝ }
+    requires held { ⌜ AtFront n m (now «from_offsets») (now «from_rows») (now «from_values») (now «from_elements») ⌝ }
+    requires beside { ⌜ Beside n (held roffsets rrows «r_rstart» rvalues relements «r_estart») (heldArguments args bits start) ⌝ }
+    ensures { λ a. ⌜ ListAnswers (carried narrow (stepAt (now (recipe .entry)) k) (tab (stepAt (now (recipe .entry))) (k + 1) (left - 1)) (rowsOf (lentFront «from_offsets» «from_rows» «from_values» «from_elements» n m)) (rowsOf (lentFrom roffsets rrows «r_rstart» rvalues relements «r_estart»)) (shownBy (lentArgumentsFrom args bits start)) (roomOf «to_offsets» «to_rows» «to_values» «to_elements») (roomOf «from_offsets» «from_rows» «from_values» «from_elements»)) a «out_offsets» «out_rows» «out_values» «out_elements» ⌝ }
 {
     let i = 4 * k;
     let code = recipe[i];
@@ -286,10 +285,10 @@ pub fn steps(
             from_elements,
             roffsets,
             rrows,
-            rrstart,
+            r_rstart,
             rvalues,
             relements,
-            restart,
+            r_estart,
             args,
             bits,
             start,
@@ -312,10 +311,10 @@ pub fn steps(
         from_elements,
         roffsets,
         rrows,
-        rrstart,
+        r_rstart,
         rvalues,
         relements,
-        restart,
+        r_estart,
         args,
         bits,
         start,
@@ -339,10 +338,10 @@ pub fn steps(
             elements,
             roffsets,
             rrows,
-            rrstart,
+            r_rstart,
             rvalues,
             relements,
-            restart,
+            r_estart,
             args,
             bits,
             start,

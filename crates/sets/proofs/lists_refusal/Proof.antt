@@ -7,10 +7,10 @@ use Rattle.sets.proofs.lists_refusal.Statement.{statement}
 use Rattle.sets.proofs.lists_refusal.Tie as tie
 
 abbrev C : tie.Start → Column
-C s = let a = s .args in column (a .loffsets .now) (from (a .lrstart) (a .lrows .now)) (a .lvalues .now) (from (a .lestart) (a .lelements .now))
+C s = let a = s .args in column (a .loffsets .now) (from (a .l-rstart) (a .lrows .now)) (a .lvalues .now) (from (a .l-estart) (a .lelements .now))
 
 abbrev D : tie.Start → Column
-D s = let a = s .args in column (a .roffsets .now) (from (a .rrstart) (a .rrows .now)) (a .rvalues .now) (from (a .restart) (a .relements .now))
+D s = let a = s .args in column (a .roffsets .now) (from (a .r-rstart) (a .rrows .now)) (a .rvalues .now) (from (a .r-estart) (a .relements .now))
 
 list-refusal-requires : tie.Need-list-refusal-requires
 list-refusal-requires c κs = search needs

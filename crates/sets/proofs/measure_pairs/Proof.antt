@@ -15,17 +15,17 @@ use Rattle.sets.proofs.measure_pairs.Statement.{statement}
 use Rattle.sets.proofs.measure_pairs.Tie as tie
 
 abbrev Inv-loop : tie.InvT-loop
-Inv-loop op loffsets lrows lrstart lvalues lelements lestart roffsets rrows rrstart rvalues relements restart n found₀ r₀ left₀ found r left =
-    Summing (pairAt op (column loffsets (from lrstart lrows) lvalues (from lestart lelements)) (column roffsets (from rrstart rrows) rvalues (from restart relements))) n (boundOf op (offsetAt loffsets r) (offsetAt roffsets r)) (boundOf op (narrow .offset) (narrow .offset)) found r left
+Inv-loop op loffsets lrows l-rstart lvalues lelements l-estart roffsets rrows r-rstart rvalues relements r-estart n found₀ r₀ left₀ found r left =
+    Summing (pairAt op (column loffsets (from l-rstart lrows) lvalues (from l-estart lelements)) (column roffsets (from r-rstart rrows) rvalues (from r-estart relements))) n (boundOf op (offsetAt loffsets r) (offsetAt roffsets r)) (boundOf op (narrow .offset) (narrow .offset)) found r left
 
 abbrev μ-loop : tie.MeasureT-loop
-μ-loop op loffsets lrows lrstart lvalues lelements lestart roffsets rrows rrstart rvalues relements restart n found₀ r₀ left₀ found r left = left
+μ-loop op loffsets lrows l-rstart lvalues lelements l-estart roffsets rrows r-rstart rvalues relements r-estart n found₀ r₀ left₀ found r left = left
 
 abbrev C : tie.Start Inv-loop μ-loop → Column
-C s = let a = s .args in column (a .loffsets .now) (from (a .lrstart) (a .lrows .now)) (a .lvalues .now) (from (a .lestart) (a .lelements .now))
+C s = let a = s .args in column (a .loffsets .now) (from (a .l-rstart) (a .lrows .now)) (a .lvalues .now) (from (a .l-estart) (a .lelements .now))
 
 abbrev D : tie.Start Inv-loop μ-loop → Column
-D s = let a = s .args in column (a .roffsets .now) (from (a .rrstart) (a .rrows .now)) (a .rvalues .now) (from (a .restart) (a .relements .now))
+D s = let a = s .args in column (a .roffsets .now) (from (a .r-rstart) (a .rrows .now)) (a .rvalues .now) (from (a .r-estart) (a .relements .now))
 
 abbrev S : tie.At-loop Inv-loop μ-loop → tie.Start Inv-loop μ-loop
 S l = l .before .before .before .before .before .before

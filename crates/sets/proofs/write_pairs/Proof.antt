@@ -14,18 +14,18 @@ use Rattle.sets.proofs.write_pairs.Statement.{statement}
 use Rattle.sets.proofs.write_pairs.Tie as tie
 
 abbrev Inv-loop : tie.InvT-loop
-Inv-loop op loffsets lrows lrstart lvalues lelements lestart roffsets rrows rrstart rvalues relements restart out-offsets₀ out-rows₀ out-values₀ out-elements₀ n r₀ at₀ left₀ out-offsets out-rows out-values out-elements r at left =
-    Walking (pairAt op (column loffsets (from lrstart lrows) lvalues (from lestart lelements)) (column roffsets (from rrstart rrows) rvalues (from restart relements))) n out-offsets₀ out-rows₀ out-values₀ out-elements₀ out-offsets out-rows out-values out-elements r at left
+Inv-loop op loffsets lrows l-rstart lvalues lelements l-estart roffsets rrows r-rstart rvalues relements r-estart out-offsets₀ out-rows₀ out-values₀ out-elements₀ n r₀ at₀ left₀ out-offsets out-rows out-values out-elements r at left =
+    Walking (pairAt op (column loffsets (from l-rstart lrows) lvalues (from l-estart lelements)) (column roffsets (from r-rstart rrows) rvalues (from r-estart relements))) n out-offsets₀ out-rows₀ out-values₀ out-elements₀ out-offsets out-rows out-values out-elements r at left
 
 abbrev μ-loop : tie.MeasureT-loop
-μ-loop op loffsets lrows lrstart lvalues lelements lestart roffsets rrows rrstart rvalues relements restart out-offsets₀ out-rows₀ out-values₀ out-elements₀ n r₀ at₀ left₀ out-offsets out-rows out-values out-elements r at left =
+μ-loop op loffsets lrows l-rstart lvalues lelements l-estart roffsets rrows r-rstart rvalues relements r-estart out-offsets₀ out-rows₀ out-values₀ out-elements₀ n r₀ at₀ left₀ out-offsets out-rows out-values out-elements r at left =
     left
 
 abbrev C : tie.Start Inv-loop μ-loop → Column
-C s = let a = s .args in column (a .loffsets .now) (from (a .lrstart) (a .lrows .now)) (a .lvalues .now) (from (a .lestart) (a .lelements .now))
+C s = let a = s .args in column (a .loffsets .now) (from (a .l-rstart) (a .lrows .now)) (a .lvalues .now) (from (a .l-estart) (a .lelements .now))
 
 abbrev D : tie.Start Inv-loop μ-loop → Column
-D s = let a = s .args in column (a .roffsets .now) (from (a .rrstart) (a .rrows .now)) (a .rvalues .now) (from (a .restart) (a .relements .now))
+D s = let a = s .args in column (a .roffsets .now) (from (a .r-rstart) (a .rrows .now)) (a .rvalues .now) (from (a .r-estart) (a .relements .now))
 
 abbrev put : tie.At-loop Inv-loop μ-loop → tie.After-put-offset Inv-loop μ-loop
 put l = l .before .before

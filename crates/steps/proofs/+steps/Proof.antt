@@ -215,7 +215,7 @@ steps-returns t c =
     let a = s .args in
     let st = s .pre .1 .0 in
     let he = s .pre .1 .1 .0 in
-    rw (chain-last (stepAt (a .recipe .now) (a .k)) (tab (stepAt (a .recipe .now)) (a .k + 1) (a .left - 1)) (rowsOf (front (a .from-offsets .now) (a .from-rows .now) (a .from-values .now) (a .from-elements .now) (a .n) (a .m))) (rowsOf (column (a .roffsets .now) (from (a .rrstart) (a .rrows .now)) (a .rvalues .now) (from (a .restart) (a .relements .now)))) (shownBy (arguments (a .args .now) (from (a .start) (a .bits .now)))) (room (length (a .to-offsets .now)) (length (a .to-rows .now)) (length (a .to-values .now)) (length (a .to-elements .now))) (room (length (a .from-offsets .now)) (length (a .from-rows .now)) (length (a .from-values .now)) (length (a .from-elements .now))) (room (length (a .out-offsets .now)) (length (a .out-rows .now)) (length (a .out-values .now)) (length (a .out-elements .now))) (none-left st (c .before .before .before .before .before .before .before .before .before .before .before .before .before .before .before .if1 .taken))) (c .before .before .before .before .before .before .step-from .ensures)
+    rw (chain-last (stepAt (a .recipe .now) (a .k)) (tab (stepAt (a .recipe .now)) (a .k + 1) (a .left - 1)) (rowsOf (front (a .from-offsets .now) (a .from-rows .now) (a .from-values .now) (a .from-elements .now) (a .n) (a .m))) (rowsOf (column (a .roffsets .now) (from (a .r-rstart) (a .rrows .now)) (a .rvalues .now) (from (a .r-estart) (a .relements .now)))) (shownBy (arguments (a .args .now) (from (a .start) (a .bits .now)))) (room (length (a .to-offsets .now)) (length (a .to-rows .now)) (length (a .to-values .now)) (length (a .to-elements .now))) (room (length (a .from-offsets .now)) (length (a .from-rows .now)) (length (a .from-values .now)) (length (a .from-elements .now))) (room (length (a .out-offsets .now)) (length (a .out-rows .now)) (length (a .out-values .now)) (length (a .out-elements .now))) (none-left st (c .before .before .before .before .before .before .before .before .before .before .before .before .before .before .before .if1 .taken))) (c .before .before .before .before .before .before .step-from .ensures)
 
 steps-step-from-requires-2 : (t : ℕ) → steps-lts.Need-step-from-requires-2 (
   step-from-reads.Asked,
@@ -274,7 +274,7 @@ steps-steps-requires t c κs =
     let st = s .pre .1 .0 in
     let he = s .pre .1 .1 .0 in
     let w = c .before .before .before .before .before .before .before .before .before .before .before .before .before .before .before .before .before .before .before .before .before .step-from2 in
-    let k = carries _ _ (a .n) _ _ _ _ (w .ensures) (c .before .before .before .before .before .before .before .before .before .before .before .before .before .answer2 .given .1) (λ ws e. rows-kept (stepAt (a .recipe .now) (a .k)) (rowsOf (front (a .from-offsets .now) (a .from-rows .now) (a .from-values .now) (a .from-elements .now) (a .n) (a .m))) (rowsOf (column (a .roffsets .now) (from (a .rrstart) (a .rrows .now)) (a .rvalues .now) (from (a .restart) (a .relements .now)))) (shownBy (arguments (a .args .now) (from (a .start) (a .bits .now)))) (room (length (a .to-offsets .now)) (length (a .to-rows .now)) (length (a .to-values .now)) (length (a .to-elements .now))) ws e ∙ front-rows he) in
+    let k = carries _ _ (a .n) _ _ _ _ (w .ensures) (c .before .before .before .before .before .before .before .before .before .before .before .before .before .answer2 .given .1) (λ ws e. rows-kept (stepAt (a .recipe .now) (a .k)) (rowsOf (front (a .from-offsets .now) (a .from-rows .now) (a .from-values .now) (a .from-elements .now) (a .n) (a .m))) (rowsOf (column (a .roffsets .now) (from (a .r-rstart) (a .rrows .now)) (a .rvalues .now) (from (a .r-estart) (a .relements .now)))) (shownBy (arguments (a .args .now) (from (a .start) (a .bits .now)))) (room (length (a .to-offsets .now)) (length (a .to-rows .now)) (length (a .to-values .now)) (length (a .to-elements .now))) ws e ∙ front-rows he) in
     (omega (arith, s .pre .0, st .some), (next-steps st (c .before .before .before .before .before .before .before .before .before .before .before .before .before .before .before .before .before .before .before .before .before .before .before .before .before .before .before .before .before .before .if1 .left), (k .held, s .pre .1 .1 .1)))
 
 steps-same-length-9 : (t : ℕ) → steps-lts.Need-same-length-9 (
@@ -353,7 +353,7 @@ steps-returns-2 t c =
     let st = s .pre .1 .0 in
     let he = s .pre .1 .1 .0 in
     let w = c .before .before .before .before .before .before .before .before .before .step-from2 in
-    list-refused _ (chain-refused (stepAt (a .recipe .now) (a .k)) (tab (stepAt (a .recipe .now)) (a .k + 1) (a .left - 1)) (rowsOf (front (a .from-offsets .now) (a .from-rows .now) (a .from-values .now) (a .from-elements .now) (a .n) (a .m))) (rowsOf (column (a .roffsets .now) (from (a .rrstart) (a .rrows .now)) (a .rvalues .now) (from (a .restart) (a .relements .now)))) (shownBy (arguments (a .args .now) (from (a .start) (a .bits .now)))) (room (length (a .to-offsets .now)) (length (a .to-rows .now)) (length (a .to-values .now)) (length (a .to-elements .now))) (room (length (a .from-offsets .now)) (length (a .from-rows .now)) (length (a .from-values .now)) (length (a .from-elements .now))) (room (length (a .out-offsets .now)) (length (a .out-rows .now)) (length (a .out-values .now)) (length (a .out-elements .now))) _ _ _ (more-left st (c .before .before .before .before .before .before .before .before .before .before .before .before .before .before .before .before .before .before .if1 .left)) (answer-refused _ _ _ (c .before .answer .given .1) (w .ensures .answer)))
+    list-refused _ (chain-refused (stepAt (a .recipe .now) (a .k)) (tab (stepAt (a .recipe .now)) (a .k + 1) (a .left - 1)) (rowsOf (front (a .from-offsets .now) (a .from-rows .now) (a .from-values .now) (a .from-elements .now) (a .n) (a .m))) (rowsOf (column (a .roffsets .now) (from (a .r-rstart) (a .rrows .now)) (a .rvalues .now) (from (a .r-estart) (a .relements .now)))) (shownBy (arguments (a .args .now) (from (a .start) (a .bits .now)))) (room (length (a .to-offsets .now)) (length (a .to-rows .now)) (length (a .to-values .now)) (length (a .to-elements .now))) (room (length (a .from-offsets .now)) (length (a .from-rows .now)) (length (a .from-values .now)) (length (a .from-elements .now))) (room (length (a .out-offsets .now)) (length (a .out-rows .now)) (length (a .out-values .now)) (length (a .out-elements .now))) _ _ _ (more-left st (c .before .before .before .before .before .before .before .before .before .before .before .before .before .before .before .before .before .before .if1 .left)) (answer-refused _ _ _ (c .before .answer .given .1) (w .ensures .answer)))
 
 steps-same-length-17 : (t : ℕ) → steps-lts.Need-same-length-17 (
   step-from-reads.Asked,
@@ -463,9 +463,9 @@ steps-returns-3 t c =
     let st = s .pre .1 .0 in
     let he = s .pre .1 .1 .0 in
     let w = c .before .before .before .before .before .before .before .before .before .before .before .before .before .before .before .before .before .before .before .before .before .before .before .before .before .before .before .before .before .before .before .before .before .before .before .before .before .before .before .before .step-from2 in
-    let k = carries _ _ (a .n) _ _ _ _ (w .ensures) (c .before .before .before .before .before .before .before .before .before .before .before .before .before .before .before .before .before .before .before .before .before .before .before .before .before .before .before .before .before .before .before .before .answer2 .given .1) (λ ws e. rows-kept (stepAt (a .recipe .now) (a .k)) (rowsOf (front (a .from-offsets .now) (a .from-rows .now) (a .from-values .now) (a .from-elements .now) (a .n) (a .m))) (rowsOf (column (a .roffsets .now) (from (a .rrstart) (a .rrows .now)) (a .rvalues .now) (from (a .restart) (a .relements .now)))) (shownBy (arguments (a .args .now) (from (a .start) (a .bits .now)))) (room (length (a .to-offsets .now)) (length (a .to-rows .now)) (length (a .to-values .now)) (length (a .to-elements .now))) ws e ∙ front-rows he) in
+    let k = carries _ _ (a .n) _ _ _ _ (w .ensures) (c .before .before .before .before .before .before .before .before .before .before .before .before .before .before .before .before .before .before .before .before .before .before .before .before .before .before .before .before .before .before .before .before .answer2 .given .1) (λ ws e. rows-kept (stepAt (a .recipe .now) (a .k)) (rowsOf (front (a .from-offsets .now) (a .from-rows .now) (a .from-values .now) (a .from-elements .now) (a .n) (a .m))) (rowsOf (column (a .roffsets .now) (from (a .r-rstart) (a .rrows .now)) (a .rvalues .now) (from (a .r-estart) (a .relements .now)))) (shownBy (arguments (a .args .now) (from (a .start) (a .bits .now)))) (room (length (a .to-offsets .now)) (length (a .to-rows .now)) (length (a .to-values .now)) (length (a .to-elements .now))) ws e ∙ front-rows he) in
     let l = same-room (w .kept .1 .1 .1 .1 .1 .1 .1 .1 .1 .1 .1 .1 .1 .1 .1 .1 .1 .1 .1 .0) (w .kept .1 .1 .1 .1 .1 .1 .1 .1 .1 .1 .1 .1 .1 .1 .1 .1 .1 .1 .1 .1 .0) (w .kept .1 .1 .1 .1 .1 .1 .1 .1 .1 .1 .1 .1 .1 .1 .1 .1 .1 .1 .1 .1 .1 .0) (w .kept .1 .1 .1 .1 .1 .1 .1 .1 .1 .1 .1 .1 .1 .1 .1 .1 .1 .1 .1 .1 .1 .1 .0) in
-    chain-on (stepAt (a .recipe .now) (a .k)) (tab (stepAt (a .recipe .now)) (a .k + 1) (a .left - 1)) (rowsOf (front (a .from-offsets .now) (a .from-rows .now) (a .from-values .now) (a .from-elements .now) (a .n) (a .m))) (rowsOf (column (a .roffsets .now) (from (a .rrstart) (a .rrows .now)) (a .rvalues .now) (from (a .restart) (a .relements .now)))) (shownBy (arguments (a .args .now) (from (a .start) (a .bits .now)))) (room (length (a .to-offsets .now)) (length (a .to-rows .now)) (length (a .to-values .now)) (length (a .to-elements .now))) (room (length (a .from-offsets .now)) (length (a .from-rows .now)) (length (a .from-values .now)) (length (a .from-elements .now))) (room (length (a .out-offsets .now)) (length (a .out-rows .now)) (length (a .out-values .now)) (length (a .out-elements .now))) _ _ (more-left st (c .before .before .before .before .before .before .before .before .before .before .before .before .before .before .before .before .before .before .before .before .before .before .before .before .before .before .before .before .before .before .before .before .before .before .before .before .before .before .before .before .before .before .before .before .before .before .before .before .before .if1 .left)) (k .is) (k .shown) l (c .before .before .before .before .before .before .before .before .before .before .before .before .before .before .before .before .before .before .steps .ensures)
+    chain-on (stepAt (a .recipe .now) (a .k)) (tab (stepAt (a .recipe .now)) (a .k + 1) (a .left - 1)) (rowsOf (front (a .from-offsets .now) (a .from-rows .now) (a .from-values .now) (a .from-elements .now) (a .n) (a .m))) (rowsOf (column (a .roffsets .now) (from (a .r-rstart) (a .rrows .now)) (a .rvalues .now) (from (a .r-estart) (a .relements .now)))) (shownBy (arguments (a .args .now) (from (a .start) (a .bits .now)))) (room (length (a .to-offsets .now)) (length (a .to-rows .now)) (length (a .to-values .now)) (length (a .to-elements .now))) (room (length (a .from-offsets .now)) (length (a .from-rows .now)) (length (a .from-values .now)) (length (a .from-elements .now))) (room (length (a .out-offsets .now)) (length (a .out-rows .now)) (length (a .out-values .now)) (length (a .out-elements .now))) _ _ (more-left st (c .before .before .before .before .before .before .before .before .before .before .before .before .before .before .before .before .before .before .before .before .before .before .before .before .before .before .before .before .before .before .before .before .before .before .before .before .before .before .before .before .before .before .before .before .before .before .before .before .before .if1 .left)) (k .is) (k .shown) l (c .before .before .before .before .before .before .before .before .before .before .before .before .before .before .before .before .before .before .steps .ensures)
 
 pub +steps-spec : {M : Type 1} → statement M
 +steps-spec = close μ-steps λ t. steps-lts.spec (

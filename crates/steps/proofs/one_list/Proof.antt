@@ -15,7 +15,7 @@ use Rattle.steps.proofs.one_list.Tie as tie
 abbrev A : tie.Start → Arguments
 A s = arguments (s .args .args .now) (from (s .args .start) (s .args .bits .now))
 
-abbrev S : tie.After-row-start3 → tie.Start
+abbrev S : tie.After-start-from3 → tie.Start
 S w = w .before .before .before .before .before .before .before .before .before .before .before .before .before .before .before
 
 takes-requires : tie.Need-takes-requires
@@ -37,34 +37,34 @@ column-values-requires : tie.Need-column-values-requires
 unfolding Within
 column-values-requires c κs = rw (c .takes .ensures) (c .before .before .before .before .before .before .pre .1 .1 .1 .first-in)
 
-row-bits-requires : tie.Need-row-bits-requires
+bits-from-requires : tie.Need-bits-from-requires
 unfolding Within
-row-bits-requires c κs = let h = c .before .before .before .before .before .before .before .pre .1 .1 .1 .first-in in (c .before .before .before .before .before .before .before .pre .1 .1 .0, omega arith)
+bits-from-requires c κs = let h = c .before .before .before .before .before .before .before .pre .1 .1 .1 .first-in in (c .before .before .before .before .before .before .before .pre .1 .1 .0, omega arith)
 
-row-start-requires : tie.Need-row-start-requires
-row-start-requires c κs = search needs
+start-from-requires : tie.Need-start-from-requires
+start-from-requires c κs = search needs
 
 column-values-requires-2 : tie.Need-column-values-requires-2
 unfolding Within
 column-values-requires-2 c κs = rw (c .before .before .before .takes .ensures) (c .before .before .before .before .before .before .before .before .before .pre .1 .1 .1 .second-in)
 
-row-bits-requires-2 : tie.Need-row-bits-requires-2
+bits-from-requires-2 : tie.Need-bits-from-requires-2
 unfolding Within
-row-bits-requires-2 c κs = let h = c .before .before .before .before .before .before .before .before .before .before .pre .1 .1 .1 .second-in in (c .before .before .before .before .before .before .before .before .before .before .pre .1 .1 .0, omega arith)
+bits-from-requires-2 c κs = let h = c .before .before .before .before .before .before .before .before .before .before .pre .1 .1 .1 .second-in in (c .before .before .before .before .before .before .before .before .before .before .pre .1 .1 .0, omega arith)
 
-row-start-requires-2 : tie.Need-row-start-requires-2
-row-start-requires-2 c κs = search needs
+start-from-requires-2 : tie.Need-start-from-requires-2
+start-from-requires-2 c κs = search needs
 
 column-values-requires-3 : tie.Need-column-values-requires-3
 unfolding Within
 column-values-requires-3 c κs = rw (c .before .before .before .before .before .before .takes .ensures) (c .before .before .before .before .before .before .before .before .before .before .before .before .pre .1 .1 .1 .third-in)
 
-row-bits-requires-3 : tie.Need-row-bits-requires-3
+bits-from-requires-3 : tie.Need-bits-from-requires-3
 unfolding Within
-row-bits-requires-3 c κs = let h = c .before .before .before .before .before .before .before .before .before .before .before .before .before .pre .1 .1 .1 .third-in in (c .before .before .before .before .before .before .before .before .before .before .before .before .before .pre .1 .1 .0, omega arith)
+bits-from-requires-3 c κs = let h = c .before .before .before .before .before .before .before .before .before .before .before .before .before .pre .1 .1 .1 .third-in in (c .before .before .before .before .before .before .before .before .before .before .before .before .before .pre .1 .1 .0, omega arith)
 
-row-start-requires-3 : tie.Need-row-start-requires-3
-row-start-requires-3 c κs = c .before .before .before .before .before .before .before .before .before .before .before .before .before .before .pre .1 .1 .0 .small
+start-from-requires-3 : tie.Need-start-from-requires-3
+start-from-requires-3 c κs = c .before .before .before .before .before .before .before .before .before .before .before .before .before .before .pre .1 .1 .0 .small
 
 after-three-requires : tie.Need-after-three-requires
 after-three-requires c κs =
@@ -73,9 +73,9 @@ after-three-requires c κs =
     rw (s .pre .1 .0) (
       s .pre .0,
       record {
-        first = λ u. column-serves (A s) (s .pre .1 .1 .0) (s .args .first) (s .args .n) (ltb 0 (takesOf (s .args .op))) (s .pre .1 .1 .1 .first-in) (rw (w .before .before .before .before .before .before .before .before .before .takes .ensures) at (w .before .before .before .before .before .before .before .before .column-values .ensures)) (w .before .before .before .before .before .before .before .row-bits .ensures) (w .before .before .before .before .before .before .row-start .ensures) u false;
-        second = λ u. column-serves (A s) (s .pre .1 .1 .0) (s .args .second) (s .args .n) (ltb 1 (takesOf (s .args .op))) (s .pre .1 .1 .1 .second-in) (rw (w .before .before .before .before .before .before .before .before .before .takes .ensures) at (w .before .before .before .before .before .column-values2 .ensures)) (w .before .before .before .before .row-bits2 .ensures) (w .before .before .before .row-start2 .ensures) u (secondLimit (s .args .op));
-        third = λ u. column-serves (A s) (s .pre .1 .1 .0) (s .args .third) (s .args .n) (ltb 2 (takesOf (s .args .op))) (s .pre .1 .1 .1 .third-in) (rw (w .before .before .before .before .before .before .before .before .before .takes .ensures) at (w .before .before .column-values3 .ensures)) (w .before .row-bits3 .ensures) (w .row-start3 .ensures) u (thirdLimit (s .args .op));
+        first = λ u. column-serves (A s) (s .pre .1 .1 .0) (s .args .first) (s .args .n) (ltb 0 (takesOf (s .args .op))) (s .pre .1 .1 .1 .first-in) (rw (w .before .before .before .before .before .before .before .before .before .takes .ensures) at (w .before .before .before .before .before .before .before .before .column-values .ensures)) (w .before .before .before .before .before .before .before .bits-from .ensures) (w .before .before .before .before .before .before .start-from .ensures) u false;
+        second = λ u. column-serves (A s) (s .pre .1 .1 .0) (s .args .second) (s .args .n) (ltb 1 (takesOf (s .args .op))) (s .pre .1 .1 .1 .second-in) (rw (w .before .before .before .before .before .before .before .before .before .takes .ensures) at (w .before .before .before .before .before .column-values2 .ensures)) (w .before .before .before .before .bits-from2 .ensures) (w .before .before .before .start-from2 .ensures) u (secondLimit (s .args .op));
+        third = λ u. column-serves (A s) (s .pre .1 .1 .0) (s .args .third) (s .args .n) (ltb 2 (takesOf (s .args .op))) (s .pre .1 .1 .1 .third-in) (rw (w .before .before .before .before .before .before .before .before .before .takes .ensures) at (w .before .before .column-values3 .ensures)) (w .before .bits-from3 .ensures) (w .start-from3 .ensures) u (thirdLimit (s .args .op));
       },
     )
 
@@ -96,9 +96,9 @@ returns c =
     let w = c .before .before .before .before .before .before .before .before .before .before .before in
     let s = S w in
     rw (← call-same (s .args .op) (rowsOf (column (s .args .offsets .now) (from (s .args .rstart) (s .args .rows .now)) (s .args .values .now) (from (s .args .estart) (s .args .elements .now))))
-    (λ u. column-shown (A s) (s .pre .1 .1 .0) (s .args .first) (s .args .n) (ltb 0 (takesOf (s .args .op))) (s .pre .1 .1 .1 .first-in) (rw (w .before .before .before .before .before .before .before .before .before .takes .ensures) at (w .before .before .before .before .before .before .before .before .column-values .ensures)) (w .before .before .before .before .before .before .before .row-bits .ensures) (w .before .before .before .before .before .before .row-start .ensures) u)
-    (λ u. column-shown (A s) (s .pre .1 .1 .0) (s .args .second) (s .args .n) (ltb 1 (takesOf (s .args .op))) (s .pre .1 .1 .1 .second-in) (rw (w .before .before .before .before .before .before .before .before .before .takes .ensures) at (w .before .before .before .before .before .column-values2 .ensures)) (w .before .before .before .before .row-bits2 .ensures) (w .before .before .before .row-start2 .ensures) u)
-    (λ u. column-shown (A s) (s .pre .1 .1 .0) (s .args .third) (s .args .n) (ltb 2 (takesOf (s .args .op))) (s .pre .1 .1 .1 .third-in) (rw (w .before .before .before .before .before .before .before .before .before .takes .ensures) at (w .before .before .column-values3 .ensures)) (w .before .row-bits3 .ensures) (w .row-start3 .ensures) u))
+    (λ u. column-shown (A s) (s .pre .1 .1 .0) (s .args .first) (s .args .n) (ltb 0 (takesOf (s .args .op))) (s .pre .1 .1 .1 .first-in) (rw (w .before .before .before .before .before .before .before .before .before .takes .ensures) at (w .before .before .before .before .before .before .before .before .column-values .ensures)) (w .before .before .before .before .before .before .before .bits-from .ensures) (w .before .before .before .before .before .before .start-from .ensures) u)
+    (λ u. column-shown (A s) (s .pre .1 .1 .0) (s .args .second) (s .args .n) (ltb 1 (takesOf (s .args .op))) (s .pre .1 .1 .1 .second-in) (rw (w .before .before .before .before .before .before .before .before .before .takes .ensures) at (w .before .before .before .before .before .column-values2 .ensures)) (w .before .before .before .before .bits-from2 .ensures) (w .before .before .before .start-from2 .ensures) u)
+    (λ u. column-shown (A s) (s .pre .1 .1 .0) (s .args .third) (s .args .n) (ltb 2 (takesOf (s .args .op))) (s .pre .1 .1 .1 .third-in) (rw (w .before .before .before .before .before .before .before .before .before .takes .ensures) at (w .before .before .column-values3 .ensures)) (w .before .bits-from3 .ensures) (w .start-from3 .ensures) u))
     (c .before .before .before .before .before .before .after-three .ensures)
 
 pub one-list-spec : {M : Type 1} → statement M
@@ -110,14 +110,14 @@ one-list-spec =
     mul-b
     mul-c
     column-values-requires
-    row-bits-requires
-    row-start-requires
+    bits-from-requires
+    start-from-requires
     column-values-requires-2
-    row-bits-requires-2
-    row-start-requires-2
+    bits-from-requires-2
+    start-from-requires-2
     column-values-requires-3
-    row-bits-requires-3
-    row-start-requires-3
+    bits-from-requires-3
+    start-from-requires-3
     after-three-requires
     same-length
     same-length-2

@@ -37,45 +37,45 @@ part-longer-end-2 c = search needs
 longer-requires : tie.Need-longer-requires
 longer-requires c κs = search needs
 
-row-bits-requires : tie.Need-row-bits-requires
-row-bits-requires c κs = search needs
+bits-from-requires : tie.Need-bits-from-requires
+bits-from-requires c κs = search needs
 
-row-start-requires : tie.Need-row-start-requires
-row-start-requires c κs = search needs
+start-from-requires : tie.Need-start-from-requires
+start-from-requires c κs = search needs
 
 measure-kept-requires : tie.Need-measure-kept-requires
 measure-kept-requires c κs =
     let s = c .before .before .before .before .before .before .before .before in
     let a = s .args in
     let t = c .before .before in
-    (right-source (a .lvalues .now) (from (a .lstart) (a .lelements .now)) (a .a) (a .n) (a .rvalues .now) (from (a .rstart) (a .relements .now)) (a .b) (a .m) (s .pre .0) (s .pre .1) (t .before .longer .ensures) (t .if1 .taken) (c .row-start .ensures) (c .before .row-bits .ensures), s .pre .0)
+    (right-source (a .lvalues .now) (from (a .lstart) (a .lelements .now)) (a .a) (a .n) (a .rvalues .now) (from (a .rstart) (a .relements .now)) (a .b) (a .m) (s .pre .0) (s .pre .1) (t .before .longer .ensures) (t .if1 .taken) (c .start-from .ensures) (c .before .bits-from .ensures), s .pre .0)
 
 returns : tie.Need-returns
 returns c =
     let s = c .before .before .before .before .before .before .before .before .before in
     let a = s .args in
     let t = c .before .before .before in
-    rw (right-walked (a .lvalues .now) (from (a .lstart) (a .lelements .now)) (a .a) (a .n) (a .rvalues .now) (from (a .rstart) (a .relements .now)) (a .b) (a .m) (s .pre .0) (s .pre .1) (t .before .longer .ensures) (t .if1 .taken) (c .before .row-start .ensures) (c .before .before .row-bits .ensures)) (c .measure-kept .ensures)
+    rw (right-walked (a .lvalues .now) (from (a .lstart) (a .lelements .now)) (a .a) (a .n) (a .rvalues .now) (from (a .rstart) (a .relements .now)) (a .b) (a .m) (s .pre .0) (s .pre .1) (t .before .longer .ensures) (t .if1 .taken) (c .before .start-from .ensures) (c .before .before .bits-from .ensures)) (c .measure-kept .ensures)
 
-row-bits-requires-2 : tie.Need-row-bits-requires-2
-row-bits-requires-2 c κs = search needs
+bits-from-requires-2 : tie.Need-bits-from-requires-2
+bits-from-requires-2 c κs = search needs
 
-row-start-requires-2 : tie.Need-row-start-requires-2
-row-start-requires-2 c κs = search needs
+start-from-requires-2 : tie.Need-start-from-requires-2
+start-from-requires-2 c κs = search needs
 
 measure-kept-requires-2 : tie.Need-measure-kept-requires-2
 measure-kept-requires-2 c κs =
     let s = c .before .before .before .before .before .before .before .before in
     let a = s .args in
     let t = c .before .before in
-    (left-source (a .lvalues .now) (from (a .lstart) (a .lelements .now)) (a .a) (a .n) (a .rvalues .now) (from (a .rstart) (a .relements .now)) (a .b) (a .m) (s .pre .0) (s .pre .1) (t .before .longer .ensures) (t .if1 .left) (c .row-start2 .ensures) (c .before .row-bits2 .ensures), s .pre .1)
+    (left-source (a .lvalues .now) (from (a .lstart) (a .lelements .now)) (a .a) (a .n) (a .rvalues .now) (from (a .rstart) (a .relements .now)) (a .b) (a .m) (s .pre .0) (s .pre .1) (t .before .longer .ensures) (t .if1 .left) (c .start-from2 .ensures) (c .before .bits-from2 .ensures), s .pre .1)
 
 returns-2 : tie.Need-returns-2
 returns-2 c =
     let s = c .before .before .before .before .before .before .before .before .before in
     let a = s .args in
     let t = c .before .before .before in
-    rw (left-walked (a .lvalues .now) (from (a .lstart) (a .lelements .now)) (a .a) (a .n) (a .rvalues .now) (from (a .rstart) (a .relements .now)) (a .b) (a .m) (s .pre .0) (s .pre .1) (t .before .longer .ensures) (t .if1 .left) (c .before .row-start2 .ensures) (c .before .before .row-bits2 .ensures)) (c .measure-kept2 .ensures)
+    rw (left-walked (a .lvalues .now) (from (a .lstart) (a .lelements .now)) (a .a) (a .n) (a .rvalues .now) (from (a .rstart) (a .relements .now)) (a .b) (a .m) (s .pre .0) (s .pre .1) (t .before .longer .ensures) (t .if1 .left) (c .before .start-from2 .ensures) (c .before .before .bits-from2 .ensures)) (c .measure-kept2 .ensures)
 
 pub measure-intersect-spec : {M : Type 1} → statement M
 measure-intersect-spec =
@@ -92,11 +92,11 @@ measure-intersect-spec =
     part-longer-start-2
     part-longer-end-2
     longer-requires
-    row-bits-requires
-    row-start-requires
+    bits-from-requires
+    start-from-requires
     measure-kept-requires
     returns
-    row-bits-requires-2
-    row-start-requires-2
+    bits-from-requires-2
+    start-from-requires-2
     measure-kept-requires-2
     returns-2)

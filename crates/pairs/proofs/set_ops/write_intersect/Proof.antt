@@ -37,11 +37,11 @@ part-longer-end-2 c = search needs
 longer-requires : tie.Need-longer-requires
 longer-requires c κs = search needs
 
-row-bits-requires : tie.Need-row-bits-requires
-row-bits-requires c κs = search needs
+bits-from-requires : tie.Need-bits-from-requires
+bits-from-requires c κs = search needs
 
-row-start-requires : tie.Need-row-start-requires
-row-start-requires c κs = search needs
+start-from-requires : tie.Need-start-from-requires
+start-from-requires c κs = search needs
 
 write-kept-requires : tie.Need-write-kept-requires
 write-kept-requires c κs =
@@ -49,8 +49,8 @@ write-kept-requires c κs =
     let a = s .args in
     let t = c .before .before .before .before in
     let r = c .before .before in
-    let e = right-walked (a .lvalues .now) (from (a .lstart) (a .lelements .now)) (a .a) (a .n) (a .rvalues .now) (from (a .rstart) (a .relements .now)) (a .b) (a .m) (s .pre .0) (s .pre .1 .0) (t .before .longer .ensures) (t .if1 .taken) (r .row-start .ensures) (r .before .row-bits .ensures) in
-    (right-source (a .lvalues .now) (from (a .lstart) (a .lelements .now)) (a .a) (a .n) (a .rvalues .now) (from (a .rstart) (a .relements .now)) (a .b) (a .m) (s .pre .0) (s .pre .1 .0) (t .before .longer .ensures) (t .if1 .taken) (r .row-start .ensures) (r .before .row-bits .ensures), (s .pre .0, rw e at (s .pre .1 .1)))
+    let e = right-walked (a .lvalues .now) (from (a .lstart) (a .lelements .now)) (a .a) (a .n) (a .rvalues .now) (from (a .rstart) (a .relements .now)) (a .b) (a .m) (s .pre .0) (s .pre .1 .0) (t .before .longer .ensures) (t .if1 .taken) (r .start-from .ensures) (r .before .bits-from .ensures) in
+    (right-source (a .lvalues .now) (from (a .lstart) (a .lelements .now)) (a .a) (a .n) (a .rvalues .now) (from (a .rstart) (a .relements .now)) (a .b) (a .m) (s .pre .0) (s .pre .1 .0) (t .before .longer .ensures) (t .if1 .taken) (r .start-from .ensures) (r .before .bits-from .ensures), (s .pre .0, rw e at (s .pre .1 .1)))
 
 same-length : tie.Need-same-length
 same-length c = search needs
@@ -64,14 +64,14 @@ returns c =
     let a = s .args in
     let t = c .before .before .before .before .before .before .before .before in
     let r = c .before .before .before .before .before .before in
-    let e = right-walked (a .lvalues .now) (from (a .lstart) (a .lelements .now)) (a .a) (a .n) (a .rvalues .now) (from (a .rstart) (a .relements .now)) (a .b) (a .m) (s .pre .0) (s .pre .1 .0) (t .before .longer .ensures) (t .if1 .taken) (r .row-start .ensures) (r .before .row-bits .ensures) in
+    let e = right-walked (a .lvalues .now) (from (a .lstart) (a .lelements .now)) (a .a) (a .n) (a .rvalues .now) (from (a .rstart) (a .relements .now)) (a .b) (a .m) (s .pre .0) (s .pre .1 .0) (t .before .longer .ensures) (t .if1 .taken) (r .start-from .ensures) (r .before .bits-from .ensures) in
     rw e (c .before .before .before .write-kept .ensures)
 
-row-bits-requires-2 : tie.Need-row-bits-requires-2
-row-bits-requires-2 c κs = search needs
+bits-from-requires-2 : tie.Need-bits-from-requires-2
+bits-from-requires-2 c κs = search needs
 
-row-start-requires-2 : tie.Need-row-start-requires-2
-row-start-requires-2 c κs = search needs
+start-from-requires-2 : tie.Need-start-from-requires-2
+start-from-requires-2 c κs = search needs
 
 write-kept-requires-2 : tie.Need-write-kept-requires-2
 write-kept-requires-2 c κs =
@@ -79,8 +79,8 @@ write-kept-requires-2 c κs =
     let a = s .args in
     let t = c .before .before .before .before in
     let r = c .before .before in
-    let e = left-walked (a .lvalues .now) (from (a .lstart) (a .lelements .now)) (a .a) (a .n) (a .rvalues .now) (from (a .rstart) (a .relements .now)) (a .b) (a .m) (s .pre .0) (s .pre .1 .0) (t .before .longer .ensures) (t .if1 .left) (r .row-start2 .ensures) (r .before .row-bits2 .ensures) in
-    (left-source (a .lvalues .now) (from (a .lstart) (a .lelements .now)) (a .a) (a .n) (a .rvalues .now) (from (a .rstart) (a .relements .now)) (a .b) (a .m) (s .pre .0) (s .pre .1 .0) (t .before .longer .ensures) (t .if1 .left) (r .row-start2 .ensures) (r .before .row-bits2 .ensures), (s .pre .1 .0, rw e at (s .pre .1 .1)))
+    let e = left-walked (a .lvalues .now) (from (a .lstart) (a .lelements .now)) (a .a) (a .n) (a .rvalues .now) (from (a .rstart) (a .relements .now)) (a .b) (a .m) (s .pre .0) (s .pre .1 .0) (t .before .longer .ensures) (t .if1 .left) (r .start-from2 .ensures) (r .before .bits-from2 .ensures) in
+    (left-source (a .lvalues .now) (from (a .lstart) (a .lelements .now)) (a .a) (a .n) (a .rvalues .now) (from (a .rstart) (a .relements .now)) (a .b) (a .m) (s .pre .0) (s .pre .1 .0) (t .before .longer .ensures) (t .if1 .left) (r .start-from2 .ensures) (r .before .bits-from2 .ensures), (s .pre .1 .0, rw e at (s .pre .1 .1)))
 
 same-length-3 : tie.Need-same-length-3
 same-length-3 c = search needs
@@ -94,7 +94,7 @@ returns-2 c =
     let a = s .args in
     let t = c .before .before .before .before .before .before .before .before in
     let r = c .before .before .before .before .before .before in
-    let e = left-walked (a .lvalues .now) (from (a .lstart) (a .lelements .now)) (a .a) (a .n) (a .rvalues .now) (from (a .rstart) (a .relements .now)) (a .b) (a .m) (s .pre .0) (s .pre .1 .0) (t .before .longer .ensures) (t .if1 .left) (r .row-start2 .ensures) (r .before .row-bits2 .ensures) in
+    let e = left-walked (a .lvalues .now) (from (a .lstart) (a .lelements .now)) (a .a) (a .n) (a .rvalues .now) (from (a .rstart) (a .relements .now)) (a .b) (a .m) (s .pre .0) (s .pre .1 .0) (t .before .longer .ensures) (t .if1 .left) (r .start-from2 .ensures) (r .before .bits-from2 .ensures) in
     rw e (c .before .before .before .write-kept2 .ensures)
 
 pub write-intersect-spec : {M : Type 1} → statement M
@@ -112,14 +112,14 @@ write-intersect-spec =
     part-longer-start-2
     part-longer-end-2
     longer-requires
-    row-bits-requires
-    row-start-requires
+    bits-from-requires
+    start-from-requires
     write-kept-requires
     same-length
     same-length-2
     returns
-    row-bits-requires-2
-    row-start-requires-2
+    bits-from-requires-2
+    start-from-requires-2
     write-kept-requires-2
     same-length-3
     same-length-4

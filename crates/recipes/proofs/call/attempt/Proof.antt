@@ -20,7 +20,7 @@ abbrev C : tie.Start → Column
 C s = let a = s .args in column (a .offsets .now) (from (a .rstart) (a .rows .now)) (a .values .now) (from (a .estart) (a .elements .now))
 
 abbrev D : tie.Start → Column
-D s = let a = s .args in column (a .roffsets .now) (from (a .rrstart) (a .rrows .now)) (a .rvalues .now) (from (a .restart) (a .relements .now))
+D s = let a = s .args in column (a .roffsets .now) (from (a .r-rstart) (a .rrows .now)) (a .rvalues .now) (from (a .r-estart) (a .relements .now))
 
 abbrev A : tie.Start → Arguments
 A s = arguments (s .args .args .now) (from (s .args .start) (s .args .bits .now))
@@ -43,9 +43,9 @@ returns c =
 row-count-requires : tie.Need-row-count-requires
 row-count-requires c κs = search needs
 
-first-requires : tie.Need-first-requires
+take-steps-requires : tie.Need-take-steps-requires
 unfolding refusal2ᵃ
-first-requires c κs =
+take-steps-requires c κs =
     let s = S (c .before .before .before .before .before .before .before .before .before .before .before .before .before .before) in
     let a = s .args in
     let p = passes (c .before .before .before .before .before .before .before .before .before .before .before .before .before) in
@@ -93,7 +93,7 @@ returns-2 : tie.Need-returns-2
 returns-2 c =
     let s = S (c .before .before .before .before .before .before .before .before .before .before .before .before .before .before .before .before .before .before .before .before .before .before .before .before .before .before .before .before .before .before .before .before .before) in
     let a = s .args in
-    rw (outcome-is (recipe (a .numbers .now) (a .columns)) (C s) (D s) (A s) (room (length (a .one-offsets .now)) (length (a .one-rows .now)) (length (a .one-values .now)) (length (a .one-elements .now))) (room (length (a .two-offsets .now)) (length (a .two-rows .now)) (length (a .two-values .now)) (length (a .two-elements .now))) (room (length (a .out-offsets .now)) (length (a .out-rows .now)) (length (a .out-values .now)) (length (a .out-elements .now))), gate-open _ _ (sym (c .before .before .before .before .before .before .before .before .before .before .before .before .before .before .before .before .before .before .before .before .before .before .before .before .before .before .before .before .before .before .before .before .before .refusal .ensures) ∙ c .before .before .before .before .before .before .before .before .before .before .before .before .before .before .before .before .before .before .before .before .before .before .before .before .before .before .before .before .before .before .before .before .if1 .left)) (c .before .before .before .before .before .before .before .before .before .before .before .before .before .before .before .before .before .before .first .ensures)
+    rw (outcome-is (recipe (a .numbers .now) (a .columns)) (C s) (D s) (A s) (room (length (a .one-offsets .now)) (length (a .one-rows .now)) (length (a .one-values .now)) (length (a .one-elements .now))) (room (length (a .two-offsets .now)) (length (a .two-rows .now)) (length (a .two-values .now)) (length (a .two-elements .now))) (room (length (a .out-offsets .now)) (length (a .out-rows .now)) (length (a .out-values .now)) (length (a .out-elements .now))), gate-open _ _ (sym (c .before .before .before .before .before .before .before .before .before .before .before .before .before .before .before .before .before .before .before .before .before .before .before .before .before .before .before .before .before .before .before .before .before .refusal .ensures) ∙ c .before .before .before .before .before .before .before .before .before .before .before .before .before .before .before .before .before .before .before .before .before .before .before .before .before .before .before .before .before .before .before .before .if1 .left)) (c .before .before .before .before .before .before .before .before .before .before .before .before .before .before .before .before .before .before .take-steps .ensures)
 
 pub attempt-spec : {M : Type 1} → statement M
 attempt-spec =
@@ -102,7 +102,7 @@ attempt-spec =
     refusal-requires
     returns
     row-count-requires
-    first-requires
+    take-steps-requires
     same-length
     same-length-2
     same-length-3

@@ -13,8 +13,8 @@ use Rattle.column.proofs.AnswerLaws.{list-refused}
 use Rattle.steps.proofs.ChainLaws.{answer-refused, rows-kept, chain-last, chain-refused, chain-on, carries, same-room}
 use Rattle.recipes.proofs.CallLaws.{no-steps, some-steps, first-fits, steps-after, rest-none, rest-some}
 use borrow.Author.Needs.{needs}
-use Rattle.recipes.proofs.call.first.Statement.{statement}
-use Rattle.recipes.proofs.call.first.Tie as tie
+use Rattle.recipes.proofs.call.take_steps.Statement.{statement}
+use Rattle.recipes.proofs.call.take_steps.Tie as tie
 
 abbrev C : tie.Start → Column
 C s = let a = s .args in column (a .offsets .now) (from (a .rstart) (a .rows .now)) (a .values .now) (from (a .estart) (a .elements .now))
@@ -24,7 +24,7 @@ abbrev Ws : tie.Start → List Row
 Ws s = rowsOf (C s)
 
 abbrev Rs : tie.Start → List Row
-Rs s = let a = s .args in rowsOf (column (a .roffsets .now) (from (a .rrstart) (a .rrows .now)) (a .rvalues .now) (from (a .restart) (a .relements .now)))
+Rs s = let a = s .args in rowsOf (column (a .roffsets .now) (from (a .r-rstart) (a .rrows .now)) (a .rvalues .now) (from (a .r-estart) (a .relements .now)))
 
 abbrev Es : tie.Start → List Elem
 Es s = let a = s .args in shownBy (arguments (a .args .now) (from (a .start) (a .bits .now)))
@@ -190,8 +190,8 @@ returns-4 c =
     let l = same-room (w .kept .1 .1 .1 .1 .1 .1 .1 .1 .1 .1 .1 .1 .1 .1 .1 .1 .1 .1 .1 .1 .0) (w .kept .1 .1 .1 .1 .1 .1 .1 .1 .1 .1 .1 .1 .1 .1 .1 .1 .1 .1 .1 .1 .1 .0) (w .kept .1 .1 .1 .1 .1 .1 .1 .1 .1 .1 .1 .1 .1 .1 .1 .1 .1 .1 .1 .1 .1 .1 .0) (w .kept .1 .1 .1 .1 .1 .1 .1 .1 .1 .1 .1 .1 .1 .1 .1 .1 .1 .1 .1 .1 .1 .1 .1 .0) in
     rw (some-steps (a .numbers .now) (Ws s) (Rs s) (Es s) (One s) (Two s) (Out s) (c .before .before .before .before .before .before .before .before .before .before .before .before .before .before .before .before .before .before .before .before .before .before .before .before .before .before .before .before .before .before .before .before .before .before .before .before .before .before .before .before .before .before .before .before .before .before .before .before .before .before .if1 .left)) (chain-on (stepAt (a .numbers .now) 0) (tab (stepAt (a .numbers .now)) 1 (length (a .numbers .now) / 4 - 1)) (Ws s) (Rs s) (Es s) (One s) (Two s) (Out s) _ _ (rest-some (a .numbers .now) (c .before .before .before .before .before .before .before .before .before .before .before .before .before .before .before .before .before .before .before .before .before .before .before .before .before .before .before .before .before .before .before .before .before .before .before .before .before .before .before .before .before .before .before .before .before .before .before .before .before .before .if1 .left) (c .before .before .before .before .before .before .before .before .before .before .before .before .before .before .before .before .before .before .before .before .before .before .before .before .before .before .before .before .before .before .before .before .before .before .before .before .before .before .before .before .before .before .before .before .before .if2 .left)) (k .is) (k .shown) l (c .before .before .before .before .before .before .before .before .before .before .before .before .before .before .before .before .before .before .steps .ensures))
 
-pub first-spec : {M : Type 1} → statement M
-first-spec =
+pub take-steps-spec : {M : Type 1} → statement M
+take-steps-spec =
     tie.close
     (tie.spec
     copy-requires

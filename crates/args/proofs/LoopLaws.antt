@@ -13,10 +13,9 @@ use Rattle.model.specs.Form.{flat}
 use Rattle.model.specs.Limits.{narrow}
 use Rattle.model.specs.Outcome.{gate, made}
 use Rattle.model.specs.Refusals.{RowCount, Sum, stopped, sum, plus, andThen, sumOf, sumRefusal, firstOf}
-use Rattle.model.proofs.OutcomeLaws.{gate-open, gate-shut}
+use Rattle.model.proofs.OutcomeLaws.{gate-open, gate-shut, first-refusal, later-refusal, no-refusal}
 use Rattle.model.proofs.TabLaws.{tab-step, tab-none}
 use Rattle.column.proofs.WalkLaws.{Summing, sum-begun, sum-done}
-use Rattle.rows.proofs.FoundLaws.{first-refusal, later-refusal, no-refusal}
 use Rattle.ops.specs.declared.ListOp.{ListOp}
 use Rattle.args.specs.Made.{rowMadeAt, refusalAt, callRows, measureOf, letThrough, rowsMeasure, countAt, summed, lastTest, resizeMeasure}
 use Rattle.args.specs.declared.Measure.{Measure}

@@ -17,8 +17,8 @@ use Rattle.model.proofs.TabLaws.{tab-ext, map-tab}
 use Rattle.model.proofs.OutcomeLaws.{gate-open, early, two-or-on}
 use Rattle.values.specs.Values.{valueMade, valuesMade}
 use Rattle.values.specs.declared.ValueOp.the-variants as V′
-use Rattle.rows.proofs.FoundLaws.{four-at}
-use Rattle.rows.specs.Found.{fourAt}
+use Rattle.values.proofs.FoundLaws.{four-at}
+use Rattle.values.specs.Found.{fourAt}
 use Rattle.model.proofs.ColumnLaws.{length-rows, length-shown, by-row}
 
 -- ---- the calls

@@ -1,14 +1,16 @@
 -- "A list or argument column is well-formed when neither 1 nor 2 below applies to it": a call on such columns passes those two
 -- refusals.
-use Prim.Native.Nat.{ℕ}
+use Prim.Native.Nat.{ℕ, _+_, _-_, _≤_, _<_}
 use mathlib.Core.Path.{_≡_, refl, sym, ap}
 use mathlib.Core.Bool.{Bool, true, false, _||_}
 use mathlib.Core.List.{List}
 use native.Mathlib.Omega.{arith}
 use borrow.Author.Tests.{ne-eqb}
-use Rattle.model.specs.Basics.{pick, any, All, none, more}
+use Rattle.model.specs.Basics.{pick, tab, any, All, none, more}
 use Rattle.model.specs.Column.{Column, Arguments, refusal1, refusal2, refusal2ᵃ, WellFormed, WellFormedᵃ}
 use Rattle.model.specs.Outcome.{Outcome, refused, gate, columnsRefusal}
+use Rattle.model.specs.Refusals.{firstOf}
+use Rattle.model.proofs.TabLaws.{tab-step, tab-none}
 
 -- a test that fails at each element holds of none
 any-none : {A : Type 0} {P : A → Type 0} {xs : List A} (p : A → Bool) → ((x : A) → P x → p x ≡ false) → All P xs → any p xs ≡ false
@@ -44,3 +46,17 @@ module _ {A : Type 0} (k : ℕ) (o : Outcome A) where
   two-or-on false true z q h = let n : ⊥ = omega arith in absurd n
   two-or-on false false true q h = refl
   two-or-on false false false q h = refl
+
+-- the first refusal of rows, row after row
+module _ (K : ℕ → ℕ) (r n : ℕ) where
+  pub first-refusal : 0 < n → (K r ≡ 0 → ⊥) → firstOf (tab K r n) ≡ K r
+  unfolding firstOf
+  first-refusal h k = rw (tab-step K r n h, ne-eqb (K r) 0 k)
+
+  pub later-refusal : 0 < n → K r ≡ 0 → firstOf (tab K r n) ≡ firstOf (tab K (r + 1) (n - 1))
+  unfolding firstOf
+  later-refusal h k = rw (tab-step K r n h, k)
+
+  pub no-refusal : n ≤ 0 → firstOf (tab K r n) ≡ 0
+  unfolding firstOf
+  no-refusal h = rw (tab-none K r n h)

@@ -1,5 +1,4 @@
 pub mod CellLaws
-pub mod FoundLaws
 pub mod PlanLaws
 pub mod ResizeLaws
 pub mod RunLaws

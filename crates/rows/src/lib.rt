@@ -1,5 +1,4 @@
 // What the operations make of one row, element by element. An inner crate: its callers meet what it asks.
-pub mod extract;
 pub mod remove;
 pub mod replace;
 pub mod resize;

@@ -9,8 +9,8 @@ use Rattle.model.specs.Elements.{firstValid}
 use Rattle.model.specs.Limits.{narrow}
 use Rattle.model.proofs.TabLaws.{length-tab}
 use Rattle.column.specs.Rows.{rowFrom, lenFrom}
-use Rattle.rows.specs.Found.{foundAt, elementPlace}
-use Rattle.rows.proofs.FoundLaws.{any-from, element-from}
+use Rattle.values.specs.Found.{foundAt, elementPlace}
+use Rattle.values.proofs.FoundLaws.{any-from, element-from}
 use Rattle.values.specs.Values.{valueMade, valueAt, valuesMade, PlaceOf}
 use Rattle.values.specs.declared.ValueOp.{ValueOp}
 use Rattle.values.specs.declared.ValueOp.the-variants as V′

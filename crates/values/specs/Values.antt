@@ -7,7 +7,7 @@ use Rattle.model.specs.Basics.{tab}
 use Rattle.model.specs.Column.{Elem, Row, Column, Arguments, elemAt, rowAt, rowCount}
 use Rattle.model.specs.Rows.{anyValueOf, elementOf}
 use Rattle.bitmap.specs.Push.{Covers}
-use Rattle.rows.specs.Found.{FirstAt, elementPlace}
+use Rattle.values.specs.Found.{FirstAt, elementPlace}
 use Rattle.values.specs.declared.ValueOp.{ValueOp}
 use Rattle.values.specs.declared.ValueOp.the-variants as V′
 

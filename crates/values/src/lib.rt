@@ -1,6 +1,8 @@
 // The operations that make one value a row, any-value and element: one walk over the rows. An inner crate: its callers meet what it
 // asks.
 // After extract.rs of datafusion-functions-nested 55.2.0, Apache License 2.0, Apache Software Foundation; changed, see NOTICE.
+mod extract;
+
 use column::answers;
 use column::checks;
 use column::offsets;
@@ -19,7 +21,7 @@ ghost use Rattle.model.specs.Held.{held, heldArguments, heldBits, lentArguments
 ghost use Rattle.model.specs.Limits.{narrow};
 ghost use Rattle.model.specs.Outcome.{fittedValues};
 ghost use Rattle.model.specs.Refusals.{firstOf};
-ghost use Rattle.rows.specs.Found.{fourAt};
+ghost use Rattle.values.specs.Found.{fourAt};
 ghost use Rattle.values.specs.Values.{Indexed, PlaceOf, valueMade, valuesMade};
 ghost use lib.ListN.{length, set};
 ghost use mathlib.Core.Path.{_≡_};
@@ -52,8 +54,8 @@ fn place_of(
     ensures { λ i. ⌜ PlaceOf op (lentElem values elements estart) (lentElem indexes «index_bits» istart r) a k i ⌝ }
 {
     match op {
-        ValueOp::AnyValue => rows::extract::first_valid(values, elements, estart, a, k),
-        ValueOp::Element => rows::extract::element_place(n, indexes, index_bits, istart, r, a, k),
+        ValueOp::AnyValue => extract::first_valid(values, elements, estart, a, k),
+        ValueOp::Element => extract::element_place(n, indexes, index_bits, istart, r, a, k),
     }
 }
 
@@ -97,7 +99,7 @@ fn put_value(
         a,
         k,
     );
-    rows::extract::write_found(values, elements, estart, i, a + k, out_values, out_rows, r);
+    extract::write_found(values, elements, estart, i, a + k, out_values, out_rows, r);
 }
 
 // Writes the values that the operation makes, in result form.
@@ -206,7 +208,7 @@ pub fn index_refusal(
     let mut r: usize = 0;
     let mut left = n;
     while 0 < left {
-        if rows::extract::is_unfit(rows, rstart, n, indexes, index_bits, istart, r) {
+        if extract::is_unfit(rows, rstart, n, indexes, index_bits, istart, r) {
             return 4;
         }
         r += 1;

@@ -1,6 +1,6 @@
-use Rattle.rows.proofs.FoundLaws.{four-yes, four-no}
-use Rattle.rows.proofs.FoundLaws.{first-refusal, later-refusal, no-refusal}
-use Rattle.rows.specs.Found.{fourAt}
+use Rattle.values.proofs.FoundLaws.{four-yes, four-no}
+use Rattle.model.proofs.OutcomeLaws.{first-refusal, later-refusal, no-refusal}
+use Rattle.values.specs.Found.{fourAt}
 use Rattle.model.specs.Refusals.{firstOf}
 use Rattle.model.specs.Bitmap.{from}
 use Rattle.model.specs.Basics.{tab}

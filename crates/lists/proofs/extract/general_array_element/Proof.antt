@@ -18,7 +18,7 @@ use Rattle.column.proofs.AnswerLaws.{value-refused}
 use Rattle.column.proofs.WalkLaws.{readable}
 use Rattle.values.specs.Values.{valuesMade, Indexed}
 use Rattle.values.specs.declared.ValueOp.the-variants as V′
-use Rattle.rows.specs.Found.{fourAt}
+use Rattle.values.specs.Found.{fourAt}
 use Rattle.lists.proofs.ValueLaws.{element-early, element-two, element-shown, element-three, element-goes}
 use Rattle.lists.proofs.extract.general_array_element.Statement.{statement}
 use Rattle.lists.proofs.extract.general_array_element.Tie as tie

@@ -8,12 +8,12 @@ ghost use Rattle.column.specs.Outputs.{ReadableElems};
 ghost use Rattle.model.specs.Form.{isVal, valueOf};
 ghost use Rattle.model.specs.Held.{heldBits, lentBits, lentElem};
 ghost use Rattle.model.specs.Limits.{narrow};
-ghost use Rattle.rows.specs.Found.{FirstAt, elementPlace, foundAt, unfitAt};
+ghost use Rattle.values.specs.Found.{FirstAt, elementPlace, foundAt, unfitAt};
 ghost use lib.ListN.{length, set};
 ghost use mathlib.Core.Path.{_≡_};
 
 // Writes element i as value k, or a null where i is the end.
-pub fn write_found(
+pub(crate) fn write_found(
     values: &[i64],
     elements: &[u8],
     estart: usize,
@@ -38,7 +38,13 @@ pub fn write_found(
 }
 
 // Where the first valid one of the n elements from element a on stands, or the end.
-pub fn first_valid(values: &[i64], elements: &[u8], estart: usize, a: usize, n: usize) -> usize
+pub(crate) fn first_valid(
+    values: &[i64],
+    elements: &[u8],
+    estart: usize,
+    a: usize,
+    n: usize,
+) -> usize
     requires column { ⌜ ReadableElems values elements estart a n ⌝ }
     ensures { λ i. ⌜ FirstAt (lentElem values elements estart) a n i ⌝ }
 {
@@ -55,7 +61,7 @@ pub fn first_valid(values: &[i64], elements: &[u8], estart: usize, a: usize, n: 
 }
 
 // Whether list and index of row r are valid and the index does not fit 32 signed bits.
-pub fn is_unfit(
+pub(crate) fn is_unfit(
     rows: &[u8],
     rstart: usize,
     n: usize,
@@ -80,7 +86,7 @@ pub fn is_unfit(
 }
 
 // Where the index of row r points among the k elements from element a on, or the end.
-pub fn element_place(
+pub(crate) fn element_place(
     n: usize,
     indexes: &[i64],
     index_bits: &[u8],

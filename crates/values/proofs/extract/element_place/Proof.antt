@@ -4,8 +4,8 @@ use lib.ListN.{getD}
 use lib.IntN.{pos}
 use mir.Facts.{toZ-pos}
 use Rattle.model.specs.Column.{count, elemAt}
-use Rattle.rows.proofs.FoundLaws.{place-null, place-valid}
-use Rattle.rows.specs.Found.{boundPlace, elementPlace}
+use Rattle.values.proofs.FoundLaws.{place-null, place-valid}
+use Rattle.values.specs.Found.{boundPlace, elementPlace}
 use Rattle.index.proofs.PlaceLaws.{Points, index-at, bound-unfit, bound-outside}
 use Rattle.index.proofs.SignedLaws.{read-back}
 use mir.Syntax.{w32, w64}
@@ -14,8 +14,8 @@ use Rattle.model.specs.Bitmap.{from}
 use native.Mathlib.Omega.{arith}
 use mathlib.Core.Path.{_≡_, sym, _∙_}
 use borrow.Author.Needs.{needs}
-use Rattle.rows.proofs.extract.element_place.Statement.{statement}
-use Rattle.rows.proofs.extract.element_place.Tie as tie
+use Rattle.values.proofs.extract.element_place.Statement.{statement}
+use Rattle.values.proofs.extract.element_place.Tie as tie
 
 -- what the index crate promises, of the number read and of the length
 ens : (c : tie.After-adjusted-array-index) → let a = c .before .before .before .before .before .args in c .adjusted-array-index .result ≡ bound (indexBound narrow (a .k) (getD (a .indexes .now) (a .r) (pos 0)))

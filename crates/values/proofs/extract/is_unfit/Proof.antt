@@ -1,13 +1,13 @@
 use mathlib.Core.Bool.{not}
-use Rattle.rows.proofs.FoundLaws.{unfit-null, unfit-index-null, unfit-valid}
+use Rattle.values.proofs.FoundLaws.{unfit-null, unfit-index-null, unfit-valid}
 use Rattle.model.specs.Bitmap.{from}
 use mir.Syntax.{w64}
 use Rattle.index.proofs.SignedLaws.{read-back}
 use borrow.Author.Tests.{not-true, not-false}
 use mathlib.Core.Path.{sym, ap, _∙_}
 use borrow.Author.Needs.{needs}
-use Rattle.rows.proofs.extract.is_unfit.Statement.{statement}
-use Rattle.rows.proofs.extract.is_unfit.Tie as tie
+use Rattle.values.proofs.extract.is_unfit.Statement.{statement}
+use Rattle.values.proofs.extract.is_unfit.Tie as tie
 
 is-valid-requires : tie.Need-is-valid-requires
 is-valid-requires c κs = search needs

@@ -1,4 +1,4 @@
-use Rattle.rows.proofs.FoundLaws.{first-now, first-on, first-none, found-here, found-end}
+use Rattle.values.proofs.FoundLaws.{first-now, first-on, first-none, found-here, found-end}
 use Rattle.column.proofs.RowLaws.{isVal-elem}
 use Rattle.model.specs.Elements.{firstValid}
 use Rattle.model.specs.Column.{elemAt}
@@ -7,8 +7,8 @@ use Rattle.model.specs.Basics.{tab}
 use native.Mathlib.Omega.{arith}
 use Prim.Native.Nat.{_+_}
 use mathlib.Core.Path.{_≡_, refl, sym, _∙_}
-use Rattle.rows.proofs.extract.first_valid.Statement.{statement}
-use Rattle.rows.proofs.extract.first_valid.Tie as tie
+use Rattle.values.proofs.extract.first_valid.Statement.{statement}
+use Rattle.values.proofs.extract.first_valid.Tie as tie
 
 abbrev Inv-loop : tie.InvT-loop
 Inv-loop values elements estart a n p₀ left₀ p left = (firstValid (tab (elemAt values (from estart elements)) p left) ≡ firstValid (tab (elemAt values (from estart elements)) a n)) × (p + left ≡ a + n)

@@ -1,8 +1,8 @@
 use borrow.Author.Tests.{lt-ltb, le-ltb}
 use native.Mathlib.Omega.{arith}
 use borrow.Author.Needs.{needs}
-use Rattle.rows.proofs.extract.write_found.Statement.{statement}
-use Rattle.rows.proofs.extract.write_found.Tie as tie
+use Rattle.values.proofs.extract.write_found.Statement.{statement}
+use Rattle.values.proofs.extract.write_found.Tie as tie
 
 write-elem-requires : tie.Need-write-elem-requires
 write-elem-requires c κs = let s = c .before .before .before .before .before in (omega (arith, c .before .before .if1 .taken, s .pre .0), s .pre .1)

@@ -4,7 +4,7 @@ use mathlib.Core.Bool.{Bool, true, false, not, _&&_}
 use mathlib.Core.List.{List, [], _∷_}
 use Prim.Native.Nat.{ℕ, zero, suc, _+_, _-_, _≤_, _<_}
 use native.Mathlib.Omega.{arith}
-use borrow.Author.Tests.{lt-ltb, le-ltb, ne-eqb}
+use borrow.Author.Tests.{lt-ltb, le-ltb}
 use lib.Dec.{T}
 use lib.IntN.{ℤ, pos, negsuc}
 use lib.ListN.{getD}
@@ -14,14 +14,14 @@ use Rattle.model.specs.Column.{Elem, nul, val, Row, nullRow, listRow, Column, e
 use Rattle.model.specs.Elements.{firstValid, elementAt}
 use Rattle.model.specs.Form.{isVal}
 use Rattle.model.specs.Limits.{Limits, narrow}
-use Rattle.model.specs.Refusals.{firstOf, elementRefusal}
+use Rattle.model.specs.Refusals.{elementRefusal}
 use Rattle.model.specs.Rows.{anyValueOf, elementOf}
 use Rattle.model.specs.Slice.{Bound, unfit, outside, place, fits}
 use Rattle.model.proofs.TabLaws.{length-tab, tab-step, tab-none, getD-tab}
 use Rattle.column.specs.Rows.{rowFrom, lenFrom}
 use Rattle.index.specs.Place.{indexBound, taken}
 use Rattle.index.proofs.PlaceLaws.{element-taken, place-inside}
-use Rattle.rows.specs.Found.{foundAt, boundPlace, elementPlace, unfitAt, fourAt}
+use Rattle.values.specs.Found.{foundAt, boundPlace, elementPlace, unfitAt, fourAt}
 
 -- ---- the first valid element
 
@@ -143,16 +143,3 @@ module _ (rb : Bits) (is : List ℤ) (ib : Bits) (r : ℕ) where
 
   pub four-no : unfitAt rb is ib r ≡ false → fourAt rb is ib r ≡ 0
   four-no h = rw h
-
-module _ (K : ℕ → ℕ) (r n : ℕ) where
-  pub first-refusal : 0 < n → (K r ≡ 0 → ⊥) → firstOf (tab K r n) ≡ K r
-  unfolding firstOf
-  first-refusal h k = rw (tab-step K r n h, ne-eqb (K r) 0 k)
-
-  pub later-refusal : 0 < n → K r ≡ 0 → firstOf (tab K r n) ≡ firstOf (tab K (r + 1) (n - 1))
-  unfolding firstOf
-  later-refusal h k = rw (tab-step K r n h, k)
-
-  pub no-refusal : n ≤ 0 → firstOf (tab K r n) ≡ 0
-  unfolding firstOf
-  no-refusal h = rw (tab-none K r n h)

@@ -3,7 +3,7 @@ ghost use Prim.Native.Nat.{_%_, _+_, _/_, _<_, _^_, _≤_};
 ghost use Rattle.bitmap.specs.Push.{Covers, bitsFrom, pushBit, trues};
 ghost use Rattle.model.specs.Basics.{tab};
 ghost use Rattle.model.specs.Bitmap.{bitAt, bytesFor, shortBits, validAt};
-ghost use Rattle.model.specs.Held.{heldBits, lentBits};
+ghost use Rattle.model.specs.Inner.{nowBits, lentBits};
 ghost use lib.Count.{ones};
 ghost use lib.ListN.{length};
 ghost use mathlib.Core.Path.{_≡_};
@@ -61,7 +61,7 @@ pub fn is_short(bitmap: &[u8], start: usize, n: usize) -> bool
 
 // Whether bit i of n is set, or the bitmap is empty.
 pub fn is_valid(bitmap: &[u8], start: usize, i: usize, n: usize) -> bool
-    requires { ⌜ Covers (heldBits bitmap start) n ⌝ }
+    requires { ⌜ Covers (nowBits bitmap start) n ⌝ }
     requires { ⌜ i < n ⌝ }
     ensures { λ r. ⌜ r ≡ validAt (lentBits bitmap start) i ⌝ }
 {
@@ -73,7 +73,7 @@ pub fn is_valid(bitmap: &[u8], start: usize, i: usize, n: usize) -> bool
 
 // The bitmap from bit a on: from the byte on that holds that bit.
 pub fn bits_from(bitmap: &[u8], start: usize, a: usize, n: usize) -> &[u8]
-    requires { ⌜ Covers (heldBits bitmap start) n ⌝ }
+    requires { ⌜ Covers (nowBits bitmap start) n ⌝ }
     requires { ⌜ a ≤ n ⌝ }
     ensures { λ r. ⌜ now r ≡ bitsFrom (lentBits bitmap start) a .bytes ⌝ }
 {

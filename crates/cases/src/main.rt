@@ -1,13 +1,14 @@
 // The cases A to P of the scope document, run and compared: a line each.
 // Outputs hold 77 in every slot and 0xaa in every byte before a call, are one slot or more too long for the result, and are compared whole.
-mod extract;
 mod remove;
 mod repeat;
 mod replace;
 mod resize;
 mod reverse;
 mod set_ops;
-mod slice;
+
+use slice_cases::extract;
+use slice_cases::slice;
 
 fn show(letter: &[u8], ok: bool) {
     io::write_all(libc::STDOUT_FILENO, letter);

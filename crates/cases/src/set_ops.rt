@@ -25,25 +25,15 @@ pub(crate) fn case_b() -> bool {
 }
 
 // Union [2,1,2], [1,5,-] gives [2,1,5,-].
+#[rattlefmt::skip]
 pub(crate) fn case_c() -> bool {
     let mut out_offsets = [77i32; 3];
     let mut out_rows = [0xaau8; 2];
     let mut out_values = [77i64; 5];
     let mut out_elements = [0xaau8; 2];
     let answer = lists::set_ops::generic_set_lists(
-        &[0, 3],
-        &[],
-        &[2, 1, 2],
-        &[],
-        &[1, 4],
-        &[0b1111_1111],
-        &[9, 1, 5, 2],
-        &[0b110],
-        SetOp::Union,
-        &mut out_offsets,
-        &mut out_rows,
-        &mut out_values,
-        &mut out_elements,
+        &[0, 3], &[], &[2, 1, 2], &[], &[1, 4], &[0b1111_1111], &[9, 1, 5, 2], &[0b110], SetOp::Union,
+        &mut out_offsets, &mut out_rows, &mut out_values, &mut out_elements,
     );
     compare::list_counts(answer, 1, 4, 0, 1)
         && compare::offsets(&out_offsets, &[0, 4, 77])
@@ -53,25 +43,15 @@ pub(crate) fn case_c() -> bool {
 }
 
 // Intersect [1,2], [2,1] gives [1,2].
+#[rattlefmt::skip]
 pub(crate) fn case_d() -> bool {
     let mut out_offsets = [77i32; 3];
     let mut out_rows = [0xaau8; 2];
     let mut out_values = [77i64; 3];
     let mut out_elements = [0xaau8; 2];
     let answer = lists::set_ops::generic_set_lists(
-        &[0, 2],
-        &[1],
-        &[1, 2],
-        &[0b11],
-        &[0, 2],
-        &[],
-        &[2, 1],
-        &[],
-        SetOp::Intersect,
-        &mut out_offsets,
-        &mut out_rows,
-        &mut out_values,
-        &mut out_elements,
+        &[0, 2], &[1], &[1, 2], &[0b11], &[0, 2], &[], &[2, 1], &[], SetOp::Intersect,
+        &mut out_offsets, &mut out_rows, &mut out_values, &mut out_elements,
     );
     compare::list_counts(answer, 1, 2, 0, 0)
         && compare::offsets(&out_offsets, &[0, 2, 77])
@@ -81,25 +61,15 @@ pub(crate) fn case_d() -> bool {
 }
 
 // Intersect [1,2], [2,9,1] gives [2,1].
+#[rattlefmt::skip]
 pub(crate) fn case_e() -> bool {
     let mut out_offsets = [77i32; 3];
     let mut out_rows = [0xaau8; 2];
     let mut out_values = [77i64; 3];
     let mut out_elements = [0xaau8; 2];
     let answer = lists::set_ops::generic_set_lists(
-        &[0, 2],
-        &[],
-        &[1, 2],
-        &[],
-        &[0, 3],
-        &[],
-        &[2, 9, 1],
-        &[0b111],
-        SetOp::Intersect,
-        &mut out_offsets,
-        &mut out_rows,
-        &mut out_values,
-        &mut out_elements,
+        &[0, 2], &[], &[1, 2], &[], &[0, 3], &[], &[2, 9, 1], &[0b111], SetOp::Intersect,
+        &mut out_offsets, &mut out_rows, &mut out_values, &mut out_elements,
     );
     compare::list_counts(answer, 1, 2, 0, 0)
         && compare::offsets(&out_offsets, &[0, 2, 77])

@@ -25,12 +25,12 @@ use Rattle.model.proofs.OutcomeLaws.{gate-open, gate-shut}
 use Rattle.ops.specs.Ops.{callOf}
 use Rattle.ops.specs.declared.ListOp.{ListOp}
 use Rattle.wire.specs.Bytes.{nats, bytesOf, bytesOfCounts}
-use Rattle.entry.specs.Entry.{Numbers, ragged, outsize, sizeRefusal, entered, unaryOf, unaryCall, setOf, setCall, numberOf, ListReturned, ValueReturned}
+use Rattle.entry.specs.Entry.{Numbers, ragged, outsize, sizeRefusal, entered, numberOf, ListReturned, ValueReturned}
 use Rattle.entry.specs.Inner.{numberIn, countsIn}
-use Rattle.entry_with.specs.With.{withOf, withCall}
+use Rattle.entry_codes.specs.Calls.{unaryOf, unaryCall, setOf, setCall, withOf, withCall}
 use Rattle.entry_repeat.specs.Repeat.{RepeatReturned}
 use Rattle.entry_recipe.specs.Recipe.{recipeSizeRefusal, tallyAfter}
-use Rattle.recipe_bytes.specs.Recipe.{tallyIn}
+use Rattle.tally_bytes.specs.Bytes.{tallyIn}
 use Rattle.recipes.specs.Recipes.{recipe as recipeOf}
 use Rattle.duthlan.proofs.duthlan_list.Reads as OneList
 use Rattle.duthlan.proofs.duthlan_list_with.Reads as ListWith
@@ -39,7 +39,7 @@ use Rattle.duthlan.proofs.duthlan_any_value.Reads as AnyValue
 use Rattle.duthlan.proofs.duthlan_element.Reads as Element
 use Rattle.duthlan.proofs.duthlan_list_repeat.Reads as ListRepeat
 use Rattle.duthlan.proofs.duthlan_recipe.Reads as Recipe
-use Rattle.claims.specs.Bytes.{ByteSlices, BytePair, columnIn, argumentsIn, roomIn, valueRoomIn, repeatRoomIn, enter4, leave4, enter2, leave2, AnswerBytes, ListBytes, ValueBytes, RepeatBytes, RecipeBytes, overTally}
+use Rattle.claims.specs.Bytes.{ByteSlices, BytePair, bytesColumn, bytesArguments, roomIn, valueRoomIn, repeatRoomIn, enter4, leave4, enter2, leave2, AnswerBytes, ListBytes, ValueBytes, RepeatBytes, RecipeBytes, overTally}
 
 -- calls that are alike, on well-formed columns, end in one thing
 pub one-end : (q q′ : Call Column Arguments) → Formed q → Formed q′ → Alike q q′ → end narrow q ≡ end narrow q′
@@ -152,49 +152,49 @@ names f e = rw e
 -- k is the operation that the code names
 pub one-list : (κs : Lfts 9) (op op′ : ℕ) (c o : ByteSlices) (cs : Slice ℕ) (n : ℕ) (k : Unary)
     → OneList.Post κs (op, enter4 c (enter4 o (cs .entry, tt))) n (op′, leave4 c (leave4 o (cs .exit, tt)))
-    → n < 100 → unaryOf op ≡ given k → ListBytes (end narrow (list (unary k (columnIn c)) (roomIn o))) n o cs
+    → n < 100 → unaryOf op ≡ given k → ListBytes (end narrow (list (unary k (bytesColumn c)) (roomIn o))) n o cs
 unfolding end unaryCall
-one-list κs op op′ c o cs n k h b e = list-taken b _ (size-far _ _ _) o cs _ (names (λ j. listOutcome narrow (unary j (columnIn c))) e) h
+one-list κs op op′ c o cs n k h b e = list-taken b _ (size-far _ _ _) o cs _ (names (λ j. listOutcome narrow (unary j (bytesColumn c))) e) h
 
 pub list-with : (κs : Lfts 15) (op op′ : ℕ) (c : ByteSlices) (x y z : BytePair) (o : ByteSlices) (cs : Slice ℕ) (n : ℕ) (k : ListOp)
     → ListWith.Post κs (op, enter4 c (enter2 x (enter2 y (enter2 z (enter4 o (cs .entry, tt)))))) n (op′, leave4 c (leave2 x (leave2 y (leave2 z (leave4 o (cs .exit, tt))))))
-    → n < 100 → withOf op ≡ given k → ListBytes (end narrow (list (callOf k (columnIn c) (argumentsIn x) (argumentsIn y) (argumentsIn z)) (roomIn o))) n o cs
+    → n < 100 → withOf op ≡ given k → ListBytes (end narrow (list (callOf k (bytesColumn c) (bytesArguments x) (bytesArguments y) (bytesArguments z)) (roomIn o))) n o cs
 unfolding end withCall
-list-with κs op op′ c x y z o cs n k h b e = list-taken b _ (size-far _ _ _) o cs _ (names (λ j. listOutcome narrow (callOf j (columnIn c) (argumentsIn x) (argumentsIn y) (argumentsIn z))) e) h
+list-with κs op op′ c x y z o cs n k h b e = list-taken b _ (size-far _ _ _) o cs _ (names (λ j. listOutcome narrow (callOf j (bytesColumn c) (bytesArguments x) (bytesArguments y) (bytesArguments z))) e) h
 
 pub two-lists : (κs : Lfts 13) (op op′ : ℕ) (c d o : ByteSlices) (cs : Slice ℕ) (n : ℕ) (k : SetOp)
     → TwoLists.Post κs (op, enter4 c (enter4 d (enter4 o (cs .entry, tt)))) n (op′, leave4 c (leave4 d (leave4 o (cs .exit, tt))))
-    → n < 100 → setOf op ≡ given k → ListBytes (end narrow (list (setOp k (columnIn c) (columnIn d)) (roomIn o))) n o cs
+    → n < 100 → setOf op ≡ given k → ListBytes (end narrow (list (setOp k (bytesColumn c) (bytesColumn d)) (roomIn o))) n o cs
 unfolding end setCall
-two-lists κs op op′ c d o cs n k h b e = list-taken b _ (size-far _ _ _) o cs _ (names (λ j. listOutcome narrow (setOp j (columnIn c) (columnIn d))) e) h
+two-lists κs op op′ c d o cs n k h b e = list-taken b _ (size-far _ _ _) o cs _ (names (λ j. listOutcome narrow (setOp j (bytesColumn c) (bytesColumn d))) e) h
 
 pub any-value : (κs : Lfts 7) (c : ByteSlices) (o : BytePair) (cs : Slice ℕ) (n : ℕ)
     → AnyValue.Post κs (enter4 c (enter2 o (cs .entry, tt))) n (leave4 c (leave2 o (cs .exit, tt)))
-    → n < 100 → ValueBytes (end narrow (anyValue (columnIn c) (valueRoomIn o))) n o cs
+    → n < 100 → ValueBytes (end narrow (anyValue (bytesColumn c) (valueRoomIn o))) n o cs
 unfolding end
-any-value κs c o cs n h b = value-taken b _ (size-far _ _ _) o cs (anyValueOutcome (columnIn c)) h
+any-value κs c o cs n h b = value-taken b _ (size-far _ _ _) o cs (anyValueOutcome (bytesColumn c)) h
 
 pub elements : (κs : Lfts 9) (c : ByteSlices) (x o : BytePair) (cs : Slice ℕ) (n : ℕ)
     → Element.Post κs (enter4 c (enter2 x (enter2 o (cs .entry, tt)))) n (leave4 c (leave2 x (leave2 o (cs .exit, tt))))
-    → n < 100 → ValueBytes (end narrow (element (columnIn c) (argumentsIn x) (valueRoomIn o))) n o cs
+    → n < 100 → ValueBytes (end narrow (element (bytesColumn c) (bytesArguments x) (valueRoomIn o))) n o cs
 unfolding end
-elements κs c x o cs n h b = value-taken b _ (size-far _ _ _) o cs (elementOutcome narrow (columnIn c) (argumentsIn x)) h
+elements κs c x o cs n h b = value-taken b _ (size-far _ _ _) o cs (elementOutcome narrow (bytesColumn c) (bytesArguments x)) h
 
 -- p is the output's outer lists
 pub repeats : (κs : Lfts 13) (c : ByteSlices) (x p : BytePair) (o : ByteSlices) (cs : Slice ℕ) (n : ℕ)
     → ListRepeat.Post κs (enter4 c (enter2 x (enter2 p (enter4 o (cs .entry, tt))))) n (leave4 c (leave2 x (leave2 p (leave4 o (cs .exit, tt)))))
-    → n < 100 → RepeatBytes (end narrow (listRepeat (columnIn c) (argumentsIn x) (repeatRoomIn p o))) n p o cs
+    → n < 100 → RepeatBytes (end narrow (listRepeat (bytesColumn c) (bytesArguments x) (repeatRoomIn p o))) n p o cs
 unfolding end
-repeats κs c x p o cs n h b = repeat-taken b _ (size-far _ _ _) p o cs (repeatOutcome narrow (columnIn c) (argumentsIn x)) h
+repeats κs c x p o cs n h b = repeat-taken b _ (size-far _ _ _) p o cs (repeatOutcome narrow (bytesColumn c) (bytesArguments x)) h
 
 -- ns are the recipe's numbers, l and m the trays, t the tally
 pub recipes : (κs : Lfts 25) (k k′ : ℕ) (ns : Slice ℕ) (c d : ByteSlices) (x : BytePair) (l m o : ByteSlices) (cs t : Slice ℕ) (n : ℕ)
     → Recipe.Post κs (k, (ns .entry, enter4 c (enter4 d (enter2 x (enter4 l (enter4 m (enter4 o (cs .entry, (t .entry, tt)))))))))
     n (k′, (ns .exit, leave4 c (leave4 d (leave2 x (leave4 l (leave4 m (leave4 o (cs .exit, (t .exit, tt)))))))))
-    → n < 100 → RecipeBytes (end narrow (recipe (recipeOf (nats 4 (now (ns .entry))) k) (columnIn c) (columnIn d) (argumentsIn x) (roomIn l) (roomIn m) (roomIn o) (tallyIn (now (t .entry))))) n l m o cs t
+    → n < 100 → RecipeBytes (end narrow (recipe (recipeOf (nats 4 (now (ns .entry))) k) (bytesColumn c) (bytesColumn d) (bytesArguments x) (roomIn l) (roomIn m) (roomIn o) (tallyIn (now (t .entry))))) n l m o cs t
 unfolding end recipeEnd listEnd overTally tallyAfter
 recipes κs k k′ ns c d x l m o cs t n h b =
-    let f = recipeOutcome narrow (recipeOf (nats 4 (now (ns .entry))) k) (columnIn c) (columnIn d) (argumentsIn x) (roomIn l) (roomIn m) in
+    let f = recipeOutcome narrow (recipeOf (nats 4 (now (ns .entry))) k) (bytesColumn c) (bytesColumn d) (bytesArguments x) (roomIn l) (roomIn m) in
     let a = list-taken b _ (recipe-far _ _ _) o cs f refl (h .0) in
     record {
       answer = record { answer = record { number = a .answer .number; counts = a .answer .counts }; offsets = a .offsets; rows = a .rows; values = a .values; elements = a .elements };

@@ -33,7 +33,7 @@ use Rattle.recipes.specs.Recipes.{recipe}
 use Rattle.tally.specs.declared.RecipeAnswer.{RecipeAnswer}
 use Rattle.tally.specs.declared.Tally.{Tally}
 use Rattle.recipes.proofs.run_recipe.Reads as Recipe
-use Rattle.claims.specs.Slots.{Slices, Pair, columnOf, argumentsOf, entry4, exit4, entry2, exit2, ListRuns, ValueRuns, RepeatRuns, RecipeRuns}
+use Rattle.claims.specs.Slots.{Slices, Pair, lentColumn, lentPair, entry4, exit4, entry2, exit2, ListRuns, ValueRuns, RepeatRuns, RecipeRuns}
 
 -- "Take any two runs of one operation or one recipe, whatever its steps and whichever of them, if any, is refused.": two runs on
 -- well-formed columns, alike in what is shown, in arguments, lengths lent and tally, end in the same, and that is what the definitions
@@ -43,54 +43,54 @@ demand-3 r r′ f f′ a = runs-agree narrow r r′ f f′ a
 
 -- c is the list lent, x, y and z the argument columns, o the output, a the answer
 
-pub reverse : (κs : Lfts 8) (c o : Slices) (a : ListAnswer) → Reverse.Post κs (entry4 c (entry4 o tt)) a (exit4 c (exit4 o tt)) → ListRuns (unary Unary.Reverse (columnOf c)) a o
+pub reverse : (κs : Lfts 8) (c o : Slices) (a : ListAnswer) → Reverse.Post κs (entry4 c (entry4 o tt)) a (exit4 c (exit4 o tt)) → ListRuns (unary Unary.Reverse (lentColumn c)) a o
 reverse κs c o a h = listRun h
 
-pub distinct : (κs : Lfts 8) (c o : Slices) (a : ListAnswer) → Distinct.Post κs (entry4 c (entry4 o tt)) a (exit4 c (exit4 o tt)) → ListRuns (unary Unary.Distinct (columnOf c)) a o
+pub distinct : (κs : Lfts 8) (c o : Slices) (a : ListAnswer) → Distinct.Post κs (entry4 c (entry4 o tt)) a (exit4 c (exit4 o tt)) → ListRuns (unary Unary.Distinct (lentColumn c)) a o
 distinct κs c o a h = listRun h
 
-pub pop-front : (κs : Lfts 8) (c o : Slices) (a : ListAnswer) → PopFront.Post κs (entry4 c (entry4 o tt)) a (exit4 c (exit4 o tt)) → ListRuns (unary Unary.PopFront (columnOf c)) a o
+pub pop-front : (κs : Lfts 8) (c o : Slices) (a : ListAnswer) → PopFront.Post κs (entry4 c (entry4 o tt)) a (exit4 c (exit4 o tt)) → ListRuns (unary Unary.PopFront (lentColumn c)) a o
 pop-front κs c o a h = listRun h
 
-pub pop-back : (κs : Lfts 8) (c o : Slices) (a : ListAnswer) → PopBack.Post κs (entry4 c (entry4 o tt)) a (exit4 c (exit4 o tt)) → ListRuns (unary Unary.PopBack (columnOf c)) a o
+pub pop-back : (κs : Lfts 8) (c o : Slices) (a : ListAnswer) → PopBack.Post κs (entry4 c (entry4 o tt)) a (exit4 c (exit4 o tt)) → ListRuns (unary Unary.PopBack (lentColumn c)) a o
 pop-back κs c o a h = listRun h
 
 -- k is union or intersect, c and d are its two lists
-pub set-lists : (κs : Lfts 11) (k k′ : SetOp) (c d o : Slices) (a : ListAnswer) → Sets.Post κs (entry4 c (entry4 d (k, entry4 o tt))) a (exit4 c (exit4 d (k′, exit4 o tt))) → ListRuns (setOp k (columnOf c) (columnOf d)) a o
+pub set-lists : (κs : Lfts 11) (k k′ : SetOp) (c d o : Slices) (a : ListAnswer) → Sets.Post κs (entry4 c (entry4 d (k, entry4 o tt))) a (exit4 c (exit4 d (k′, exit4 o tt))) → ListRuns (setOp k (lentColumn c) (lentColumn d)) a o
 set-lists κs k k′ c d o a h = listRun h
 
 -- s says whether the stride is lent
 pub slices : (κs : Lfts 14) (s s′ : Optional) (c : Slices) (x y z : Pair) (o : Slices) (a : ListAnswer)
     → Sliced.Post κs (entry4 c (entry2 x (entry2 y (s, entry2 z (entry4 o tt))))) a (exit4 c (exit2 x (exit2 y (s′, exit2 z (exit4 o tt)))))
-    → ListRuns (slice (columnOf c) (argumentsOf x) (argumentsOf y) (lentIf s (argumentsOf z))) a o
+    → ListRuns (slice (lentColumn c) (lentPair x) (lentPair y) (lentIf s (lentPair z))) a o
 slices κs s s′ c x y z o a h = listRun h
 
 -- and the fill
 pub resizes : (κs : Lfts 12) (s s′ : Optional) (c : Slices) (x y : Pair) (o : Slices) (a : ListAnswer)
     → Resize.Post κs (entry4 c (entry2 x (s, entry2 y (entry4 o tt)))) a (exit4 c (exit2 x (s′, exit2 y (exit4 o tt))))
-    → ListRuns (resize (columnOf c) (argumentsOf x) (lentIf s (argumentsOf y))) a o
+    → ListRuns (resize (lentColumn c) (lentPair x) (lentIf s (lentPair y))) a o
 resizes κs s s′ c x y o a h = listRun h
 
 pub replaces : (κs : Lfts 14) (c : Slices) (x y z : Pair) (o : Slices) (a : ListAnswer)
     → Replace.Post κs (entry4 c (entry2 x (entry2 y (entry2 z (entry4 o tt))))) a (exit4 c (exit2 x (exit2 y (exit2 z (exit4 o tt)))))
-    → ListRuns (replace (columnOf c) (argumentsOf x) (argumentsOf y) (argumentsOf z)) a o
+    → ListRuns (replace (lentColumn c) (lentPair x) (lentPair y) (lentPair z)) a o
 replaces κs c x y z o a h = listRun h
 
 pub removes : (κs : Lfts 12) (c : Slices) (x y : Pair) (o : Slices) (a : ListAnswer)
     → Remove.Post κs (entry4 c (entry2 x (entry2 y (entry4 o tt)))) a (exit4 c (exit2 x (exit2 y (exit4 o tt))))
-    → ListRuns (remove (columnOf c) (argumentsOf x) (argumentsOf y)) a o
+    → ListRuns (remove (lentColumn c) (lentPair x) (lentPair y)) a o
 removes κs c x y o a h = listRun h
 
-pub any-value : (κs : Lfts 6) (c : Slices) (o : Pair) (a : ValueAnswer) → AnyValue.Post κs (entry4 c (entry2 o tt)) a (exit4 c (exit2 o tt)) → ValueRuns (anyValue (columnOf c)) a o
+pub any-value : (κs : Lfts 6) (c : Slices) (o : Pair) (a : ValueAnswer) → AnyValue.Post κs (entry4 c (entry2 o tt)) a (exit4 c (exit2 o tt)) → ValueRuns (anyValue (lentColumn c)) a o
 any-value κs c o a h = anyValueRun h
 
-pub elements : (κs : Lfts 8) (c : Slices) (x o : Pair) (a : ValueAnswer) → Element.Post κs (entry4 c (entry2 x (entry2 o tt))) a (exit4 c (exit2 x (exit2 o tt))) → ValueRuns (element (columnOf c) (argumentsOf x)) a o
+pub elements : (κs : Lfts 8) (c : Slices) (x o : Pair) (a : ValueAnswer) → Element.Post κs (entry4 c (entry2 x (entry2 o tt))) a (exit4 c (exit2 x (exit2 o tt))) → ValueRuns (element (lentColumn c) (lentPair x)) a o
 elements κs c x o a h = elementRun h
 
 -- b is the output's outer lists
 pub repeats : (κs : Lfts 12) (c : Slices) (x b : Pair) (o : Slices) (a : RepeatAnswer)
     → Repeat.Post κs (entry4 c (entry2 x (entry2 b (entry4 o tt)))) a (exit4 c (exit2 x (exit2 b (exit4 o tt))))
-    → RepeatRuns (listRepeat (columnOf c) (argumentsOf x)) a b o
+    → RepeatRuns (listRepeat (lentColumn c) (lentPair x)) a b o
 repeats κs c x b o a h = repeatRun h
 
 -- ns are the recipe's numbers, k how many argument columns there are, c and d the lists, l and m the trays, t the tally that goes in

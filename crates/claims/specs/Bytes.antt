@@ -14,7 +14,8 @@ use Rattle.wire.specs.Bytes.{bytesOf4, bytesOf8, bytesOfCounts}
 use Rattle.entry.specs.Entry.{decoded, decodedArguments, bytesRoom, bytesValueRoom}
 use Rattle.entry.specs.Inner.{numberIn, countsIn}
 use Rattle.entry_repeat.specs.Repeat.{bytesRepeatRoom}
-use Rattle.recipe_bytes.specs.Recipe.{Zero, withTally}
+use Rattle.tally_bytes.specs.Bytes.{withTally}
+use Rattle.recipe_bytes.specs.Recipe.{Zero}
 
 -- the four slices of a list column in bytes, lent, for an answer or as a tray
 pub record ByteSlices : Type 0 where
@@ -28,11 +29,11 @@ pub record BytePair : Type 0 where
   pub numbers : Slice ℕ
   pub bits : Slice ℕ
 
-abbrev pub columnIn : ByteSlices → Column
-columnIn c = decoded (c .offsets) (c .rows) (c .values) (c .elements)
+abbrev pub bytesColumn : ByteSlices → Column
+bytesColumn c = decoded (c .offsets) (c .rows) (c .values) (c .elements)
 
-abbrev pub argumentsIn : BytePair → Arguments
-argumentsIn x = decodedArguments (x .numbers) (x .bits)
+abbrev pub bytesArguments : BytePair → Arguments
+bytesArguments x = decodedArguments (x .numbers) (x .bits)
 
 abbrev pub roomIn : ByteSlices → Room
 roomIn o = bytesRoom (o .offsets) (o .rows) (o .values) (o .elements)

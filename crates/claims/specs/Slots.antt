@@ -9,7 +9,7 @@ use Rattle.model.specs.Form.{Room, ValueRoom, RepeatRoom}
 use Rattle.model.specs.Rows.{ListCall}
 use Rattle.model.specs.Column.{Column, Arguments}
 use Rattle.model.specs.Call.{Call, list, recipe}
-use Rattle.model.specs.Contract.{Slice, lent, lentArguments, room, valueRoom, repeatRoom}
+use Rattle.model.specs.Contract.{Slice, lent, lentArguments, roomOf, valueRoom, repeatRoomOf}
 use Rattle.model.specs.Recipe.{Recipe}
 use Rattle.model.specs.Run.{Run, listRunEnd, valueRunEnd, repeatRunEnd, recipeRunEnd}
 use Rattle.model.specs.declared.ListAnswer.{ListAnswer}
@@ -32,17 +32,17 @@ pub record Pair : Type 0 where
   pub bits : Slice ℕ
 
 -- the column that slices hold as the call begins, and the places that they have
-abbrev pub columnOf : Slices → Column
-columnOf c = lent (c .offsets) (c .rows) (c .values) (c .elements)
+abbrev pub lentColumn : Slices → Column
+lentColumn c = lent (c .offsets) (c .rows) (c .values) (c .elements)
 
-abbrev pub argumentsOf : Pair → Arguments
-argumentsOf x = lentArguments (x .values) (x .bits)
+abbrev pub lentPair : Pair → Arguments
+lentPair x = lentArguments (x .values) (x .bits)
 
-abbrev pub roomOf : Slices → Room
-roomOf o = room (length (now (o .offsets .entry))) (length (now (o .rows .entry))) (length (now (o .values .entry))) (length (now (o .elements .entry)))
+abbrev pub slicesRoom : Slices → Room
+slicesRoom o = roomOf (o .offsets) (o .rows) (o .values) (o .elements)
 
-abbrev pub valueRoomOf : Pair → ValueRoom
-valueRoomOf o = valueRoom (length (now (o .values .entry))) (length (now (o .bits .entry)))
+abbrev pub pairRoom : Pair → ValueRoom
+pairRoom o = valueRoom (length (now (o .values .entry))) (length (now (o .bits .entry)))
 
 -- slices among a function's parameters, before the others, at entry and at exit
 abbrev pub Before2 : Type 0 → Type 0
@@ -65,23 +65,23 @@ exit2 x k = (x .values .exit, (x .bits .exit, k))
 
 -- a call of q that answered a and had o for its output is a run
 abbrev pub ListRuns : ListCall Column Arguments → ListAnswer → Slices → Type 0
-ListRuns q a o = Run narrow (list q (roomOf o)) (listRunEnd a (now (o .offsets .exit)) (now (o .rows .exit)) (now (o .values .exit)) (now (o .elements .exit)))
+ListRuns q a o = Run narrow (list q (slicesRoom o)) (listRunEnd a (now (o .offsets .exit)) (now (o .rows .exit)) (now (o .values .exit)) (now (o .elements .exit)))
 
 -- the same with a value answer
 abbrev pub ValueRuns : (ValueRoom → Call Column Arguments) → ValueAnswer → Pair → Type 0
-ValueRuns q a o = Run narrow (q (valueRoomOf o)) (valueRunEnd a (now (o .values .exit)) (now (o .bits .exit)))
+ValueRuns q a o = Run narrow (q (pairRoom o)) (valueRunEnd a (now (o .values .exit)) (now (o .bits .exit)))
 
 -- and with list-repeat's, whose outer lists have two slices and inner lists four
 abbrev pub RepeatRuns : (RepeatRoom → Call Column Arguments) → RepeatAnswer → Pair → Slices → Type 0
 RepeatRuns q a b o =
     Run narrow
-    (q (repeatRoom (length (now (b .values .entry))) (length (now (b .bits .entry))) (length (now (o .offsets .entry))) (length (now (o .rows .entry))) (length (now (o .values .entry))) (length (now (o .elements .entry)))))
+    (q (repeatRoomOf (b .values) (b .bits) (o .offsets) (o .rows) (o .values) (o .elements)))
     (repeatRunEnd a (now (b .values .exit)) (now (b .bits .exit)) (now (o .offsets .exit)) (now (o .rows .exit)) (now (o .values .exit)) (now (o .elements .exit)))
 
 -- a recipe p on the lists c and d with arguments x, through the trays l and m into o; t is the tally that went in
 abbrev pub RecipeRuns : Recipe → Slices → Slices → Pair → Slices → Slices → Slices → Tally → RecipeAnswer → Type 0
 RecipeRuns p c d x l m o t a =
-    Run narrow (recipe p (columnOf c) (columnOf d) (argumentsOf x) (roomOf l) (roomOf m) (roomOf o) (tallyOf t))
+    Run narrow (recipe p (lentColumn c) (lentColumn d) (lentPair x) (slicesRoom l) (slicesRoom m) (slicesRoom o) (tallyOf t))
     (recipeRunEnd (a .answer)
     (now (o .offsets .exit)) (now (o .rows .exit)) (now (o .values .exit)) (now (o .elements .exit))
     (now (l .offsets .exit)) (now (l .rows .exit)) (now (l .values .exit)) (now (l .elements .exit))

@@ -1,27 +1,23 @@
 // What makes a recipe malformed.
+use crate::Operation;
 ghost use Rattle.model.specs.Basics.{any, tab};
-ghost use Rattle.model.specs.Recipe.{columnsOf, malformed, stepAt, wrongNumber, wrongStep};
-ghost use Rattle.codes.specs.Codes.{step};
+ghost use Rattle.model.specs.Recipe.{malformed, stepAt, wrongNumber, wrongStep};
+ghost use Rattle.codes.specs.Codes.{columnsTaken, step};
 ghost use Prim.Native.Nat.{_*_, _≤_};
 ghost use lib.ListN.{length};
 ghost use mathlib.Core.Path.{_≡_};
 
-// How many argument columns the step with this code uses.
-fn columns_of(code: u32) -> usize
-    ensures { λ k. ⌜ k ≡ columnsOf code ⌝ }
+// How many argument columns the operation takes.
+fn columns_of(o: Operation) -> usize
+    ensures { λ k. ⌜ k ≡ columnsTaken o ⌝ }
 {
-    if code < 4 {
-        return 0;
-    }
-    if 8 < code {
-        return 0;
-    }
-    match code {
-        4 => 3,
-        5 => 2,
-        6 => 2,
-        7 => 3,
-        _ => 2,
+    match o {
+        Operation::One(op) => {
+            let t = ops::takes(op);
+            t.columns
+        }
+        Operation::Two(_) => 0,
+        Operation::None => 0,
     }
 }
 
@@ -38,10 +34,11 @@ fn is_wrong_number(columns: usize, used: bool, k: usize) -> bool
 fn is_wrong_step(columns: usize, code: u32, first: u32, second: u32, third: u32) -> bool
     ensures { λ b. ⌜ b ≡ wrongStep columns (step code first second third) ⌝ }
 {
-    if 10 < code {
+    let o = crate::operation_of(code);
+    if crate::is_none(o) {
         return true;
     }
-    let k = columns_of(code);
+    let k = columns_of(o);
     if is_wrong_number(columns, 0 < k, first as usize) {
         return true;
     }

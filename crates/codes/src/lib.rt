@@ -1,66 +1,46 @@
-// A recipe's numbers: what makes them malformed, and what the step with a code does. An inner crate.
+// Operation codes: the table of what each names, and what makes a recipe's numbers malformed. An inner crate.
 pub mod check;
 
 use model::SetOp;
 use model::Unary;
 use ops::ListOp;
-ghost use Prim.Native.Nat.{_<_, _≤_};
-ghost use Rattle.codes.specs.Codes.{stepOp};
+ghost use Rattle.codes.specs.Codes.{isNone, operationOf};
 ghost use mathlib.Core.Path.{_≡_};
 
-// What a step does: an operation on the carried list and its argument columns, or one on the carried list and the second.
-pub enum StepOp {
+// What a code names: an operation on one list and its argument columns, one on two lists, or none.
+pub enum Operation {
     One(ListOp),
     Two(SetOp),
+    None,
 }
 
-fn plain_op(code: u32) -> Unary
-    requires { ⌜ code < 4 ⌝ }
-    ensures { λ u. ⌜ stepOp code ≡ StepOp.One (ListOp.Plain u) ⌝ }
+// The table of codes.
+pub fn operation_of(code: u32) -> Operation
+    ensures { λ o. ⌜ o ≡ operationOf code ⌝ }
 {
     match code {
-        0 => Unary::Reverse,
-        1 => Unary::Distinct,
-        2 => Unary::PopFront,
-        _ => Unary::PopBack,
+        0 => Operation::One(ListOp::Plain(Unary::Reverse)),
+        1 => Operation::One(ListOp::Plain(Unary::Distinct)),
+        2 => Operation::One(ListOp::Plain(Unary::PopFront)),
+        3 => Operation::One(ListOp::Plain(Unary::PopBack)),
+        4 => Operation::One(ListOp::SliceBy),
+        5 => Operation::One(ListOp::Slice),
+        6 => Operation::One(ListOp::ResizeWith),
+        7 => Operation::One(ListOp::Replace),
+        8 => Operation::One(ListOp::Remove),
+        9 => Operation::Two(SetOp::Union),
+        10 => Operation::Two(SetOp::Intersect),
+        _ => Operation::None,
     }
 }
 
-fn list_op(code: u32) -> ListOp
-    requires { ⌜ 4 ≤ code ⌝ }
-    requires { ⌜ code < 9 ⌝ }
-    ensures { λ op. ⌜ stepOp code ≡ StepOp.One op ⌝ }
+// Whether the code names none.
+pub fn is_none(o: Operation) -> bool
+    ensures { λ b. ⌜ b ≡ isNone o ⌝ }
 {
-    match code {
-        4 => ListOp::SliceBy,
-        5 => ListOp::Slice,
-        6 => ListOp::ResizeWith,
-        7 => ListOp::Replace,
-        _ => ListOp::Remove,
+    match o {
+        Operation::One(_) => false,
+        Operation::Two(_) => false,
+        Operation::None => true,
     }
-}
-
-fn set_op(code: u32) -> SetOp
-    requires { ⌜ 9 ≤ code ⌝ }
-    requires { ⌜ code < 11 ⌝ }
-    ensures { λ op. ⌜ stepOp code ≡ StepOp.Two op ⌝ }
-{
-    match code {
-        9 => SetOp::Union,
-        _ => SetOp::Intersect,
-    }
-}
-
-// What the step with this code does.
-pub fn step_op(code: u32) -> StepOp
-    requires { ⌜ code < 11 ⌝ }
-    ensures { λ o. ⌜ o ≡ stepOp code ⌝ }
-{
-    if code < 4 {
-        return StepOp::One(ListOp::Plain(plain_op(code)));
-    }
-    if code < 9 {
-        return StepOp::One(list_op(code));
-    }
-    StepOp::Two(set_op(code))
 }

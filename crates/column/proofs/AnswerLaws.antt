@@ -20,7 +20,7 @@ use Rattle.model.specs.declared.ValueAnswer.{ValueAnswer}
 use Rattle.model.specs.declared.ValueAnswer.the-variants as V′
 use Rattle.model.proofs.TabLaws.{length-map}
 use Rattle.bitmap.proofs.PackLaws.{counted-nulls}
-use Rattle.column.specs.Put.{HasRoom, Holds}
+use Rattle.column.specs.Put.{RoomInˡ, Fillsˡ}
 use Rattle.column.specs.Answers.{unset, listAnswerFrom, valueAnswerFrom}
 use Rattle.model.proofs.BoolLaws.{and-true}
 
@@ -36,7 +36,7 @@ value-refused k q = rw q (record { answer = refl; values = refl; rows = refl })
 
 -- ---- room
 
-pub has-room : (n m lo lr lv le : ℕ) → fitsIn n m (room lo lr lv le) ≡ true → HasRoom n m lo lr lv le
+pub has-room : (n m lo lr lv le : ℕ) → fitsIn n m (room lo lr lv le) ≡ true → RoomInˡ n m lo lr lv le
 has-room n m lo lr lv le h =
     let a = and-true (leb (n + 1) lo && leb (bytesFor n) lr && leb m lv) (leb (bytesFor m) le) h in
     let b = and-true (leb (n + 1) lo && leb (bytesFor n) lr) (leb m lv) (a .0) in
@@ -80,7 +80,7 @@ counted-rows : (ws : List Row) (d : List ℕ) (n : ℕ) → n ≡ length ws → 
 counted-rows ws d n e = let p = counted-nulls (map isRow ws) d n (e ∙ sym (length-map isRow ws)) in omega arith
 
 pub list-made : {x : Outcome (List Row)} (ws : List Row) (n m : ℕ) {o o′ : List ℤ} {r r′ : List ℕ} {v v′ : List ℤ} {e e′ : List ℕ} {a : ListAnswer}
-    → x ≡ made ws → n ≡ length ws → m ≡ length (flat ws) → Holds ws o o′ r r′ v v′ e e′ → a ≡ listAnswerFrom r′ n e′ m → ListMeets x a o o′ r r′ v v′ e e′
+    → x ≡ made ws → n ≡ length ws → m ≡ length (flat ws) → Fillsˡ ws o o′ r r′ v v′ e e′ → a ≡ listAnswerFrom r′ n e′ m → ListMeets x a o o′ r r′ v v′ e e′
 unfolding told answerOf written listAnswerFrom
 list-made ws n m {r = r} {e = e} q en em h p = rw (q, p) (record {
   answer = rw (h .rows, h .elements, counted-rows ws r n en, counted-elems (flat ws) e m em, en, em);

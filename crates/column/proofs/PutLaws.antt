@@ -12,7 +12,7 @@ use Rattle.bitmap.specs.Push.{pushBit, pushBits}
 use Rattle.model.specs.Column.{Elem, Row}
 use Rattle.model.specs.Basics.{tab}
 use Rattle.model.specs.Form.{isVal, valueOf, isRow, elemsOf, flat, lengthOf, offsetsFrom, over, formOffsets, formRows, formValues, formElements}
-use Rattle.column.specs.Put.{Outs, outs, putRow, putRows, putValues, putElements, HasRoom}
+use Rattle.column.specs.Put.{Outs, outs, putRow, putRows, putValues, putElements, RoomInˡ}
 use Rattle.model.proofs.TabLaws.{tab-last, tab-none, length-map}
 use Rattle.model.proofs.FormLaws.{length-offsets}
 use Rattle.bitmap.proofs.BitLaws.{push-pack, pushes-pack}
@@ -75,7 +75,7 @@ module _ (d₁ : List ℤ) (d₂ : List ℕ) (d₃ : List ℤ) (d₄ : List ℕ)
   formed ps = outs (over (formOffsets ps) d₁) (over (formRows ps) d₂) (over (formValues (flat ps)) d₃) (over (formElements (flat ps)) d₄) (length ps) (length (flat ps))
 
   abbrev pub Roomy : List Row → Type 0
-  Roomy ws = HasRoom (length ws) (length (flat ws)) (length d₁) (length d₂) (length d₃) (length d₄)
+  Roomy ws = RoomInˡ (length ws) (length (flat ws)) (length d₁) (length d₂) (length d₃) (length d₄)
 
   module _ (ps : List Row) (w : Row) (h : Roomy (ps ++ (w ∷ []))) where
     rows-then : length (ps ++ (w ∷ [])) ≡ length ps + 1

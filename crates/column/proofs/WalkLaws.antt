@@ -14,8 +14,8 @@ use Rattle.model.specs.Form.{valueOf, elemsOf, flat}
 use Rattle.model.specs.Outcome.{columnsRefusal}
 use Rattle.model.proofs.TabLaws.{tab-step, tab-none, length-tab}
 use Rattle.bitmap.proofs.BitLaws.{length-pushBit, length-pushBits}
-use Rattle.column.specs.Put.{Outs, outs, putRow, putRows, Readable, HasRoom, Holds}
-use Rattle.column.specs.Rows.{rowFrom, Between, RoomFor, PutsRow}
+use Rattle.column.specs.Put.{Outs, outs, putRow, putRows, Readable, RoomInˡ, Fillsˡ}
+use Rattle.column.specs.Rows.{rowFrom, ReadableRowˡ, RoomForRowˡ, WritesRowˡ}
 use Rattle.column.proofs.OffsetLaws.{mono, top}
 use Rattle.column.proofs.RowLaws.{length-step, length-none}
 use Rattle.column.proofs.PutLaws.{rows-more, walked}
@@ -27,7 +27,7 @@ pub row-from : (c : Column) (r a b : ℕ) → a ≡ offsetAt (c .offsets) r → 
 unfolding rowAt rowFrom
 row-from c r a b ea eb = rw (ea, eb)
 
-pub between : (c : Column) (n r a b : ℕ) → Readable c → n ≡ rowCount (c .offsets) → r < n → a ≡ offsetAt (c .offsets) r → b ≡ offsetAt (c .offsets) (r + 1) → Between (c .rows) n (c .values) (c .elements) r a b
+pub between : (c : Column) (n r a b : ℕ) → Readable c → n ≡ rowCount (c .offsets) → r < n → a ≡ offsetAt (c .offsets) r → b ≡ offsetAt (c .offsets) (r + 1) → ReadableRowˡ (c .rows) n (c .values) (c .elements) r a b
 between c n r a b w e h ea eb = rw (e, ea, eb) (record {
   there = omega arith;
   rises = mono (c .offsets) (length (c .values)) r (w .offsets) (omega arith);
@@ -70,7 +70,7 @@ pub record Walking (W : ℕ → Row) (n : ℕ) (o₀ : List ℤ) (d₂ : List �
   pub lv : length v ≡ length d₃
   pub le : length e ≡ length d₄
 
-pub kept-room : {n m lo lo′ lr lv le : ℕ} → HasRoom n m lo lr lv le → lo′ ≡ lo → HasRoom n m lo′ lr lv le
+pub kept-room : {n m lo lo′ lr lv le : ℕ} → RoomInˡ n m lo lr lv le → lo′ ≡ lo → RoomInˡ n m lo′ lr lv le
 kept-room m e = rw e m
 
 module _ (W : ℕ → Row) (n : ℕ) where
@@ -82,8 +82,8 @@ module _ (W : ℕ → Row) (n : ℕ) where
     turn : length (flat (tab W r left)) ≡ length (elemsOf w) + length (flat (tab W (r + 1) (left - 1)))
     turn = length-step W r left h ∙ rw same-row
 
-    module _ (m : HasRoom n (length (flat (tab W 0 n))) (length o₀) (length d₂) (length d₃) (length d₄)) where
-      pub walk-room : RoomFor w r at (length ro) (length v) (length e)
+    module _ (m : RoomInˡ n (length (flat (tab W 0 n))) (length o₀) (length d₂) (length d₃) (length d₄)) where
+      pub walk-room : RoomForRowˡ w r at (length ro) (length v) (length e)
       walk-room = record {
         rows = omega (arith, s .rows, s .lr, m .rows);
         values = omega (arith, s .sum, s .lv, m .values, turn);
@@ -93,7 +93,7 @@ module _ (W : ℕ → Row) (n : ℕ) where
       pub walk-slot : r + 1 < length o
       walk-slot = omega (arith, s .rows, s .lo, m .offsets)
 
-    module _ {ro′ : List ℕ} {v′ : List ℤ} {e′ : List ℕ} {k : ℕ} (p : PutsRow w r at ro ro′ v v′ e e′ k) where
+    module _ {ro′ : List ℕ} {v′ : List ℤ} {e′ : List ℕ} {k : ℕ} (p : WritesRowˡ w r at ro ro′ v v′ e e′ k) where
       pub walk-small : k ≤ length (flat (tab W 0 n))
       walk-small = omega (arith, s .sum, p .place, turn)
 
@@ -113,7 +113,7 @@ module _ (W : ℕ → Row) (n : ℕ) where
 
   -- the end
   pub walk-done : (d₁ : List ℤ) {o₀ : List ℤ} {d₂ : List ℕ} {d₃ : List ℤ} {d₄ : List ℕ} {o : List ℤ} {ro : List ℕ} {v : List ℤ} {e : List ℕ} {r at left : ℕ} → Walking W n o₀ d₂ d₃ d₄ o ro v e r at left → left ≤ 0 → o₀ ≡ set d₁ 0 (pos 0)
-      → HasRoom n (length (flat (tab W 0 n))) (length d₁) (length d₂) (length d₃) (length d₄) → Holds (tab W 0 n) d₁ o d₂ ro d₃ v d₄ e
+      → RoomInˡ n (length (flat (tab W 0 n))) (length d₁) (length d₂) (length d₃) (length d₄) → Fillsˡ (tab W 0 n) d₁ o d₂ ro d₃ v d₄ e
   unfolding putRows
   walk-done d₁ {o₀} {d₂} {d₃} {d₄} {o} {ro} {v} {e} {r} {at} {left} s h q m =
       let w = walked d₁ d₂ d₃ d₄ (tab W 0 n) (rw (length-tab W 0 n) m) in

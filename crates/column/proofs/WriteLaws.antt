@@ -10,7 +10,7 @@ use Rattle.model.specs.Bitmap.{bytesFor, pack, packN}
 use Rattle.model.specs.Column.{Elem}
 use Rattle.model.specs.Form.{isVal, valueOf}
 use Rattle.model.proofs.TabLaws.{length-map}
-use Rattle.column.specs.Put.{putValues, putElements, Place, Written, ValuesHold}
+use Rattle.column.specs.Put.{putValues, putElements, RoomForElemsˡ, Writesˡ, FillsValuesˡ}
 use Rattle.bitmap.proofs.BitLaws.{length-pushBit, pushes-pack}
 use Rattle.column.proofs.PutLaws.{values-more, elements-more, sets-over}
 
@@ -40,17 +40,17 @@ module _ {es : List Elem} {at : ℕ} {vo₀ : List ℤ} {eo₀ : List ℕ} where
       le = ap length q ∙ length-pushBit eo k (isVal e) ∙ w .le;
     }
 
-    pub room : (e : Elem) (rest′ : List Elem) → rest ≡ e ∷ rest′ → Place es at (length vo₀) (length eo₀) → (k < length vo) × (k / 8 < length eo)
+    pub room : (e : Elem) (rest′ : List Elem) → rest ≡ e ∷ rest′ → RoomForElemsˡ es at (length vo₀) (length eo₀) → (k < length vo) × (k / 8 < length eo)
     room e rest′ n p = (omega (arith, w .place, ap length n, p .values, w .lv), omega (arith, w .place, ap length n, p .elements, w .le))
 
-    pub done : rest ≡ [] → Written es at vo₀ vo eo₀ eo k
+    pub done : rest ≡ [] → Writesˡ es at vo₀ vo eo₀ eo k
     unfolding pushBits
     done n = record { values = rw n at (w .values); elements = rw n at (w .elements); next = omega (arith, w .place, ap length n) }
 
 -- values written from the first place on are in result form
-pub held : {es : List Elem} {vo vo′ : List ℤ} {ro ro′ : List ℕ} {k : ℕ} → Written es 0 vo vo′ ro ro′ k → length es ≤ length vo → bytesFor (length es) ≤ length ro → ValuesHold es vo vo′ ro ro′
+pub fills-values : {es : List Elem} {vo vo′ : List ℤ} {ro ro′ : List ℕ} {k : ℕ} → Writesˡ es 0 vo vo′ ro ro′ k → length es ≤ length vo → bytesFor (length es) ≤ length ro → FillsValuesˡ es vo vo′ ro ro′
 unfolding pack packN
-held {es} {vo} {vo′} {ro} w v r =
+fills-values {es} {vo} {vo′} {ro} w v r =
     let n = length-map valueOf es in
     let m = length-map isVal es in
     record {

@@ -51,36 +51,36 @@ pub record Readable (c : Column) : Type 0 where
   pub elements : Covers (c .elements) (length (c .values))
 
 -- room in outputs of these lengths for n rows and k elements
-pub record HasRoom (n k lo lr lv le : ℕ) : Type 0 where
+pub record RoomInˡ (n k lo lr lv le : ℕ) : Type 0 where
   pub offsets : n + 1 ≤ lo
   pub rows : bytesFor n ≤ lr
   pub values : k ≤ lv
   pub elements : bytesFor k ≤ le
 
--- the outputs hold the result form of the rows ws, over what they held before
-pub record Holds (ws : List Row) (oo oo′ : List ℤ) (ro ro′ : List ℕ) (vo vo′ : List ℤ) (eo eo′ : List ℕ) : Type 0 where
+-- the outputs hold the result form of the rows ws, over what was there before
+pub record Fillsˡ (ws : List Row) (oo oo′ : List ℤ) (ro ro′ : List ℕ) (vo vo′ : List ℤ) (eo eo′ : List ℕ) : Type 0 where
   pub offsets : oo′ ≡ over (formOffsets ws) oo
   pub rows : ro′ ≡ over (formRows ws) ro
   pub values : vo′ ≡ over (formValues (flat ws)) vo
   pub elements : eo′ ≡ over (formElements (flat ws)) eo
 
 -- n elements from element a on are there to be read
-pub record Source (vs : List ℤ) (eb : Bits) (a n : ℕ) : Type 0 where
+pub record ReadableElemsˡ (vs : List ℤ) (eb : Bits) (a n : ℕ) : Type 0 where
   pub inside : a + n ≤ length vs
   pub bits : Covers eb (length vs)
 
 -- room for the elements es from place k on
-pub record Place (es : List Elem) (k lv le : ℕ) : Type 0 where
+pub record RoomForElemsˡ (es : List Elem) (k lv le : ℕ) : Type 0 where
   pub values : k + length es ≤ lv
   pub elements : bytesFor (k + length es) ≤ le
 
 -- the elements es were written from place k on, and r is the place after them
-pub record Written (es : List Elem) (k : ℕ) (vo vo′ : List ℤ) (eo eo′ : List ℕ) (r : ℕ) : Type 0 where
+pub record Writesˡ (es : List Elem) (k : ℕ) (vo vo′ : List ℤ) (eo eo′ : List ℕ) (r : ℕ) : Type 0 where
   pub values : vo′ ≡ putValues vo k es
   pub elements : eo′ ≡ putElements eo k es
   pub next : r ≡ k + length es
 
--- the outputs of a value answer hold the result form of the values es, over what they held before
-pub record ValuesHold (es : List Elem) (vo vo′ : List ℤ) (ro ro′ : List ℕ) : Type 0 where
+-- the outputs of a value answer hold the result form of the values es, over what was there before
+pub record FillsValuesˡ (es : List Elem) (vo vo′ : List ℤ) (ro ro′ : List ℕ) : Type 0 where
   pub values : vo′ ≡ over (formValues es) vo
   pub rows : ro′ ≡ over (formElements es) ro

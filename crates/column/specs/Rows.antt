@@ -20,7 +20,7 @@ unfoldable pub lenFrom : Bits → ℕ → ℕ → ℕ → ℕ
 lenFrom rb r a b = pick (validAt rb r) (b - a) 0
 
 -- what reading row r of n asks
-pub record Between (rb : Bits) (n : ℕ) (vs : List ℤ) (eb : Bits) (r a b : ℕ) : Type 0 where
+pub record ReadableRowˡ (rb : Bits) (n : ℕ) (vs : List ℤ) (eb : Bits) (r a b : ℕ) : Type 0 where
   pub there : r < n
   pub rises : a ≤ b
   pub inside : b ≤ length vs
@@ -28,13 +28,13 @@ pub record Between (rb : Bits) (n : ℕ) (vs : List ℤ) (eb : Bits) (r a b : �
   pub elements : Covers eb (length vs)
 
 -- room for row w after r rows and at elements
-pub record RoomFor (w : Row) (r at lr lv le : ℕ) : Type 0 where
+pub record RoomForRowˡ (w : Row) (r at lr lv le : ℕ) : Type 0 where
   pub rows : bytesFor (r + 1) ≤ lr
   pub values : at + length (elemsOf w) ≤ lv
   pub elements : bytesFor (at + length (elemsOf w)) ≤ le
 
 -- row w was written after r rows and at elements, but for its offset
-pub record PutsRow (w : Row) (r at : ℕ) (ro ro′ : List ℕ) (vo vo′ : List ℤ) (eo eo′ : List ℕ) (k : ℕ) : Type 0 where
+pub record WritesRowˡ (w : Row) (r at : ℕ) (ro ro′ : List ℕ) (vo vo′ : List ℤ) (eo eo′ : List ℕ) (k : ℕ) : Type 0 where
   pub rows : ro′ ≡ pushBit ro r (isRow w)
   pub values : vo′ ≡ putValues vo at (elemsOf w)
   pub elements : eo′ ≡ putElements eo at (elemsOf w)

@@ -4,7 +4,7 @@ ghost use Rattle.bitmap.specs.Push.{Covers, pushBit};
 ghost use Rattle.model.specs.Basics.{pick};
 ghost use Rattle.model.specs.Column.{nul};
 ghost use Rattle.model.specs.Form.{isVal, underNull, valueOf};
-ghost use Rattle.model.specs.Held.{heldBits, lentElem};
+ghost use Rattle.model.specs.Inner.{nowBits, lentElem};
 ghost use lib.IntN.{pos};
 ghost use lib.ListN.{getD, length, set};
 ghost use mathlib.Core.Path.{_≡_};
@@ -42,7 +42,7 @@ pub fn write_elem(
     k: usize,
 )
     requires { ⌜ i < length (now values) ⌝ }
-    requires { ⌜ Covers (heldBits elements estart) (length (now values)) ⌝ }
+    requires { ⌜ Covers (nowBits elements estart) (length (now values)) ⌝ }
     requires { ⌜ k < length (now «out_values») ⌝ }
     requires { ⌜ k / 8 < length (now «out_elements») ⌝ }
     ensures { λ _. ⌜ now («out_values» .exit) ≡ set (now («out_values» .entry)) k (valueOf (lentElem values elements estart i)) ⌝ }

@@ -1,6 +1,4 @@
 // Reading, checking and writing list columns, slot by slot. An inner crate: its callers meet what it asks.
-pub mod answers;
-pub mod checks;
 pub mod elements;
 pub mod offsets;
 pub mod rows;

@@ -2,12 +2,12 @@
 ghost use Prim.Native.Nat.{_<_, _≤_};
 ghost use Rattle.bitmap.specs.Push.{Covers};
 ghost use Rattle.column.specs.Rows.{lenFrom};
-ghost use Rattle.model.specs.Held.{heldBits, lentBits};
+ghost use Rattle.model.specs.Inner.{nowBits, lentBits};
 ghost use mathlib.Core.Path.{_≡_};
 
 // The number of elements that row r of n shows, between a and b: none where it is null.
 pub fn row_len(rows: &[u8], rstart: usize, n: usize, r: usize, a: usize, b: usize) -> usize
-    requires { ⌜ Covers (heldBits rows rstart) n ⌝ }
+    requires { ⌜ Covers (nowBits rows rstart) n ⌝ }
     requires { ⌜ r < n ⌝ }
     requires { ⌜ a ≤ b ⌝ }
     ensures { λ k. ⌜ k ≡ lenFrom (lentBits rows rstart) r a b ⌝ }

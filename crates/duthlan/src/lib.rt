@@ -1,17 +1,16 @@
 // The C entries. Every parameter but `op` and `columns` is a slice of bytes, a pointer and a length for C: offsets of four bytes,
 // values of eight, little-endian, and bitmaps. The answer is 0 where the call is accepted, with its counts, eight bytes each, at the front
 // of `counts`; 1 to 10 for the operation's refusals; and the entry's own, in this order: 102 for no such operation, 100 for a
-// slice of numbers that ends within one or a short `counts`, 101 for more numbers than the arrays here hold. Whatever is refused
+// slice of numbers that ends within one or a short `counts`, 101 for more numbers than the entries' arrays hold. Whatever is refused
 // changes no byte of the outputs and the counts.
 use entries::any_value;
 use entries::element;
 use entries::list;
 use entries::two_lists;
-use entry::sizes;
-ghost use Rattle.entry.specs.Entry.{ListEntry, ValueEntry, decoded, decodedArguments, listSizes, setCall, size, unaryCall, valueSizes};
+ghost use Rattle.entry.specs.Entry.{ListEntry, ValueEntry, decoded, decodedArguments, listSizes, size, valueSizes};
+ghost use Rattle.entry_codes.specs.Calls.{setCall, unaryCall, withCall};
 ghost use Rattle.entry_recipe.specs.Recipe.{RecipeEntry, pairSizes, recipeSizes};
 ghost use Rattle.entry_repeat.specs.Repeat.{RepeatEntry};
-ghost use Rattle.entry_with.specs.With.{withCall};
 ghost use Rattle.model.specs.Basics.{given};
 ghost use Rattle.model.specs.Limits.{narrow};
 ghost use Rattle.model.specs.Outcome.{anyValueOutcome, elementOutcome, repeatOutcome};
@@ -34,10 +33,6 @@ pub extern "C" fn duthlan_list(
 ) -> u32
     ensures { λ n. ⌜ ListEntry (unaryCall op (decoded offsets rows values elements)) (listSizes (size offsets) (size values)) n «out_offsets» «out_rows» «out_values» «out_elements» counts ⌝ }
 {
-    let mut o = [0i32; sizes::MOST_OFFSETS];
-    let mut v = [0i64; sizes::MOST_VALUES];
-    let mut oo = [0i32; sizes::MOST_OFFSETS];
-    let mut ov = [0i64; sizes::MOST_VALUES];
     list::enter(
         op,
         offsets,
@@ -49,117 +44,53 @@ pub extern "C" fn duthlan_list(
         out_values,
         out_elements,
         counts,
-        &mut o,
-        &mut v,
-        &mut oo,
-        &mut ov,
     )
 }
 
 // Slice (op 4), slice without stride (5), resize (6), replace (7), remove (8), resize without fill (11). Of the three argument columns
 // an operation looks at those that it takes; the sizes of all are tested.
 #[no_mangle]
+#[rattlefmt::skip]
 pub extern "C" fn duthlan_list_with(
     op: u32,
-    offsets: &[u8],
-    rows: &[u8],
-    values: &[u8],
-    elements: &[u8],
-    first: &[u8],
-    first_bits: &[u8],
-    second: &[u8],
-    second_bits: &[u8],
-    third: &[u8],
-    third_bits: &[u8],
-    out_offsets: &mut [u8],
-    out_rows: &mut [u8],
-    out_values: &mut [u8],
-    out_elements: &mut [u8],
+    offsets: &[u8], rows: &[u8], values: &[u8], elements: &[u8],
+    first: &[u8], first_bits: &[u8],
+    second: &[u8], second_bits: &[u8],
+    third: &[u8], third_bits: &[u8],
+    out_offsets: &mut [u8], out_rows: &mut [u8], out_values: &mut [u8], out_elements: &mut [u8],
     counts: &mut [u8],
 ) -> u32
     ensures { λ n. ⌜ ListEntry (withCall op (decoded offsets rows values elements) (decodedArguments first «first_bits») (decodedArguments second «second_bits») (decodedArguments third «third_bits»)) (listSizes (size offsets) (size values) ++ (valueSizes (size first) ++ (valueSizes (size second) ++ valueSizes (size third)))) n «out_offsets» «out_rows» «out_values» «out_elements» counts ⌝ }
 {
-    let mut o = [0i32; sizes::MOST_OFFSETS];
-    let mut v = [0i64; sizes::MOST_VALUES];
-    let mut x = [0i64; sizes::MOST_ROWS];
-    let mut y = [0i64; sizes::MOST_ROWS];
-    let mut z = [0i64; sizes::MOST_ROWS];
-    let mut oo = [0i32; sizes::MOST_OFFSETS];
-    let mut ov = [0i64; sizes::MOST_VALUES];
     entry_with::enter(
         op,
-        offsets,
-        rows,
-        values,
-        elements,
-        first,
-        first_bits,
-        second,
-        second_bits,
-        third,
-        third_bits,
-        out_offsets,
-        out_rows,
-        out_values,
-        out_elements,
+        offsets, rows, values, elements,
+        first, first_bits,
+        second, second_bits,
+        third, third_bits,
+        out_offsets, out_rows, out_values, out_elements,
         counts,
-        &mut o,
-        &mut v,
-        &mut x,
-        &mut y,
-        &mut z,
-        &mut oo,
-        &mut ov,
     )
 }
 
 // Union (op 9) and intersect (10) of two lists.
 #[no_mangle]
+#[rattlefmt::skip]
 pub extern "C" fn duthlan_lists(
     op: u32,
-    l_offsets: &[u8],
-    l_rows: &[u8],
-    l_values: &[u8],
-    l_elements: &[u8],
-    r_offsets: &[u8],
-    r_rows: &[u8],
-    r_values: &[u8],
-    r_elements: &[u8],
-    out_offsets: &mut [u8],
-    out_rows: &mut [u8],
-    out_values: &mut [u8],
-    out_elements: &mut [u8],
+    l_offsets: &[u8], l_rows: &[u8], l_values: &[u8], l_elements: &[u8],
+    r_offsets: &[u8], r_rows: &[u8], r_values: &[u8], r_elements: &[u8],
+    out_offsets: &mut [u8], out_rows: &mut [u8], out_values: &mut [u8], out_elements: &mut [u8],
     counts: &mut [u8],
 ) -> u32
     ensures { λ n. ⌜ ListEntry (setCall op (decoded «l_offsets» «l_rows» «l_values» «l_elements») (decoded «r_offsets» «r_rows» «r_values» «r_elements»)) (listSizes (size «l_offsets») (size «l_values») ++ listSizes (size «r_offsets») (size «r_values»)) n «out_offsets» «out_rows» «out_values» «out_elements» counts ⌝ }
 {
-    let mut lo = [0i32; sizes::MOST_OFFSETS];
-    let mut lv = [0i64; sizes::MOST_VALUES];
-    let mut ro = [0i32; sizes::MOST_OFFSETS];
-    let mut rv = [0i64; sizes::MOST_VALUES];
-    let mut oo = [0i32; sizes::MOST_OFFSETS];
-    let mut ov = [0i64; sizes::MOST_VALUES];
     two_lists::enter(
         op,
-        l_offsets,
-        l_rows,
-        l_values,
-        l_elements,
-        r_offsets,
-        r_rows,
-        r_values,
-        r_elements,
-        out_offsets,
-        out_rows,
-        out_values,
-        out_elements,
+        l_offsets, l_rows, l_values, l_elements,
+        r_offsets, r_rows, r_values, r_elements,
+        out_offsets, out_rows, out_values, out_elements,
         counts,
-        &mut lo,
-        &mut lv,
-        &mut ro,
-        &mut rv,
-        &mut oo,
-        &mut ov,
     )
 }
 
@@ -176,9 +107,6 @@ pub extern "C" fn duthlan_any_value(
 ) -> u32
     ensures { λ n. ⌜ ValueEntry (given (anyValueOutcome (decoded offsets rows values elements))) (listSizes (size offsets) (size values)) n «out_values» «out_rows» counts ⌝ }
 {
-    let mut o = [0i32; sizes::MOST_OFFSETS];
-    let mut v = [0i64; sizes::MOST_VALUES];
-    let mut ov = [0i64; sizes::MOST_ROWS];
     any_value::enter(
         offsets,
         rows,
@@ -187,9 +115,6 @@ pub extern "C" fn duthlan_any_value(
         out_values,
         out_rows,
         counts,
-        &mut o,
-        &mut v,
-        &mut ov,
     )
 }
 
@@ -208,10 +133,6 @@ pub extern "C" fn duthlan_element(
 ) -> u32
     ensures { λ n. ⌜ ValueEntry (given (elementOutcome narrow (decoded offsets rows values elements) (decodedArguments indexes «index_bits»))) (listSizes (size offsets) (size values) ++ valueSizes (size indexes)) n «out_values» «out_rows» counts ⌝ }
 {
-    let mut o = [0i32; sizes::MOST_OFFSETS];
-    let mut v = [0i64; sizes::MOST_VALUES];
-    let mut i = [0i64; sizes::MOST_ROWS];
-    let mut ov = [0i64; sizes::MOST_ROWS];
     element::enter(
         offsets,
         rows,
@@ -222,58 +143,29 @@ pub extern "C" fn duthlan_element(
         out_values,
         out_rows,
         counts,
-        &mut o,
-        &mut v,
-        &mut i,
-        &mut ov,
     )
 }
 
 // Each list as many times as its count says.
 #[no_mangle]
+#[rattlefmt::skip]
 pub extern "C" fn duthlan_list_repeat(
-    offsets: &[u8],
-    rows: &[u8],
-    values: &[u8],
-    elements: &[u8],
-    times: &[u8],
-    times_bits: &[u8],
-    out_offsets: &mut [u8],
-    out_rows: &mut [u8],
-    inner_offsets: &mut [u8],
-    inner_rows: &mut [u8],
-    out_values: &mut [u8],
-    out_elements: &mut [u8],
+    offsets: &[u8], rows: &[u8], values: &[u8], elements: &[u8],
+    times: &[u8], times_bits: &[u8],
+    out_offsets: &mut [u8], out_rows: &mut [u8],
+    inner_offsets: &mut [u8], inner_rows: &mut [u8],
+    out_values: &mut [u8], out_elements: &mut [u8],
     counts: &mut [u8],
 ) -> u32
     ensures { λ n. ⌜ RepeatEntry (given (repeatOutcome narrow (decoded offsets rows values elements) (decodedArguments times «times_bits»))) (listSizes (size offsets) (size values) ++ valueSizes (size times)) n «out_offsets» «out_rows» «inner_offsets» «inner_rows» «out_values» «out_elements» counts ⌝ }
 {
-    let mut o = [0i32; sizes::MOST_OFFSETS];
-    let mut v = [0i64; sizes::MOST_VALUES];
-    let mut t = [0i64; sizes::MOST_ROWS];
-    let mut oo = [0i32; sizes::MOST_OFFSETS];
-    let mut io = [0i32; entry_repeat::MOST_INNER_OFFSETS];
-    let mut ov = [0i64; sizes::MOST_VALUES];
     entry_repeat::enter(
-        offsets,
-        rows,
-        values,
-        elements,
-        times,
-        times_bits,
-        out_offsets,
-        out_rows,
-        inner_offsets,
-        inner_rows,
-        out_values,
-        out_elements,
+        offsets, rows, values, elements,
+        times, times_bits,
+        out_offsets, out_rows,
+        inner_offsets, inner_rows,
+        out_values, out_elements,
         counts,
-        &mut o,
-        &mut v,
-        &mut t,
-        &mut oo,
-        &mut io,
-        &mut ov,
     )
 }
 
@@ -281,62 +173,27 @@ pub extern "C" fn duthlan_list_repeat(
 // `columns` says. The two trays are zero afterwards, whatever comes. The tally is two counts of eight bytes at the front of `tally`,
 // recipes finished and recipes refused; a call that the entry itself refuses is not counted, and 100 is also for a short `tally`.
 #[no_mangle]
+#[rattlefmt::skip]
 pub extern "C" fn duthlan_recipe(
-    columns: u32,
-    numbers: &[u8],
-    offsets: &[u8],
-    rows: &[u8],
-    values: &[u8],
-    elements: &[u8],
-    second_offsets: &[u8],
-    second_rows: &[u8],
-    second_values: &[u8],
-    second_elements: &[u8],
-    arguments: &[u8],
-    argument_bits: &[u8],
-    one_offsets: &mut [u8],
-    one_rows: &mut [u8],
-    one_values: &mut [u8],
-    one_elements: &mut [u8],
-    two_offsets: &mut [u8],
-    two_rows: &mut [u8],
-    two_values: &mut [u8],
-    two_elements: &mut [u8],
-    out_offsets: &mut [u8],
-    out_rows: &mut [u8],
-    out_values: &mut [u8],
-    out_elements: &mut [u8],
-    counts: &mut [u8],
-    tally: &mut [u8],
+    columns: u32, numbers: &[u8],
+    offsets: &[u8], rows: &[u8], values: &[u8], elements: &[u8],
+    second_offsets: &[u8], second_rows: &[u8], second_values: &[u8], second_elements: &[u8],
+    arguments: &[u8], argument_bits: &[u8],
+    one_offsets: &mut [u8], one_rows: &mut [u8], one_values: &mut [u8], one_elements: &mut [u8],
+    two_offsets: &mut [u8], two_rows: &mut [u8], two_values: &mut [u8], two_elements: &mut [u8],
+    out_offsets: &mut [u8], out_rows: &mut [u8], out_values: &mut [u8], out_elements: &mut [u8],
+    counts: &mut [u8], tally: &mut [u8],
 ) -> u32
     ensures { λ n. ⌜ RecipeEntry (recipeIn columns numbers offsets rows values elements «second_offsets» «second_rows» «second_values» «second_elements» arguments «argument_bits») (recipeSizes (size numbers) (size arguments) ++ pairSizes (size offsets) (size values) (size «second_offsets») (size «second_values»)) n «one_offsets» «one_rows» «one_values» «one_elements» «two_offsets» «two_rows» «two_values» «two_elements» «out_offsets» «out_rows» «out_values» «out_elements» counts tally ⌝ }
 {
     entry_recipe::enter(
-        columns,
-        numbers,
-        offsets,
-        rows,
-        values,
-        elements,
-        second_offsets,
-        second_rows,
-        second_values,
-        second_elements,
-        arguments,
-        argument_bits,
-        one_offsets,
-        one_rows,
-        one_values,
-        one_elements,
-        two_offsets,
-        two_rows,
-        two_values,
-        two_elements,
-        out_offsets,
-        out_rows,
-        out_values,
-        out_elements,
-        counts,
-        tally,
+        columns, numbers,
+        offsets, rows, values, elements,
+        second_offsets, second_rows, second_values, second_elements,
+        arguments, argument_bits,
+        one_offsets, one_rows, one_values, one_elements,
+        two_offsets, two_rows, two_values, two_elements,
+        out_offsets, out_rows, out_values, out_elements,
+        counts, tally,
     )
 }

@@ -1,42 +1,39 @@
 // Any-value, over bytes.
 use entry::answers;
+use entry::inputs;
 use entry::sizes;
 use lists::extract;
-use wire::decode_i32;
-use wire::decode_i64;
-ghost use Prim.Native.Nat.{_/_, _≤_};
-ghost use Rattle.entry.specs.Entry.{ValueEntry, ValueReturned, decoded, listSizes, mostRows, size};
-ghost use Rattle.entry.specs.Inner.{Arrays, Holds};
+use model::ValueAnswer;
+ghost use Prim.Native.Nat.{_≤_};
+ghost use Rattle.entry.specs.Entry.{ValueEntry, decoded, listSizes, mostOffsets, mostValues, size};
+ghost use Rattle.entry.specs.Inner.{ListFits, ValueRuns};
 ghost use Rattle.model.specs.Basics.{given};
 ghost use Rattle.model.specs.Outcome.{anyValueOutcome};
 ghost use lib.ListN.{length};
-ghost use mathlib.Core.Path.{_≡_};
 
-// Decodes into o and v, runs the operation on ov, and encodes what it counts of that; each has a place for each number.
+// Decodes the column, and runs the operation with room for m values in v.
 fn run(
     offsets: &[u8],
     rows: &[u8],
     values: &[u8],
     elements: &[u8],
-    out_values: &mut [u8],
-    out_rows: &mut [u8],
-    counts: &mut [u8],
-    o: &mut [i32],
+    m: usize,
     v: &mut [i64],
-    ov: &mut [i64],
-) -> u32
-    requires lent { ⌜ Holds (length (now o)) (length (now v)) (length (now offsets)) (length (now values)) ⌝ }
-    requires outputs { ⌜ length (now ov) ≡ length (now «out_values») / 8 ⌝ }
-    requires counts { ⌜ 16 ≤ length (now counts) ⌝ }
-    ensures { λ n. ⌜ ValueReturned (anyValueOutcome (decoded offsets rows values elements)) n «out_values» «out_rows» counts ⌝ }
+    out_rows: &mut [u8],
+) -> ValueAnswer
+    requires lent { ⌜ ListFits (length (now offsets)) (length (now values)) mostOffsets mostValues ⌝ }
+    requires output { ⌜ m ≤ length (now v) ⌝ }
+    ensures { λ a. ⌜ ValueRuns (anyValueOutcome (decoded offsets rows values elements)) m a v «out_rows» ⌝ }
 {
-    decode_i32(offsets, o);
-    decode_i64(values, v);
-    let answer = extract::general_array_any_value(o, rows, v, elements, ov, out_rows);
-    answers::put_values(answer, ov, out_values, counts)
+    let mut lo = [0i32; sizes::MOST_OFFSETS];
+    let mut lv = [0i64; sizes::MOST_VALUES];
+    inputs::get_list(offsets, values, &mut lo, &mut lv);
+    let no = offsets.len() / 4;
+    let nv = values.len() / 8;
+    extract::general_array_any_value(&lo[..no], rows, &lv[..nv], elements, &mut v[..m], out_rows)
 }
 
-// Tests the sizes, and cuts the arrays to them.
+// Tests the sizes, runs the operation, and encodes what it counts.
 pub fn enter(
     offsets: &[u8],
     rows: &[u8],
@@ -45,31 +42,15 @@ pub fn enter(
     out_values: &mut [u8],
     out_rows: &mut [u8],
     counts: &mut [u8],
-    o: &mut [i32],
-    v: &mut [i64],
-    ov: &mut [i64],
 ) -> u32
-    requires lent { ⌜ Arrays (length (now o)) (length (now v)) ⌝ }
-    requires outputs { ⌜ length (now ov) ≡ mostRows ⌝ }
     ensures { λ n. ⌜ ValueEntry (given (anyValueOutcome (decoded offsets rows values elements))) (listSizes (size offsets) (size values)) n «out_values» «out_rows» counts ⌝ }
 {
     let k = sizes::any_value_refusal(offsets.len(), values.len(), out_values.len(), counts.len());
     if k != 0 {
         return k;
     }
-    let no = offsets.len() / 4;
-    let nv = values.len() / 8;
-    let mv = out_values.len() / 8;
-    run(
-        offsets,
-        rows,
-        values,
-        elements,
-        out_values,
-        out_rows,
-        counts,
-        &mut o[..no],
-        &mut v[..nv],
-        &mut ov[..mv],
-    )
+    let m = out_values.len() / 8;
+    let mut v = [0i64; sizes::MOST_ROWS];
+    let answer = run(offsets, rows, values, elements, m, &mut v, out_rows);
+    answers::put_values(answer, &v, out_values, counts)
 }

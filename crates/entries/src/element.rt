@@ -1,20 +1,19 @@
 // Element, over bytes.
 use entry::answers;
+use entry::inputs;
 use entry::sizes;
 use lists::extract;
-use wire::decode_i32;
-use wire::decode_i64;
+use model::ValueAnswer;
 ghost use Prim.Native.Nat.{_/_, _≤_};
-ghost use Rattle.entry.specs.Entry.{ValueEntry, ValueReturned, decoded, decodedArguments, listSizes, mostRows, size, valueSizes};
-ghost use Rattle.entry.specs.Inner.{Arrays, Holds};
+ghost use Rattle.entry.specs.Entry.{ValueEntry, decoded, decodedArguments, listSizes, mostOffsets, mostRows, mostValues, size, valueSizes};
+ghost use Rattle.entry.specs.Inner.{ListFits, ValueRuns};
 ghost use Rattle.model.specs.Basics.{given};
 ghost use Rattle.model.specs.Limits.{narrow};
 ghost use Rattle.model.specs.Outcome.{elementOutcome};
 ghost use lib.ListN.{length};
 ghost use mathlib.Core.List.{_++_};
-ghost use mathlib.Core.Path.{_≡_};
 
-// Decodes into o, v and i, runs the operation on ov, and encodes what it counts of that; each has a place for each number.
+// Decodes the columns, and runs the operation with room for m values in v.
 fn run(
     offsets: &[u8],
     rows: &[u8],
@@ -22,28 +21,36 @@ fn run(
     elements: &[u8],
     indexes: &[u8],
     index_bits: &[u8],
-    out_values: &mut [u8],
-    out_rows: &mut [u8],
-    counts: &mut [u8],
-    o: &mut [i32],
+    m: usize,
     v: &mut [i64],
-    i: &mut [i64],
-    ov: &mut [i64],
-) -> u32
-    requires lent { ⌜ Holds (length (now o)) (length (now v)) (length (now offsets)) (length (now values)) ⌝ }
-    requires arguments { ⌜ length (now i) ≡ length (now indexes) / 8 ⌝ }
-    requires outputs { ⌜ length (now ov) ≡ length (now «out_values») / 8 ⌝ }
-    requires counts { ⌜ 16 ≤ length (now counts) ⌝ }
-    ensures { λ n. ⌜ ValueReturned (elementOutcome narrow (decoded offsets rows values elements) (decodedArguments indexes «index_bits»)) n «out_values» «out_rows» counts ⌝ }
+    out_rows: &mut [u8],
+) -> ValueAnswer
+    requires lent { ⌜ ListFits (length (now offsets)) (length (now values)) mostOffsets mostValues ⌝ }
+    requires arguments { ⌜ length (now indexes) / 8 ≤ mostRows ⌝ }
+    requires output { ⌜ m ≤ length (now v) ⌝ }
+    ensures { λ a. ⌜ ValueRuns (elementOutcome narrow (decoded offsets rows values elements) (decodedArguments indexes «index_bits»)) m a v «out_rows» ⌝ }
 {
-    decode_i32(offsets, o);
-    decode_i64(values, v);
-    decode_i64(indexes, i);
-    let answer = extract::general_array_element(o, rows, v, elements, i, index_bits, ov, out_rows);
-    answers::put_values(answer, ov, out_values, counts)
+    let mut lo = [0i32; sizes::MOST_OFFSETS];
+    let mut lv = [0i64; sizes::MOST_VALUES];
+    let mut li = [0i64; sizes::MOST_ROWS];
+    inputs::get_list(offsets, values, &mut lo, &mut lv);
+    inputs::get_values(indexes, &mut li);
+    let no = offsets.len() / 4;
+    let nv = values.len() / 8;
+    let ni = indexes.len() / 8;
+    extract::general_array_element(
+        &lo[..no],
+        rows,
+        &lv[..nv],
+        elements,
+        &li[..ni],
+        index_bits,
+        &mut v[..m],
+        out_rows,
+    )
 }
 
-// Tests the sizes, and cuts the arrays to them.
+// Tests the sizes, runs the operation, and encodes what it counts.
 pub fn enter(
     offsets: &[u8],
     rows: &[u8],
@@ -54,14 +61,7 @@ pub fn enter(
     out_values: &mut [u8],
     out_rows: &mut [u8],
     counts: &mut [u8],
-    o: &mut [i32],
-    v: &mut [i64],
-    i: &mut [i64],
-    ov: &mut [i64],
 ) -> u32
-    requires lent { ⌜ Arrays (length (now o)) (length (now v)) ⌝ }
-    requires arguments { ⌜ length (now i) ≡ mostRows ⌝ }
-    requires outputs { ⌜ length (now ov) ≡ mostRows ⌝ }
     ensures { λ n. ⌜ ValueEntry (given (elementOutcome narrow (decoded offsets rows values elements) (decodedArguments indexes «index_bits»))) (listSizes (size offsets) (size values) ++ valueSizes (size indexes)) n «out_values» «out_rows» counts ⌝ }
 {
     let k = sizes::element_refusal(
@@ -74,23 +74,18 @@ pub fn enter(
     if k != 0 {
         return k;
     }
-    let no = offsets.len() / 4;
-    let nv = values.len() / 8;
-    let ni = indexes.len() / 8;
-    let mv = out_values.len() / 8;
-    run(
+    let m = out_values.len() / 8;
+    let mut v = [0i64; sizes::MOST_ROWS];
+    let answer = run(
         offsets,
         rows,
         values,
         elements,
         indexes,
         index_bits,
-        out_values,
+        m,
+        &mut v,
         out_rows,
-        counts,
-        &mut o[..no],
-        &mut v[..nv],
-        &mut i[..ni],
-        &mut ov[..mv],
-    )
+    );
+    answers::put_values(answer, &v, out_values, counts)
 }

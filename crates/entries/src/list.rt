@@ -1,122 +1,50 @@
 // The operations on one list without arguments, over bytes.
 use entry::answers;
+use entry::inputs;
 use entry::sizes;
-use lists::extract;
-use lists::reverse;
-use lists::set_ops;
+use entry_codes::Plain;
+use entry_codes::unary_of;
 use model::ListAnswer;
 use model::Unary;
-use wire::decode_i32;
-use wire::decode_i64;
-ghost use Prim.Native.Nat.{_<_, _≤_};
-ghost use Rattle.entry.specs.Entry.{ListEntry, ListReturned, decoded, listSizes, size, unaryCall, unaryOf};
-ghost use Rattle.entry.specs.Inner.{Arrays, Holds};
-ghost use Rattle.model.specs.Basics.{given};
-ghost use Rattle.model.specs.Contract.{ListAnswers, lent};
+use ops::ListOp;
+ghost use Prim.Native.Nat.{_≤_};
+ghost use Rattle.entry.specs.Entry.{ListEntry, decoded, listSizes, mostOffsets, mostValues, size};
+ghost use Rattle.entry.specs.Inner.{ListFits, ListRuns};
+ghost use Rattle.entry_codes.specs.Calls.{unaryCall};
 ghost use Rattle.model.specs.Limits.{narrow};
 ghost use Rattle.model.specs.Outcome.{listOutcome};
 ghost use Rattle.model.specs.Rows.{unary};
 ghost use lib.ListN.{length};
-ghost use mathlib.Core.Path.{_≡_};
 
-fn unary_of(op: u32) -> Unary
-    requires { ⌜ op < 4 ⌝ }
-    ensures { λ r. ⌜ unaryOf op ≡ given r ⌝ }
-{
-    match op {
-        0 => Unary::Reverse,
-        1 => Unary::Distinct,
-        2 => Unary::PopFront,
-        _ => Unary::PopBack,
-    }
-}
-
-fn call(
-    op: Unary,
-    offsets: &[i32],
-    rows: &[u8],
-    values: &[i64],
-    elements: &[u8],
-    out_offsets: &mut [i32],
-    out_rows: &mut [u8],
-    out_values: &mut [i64],
-    out_elements: &mut [u8],
-) -> ListAnswer
-    ensures { λ a. ⌜ ListAnswers (listOutcome narrow (unary op (lent offsets rows values elements))) a «out_offsets» «out_rows» «out_values» «out_elements» ⌝ }
-{
-    match op {
-        Unary::Reverse => reverse::general_array_reverse(
-            offsets,
-            rows,
-            values,
-            elements,
-            out_offsets,
-            out_rows,
-            out_values,
-            out_elements,
-        ),
-        Unary::Distinct => set_ops::general_array_distinct(
-            offsets,
-            rows,
-            values,
-            elements,
-            out_offsets,
-            out_rows,
-            out_values,
-            out_elements,
-        ),
-        Unary::PopFront => extract::general_pop_front_list(
-            offsets,
-            rows,
-            values,
-            elements,
-            out_offsets,
-            out_rows,
-            out_values,
-            out_elements,
-        ),
-        Unary::PopBack => extract::general_pop_back_list(
-            offsets,
-            rows,
-            values,
-            elements,
-            out_offsets,
-            out_rows,
-            out_values,
-            out_elements,
-        ),
-    }
-}
-
-// Decodes into o and v, runs the operation on oo and ov, and encodes what it counts of those; each has a place for each number.
+// Decodes the column, and runs the operation with room for mo offsets in o and mv values in v.
+#[rattlefmt::skip]
 fn run(
     op: Unary,
-    offsets: &[u8],
-    rows: &[u8],
-    values: &[u8],
-    elements: &[u8],
-    out_offsets: &mut [u8],
-    out_rows: &mut [u8],
-    out_values: &mut [u8],
-    out_elements: &mut [u8],
-    counts: &mut [u8],
-    o: &mut [i32],
-    v: &mut [i64],
-    oo: &mut [i32],
-    ov: &mut [i64],
-) -> u32
-    requires lent { ⌜ Holds (length (now o)) (length (now v)) (length (now offsets)) (length (now values)) ⌝ }
-    requires outputs { ⌜ Holds (length (now oo)) (length (now ov)) (length (now «out_offsets»)) (length (now «out_values»)) ⌝ }
-    requires counts { ⌜ 32 ≤ length (now counts) ⌝ }
-    ensures { λ n. ⌜ ListReturned (listOutcome narrow (unary op (decoded offsets rows values elements))) n «out_offsets» «out_rows» «out_values» «out_elements» counts ⌝ }
+    offsets: &[u8], rows: &[u8], values: &[u8], elements: &[u8],
+    mo: usize, mv: usize, o: &mut [i32], out_rows: &mut [u8], v: &mut [i64], out_elements: &mut [u8],
+) -> ListAnswer
+    requires lent { ⌜ ListFits (length (now offsets)) (length (now values)) mostOffsets mostValues ⌝ }
+    requires offsets { ⌜ mo ≤ length (now o) ⌝ }
+    requires values { ⌜ mv ≤ length (now v) ⌝ }
+    ensures { λ a. ⌜ ListRuns (listOutcome narrow (unary op (decoded offsets rows values elements))) mo mv a o «out_rows» v «out_elements» ⌝ }
 {
-    decode_i32(offsets, o);
-    decode_i64(values, v);
-    let answer = call(op, o, rows, v, elements, oo, out_rows, ov, out_elements);
-    answers::put_list(answer, oo, ov, out_offsets, out_values, counts)
+    let mut lo = [0i32; sizes::MOST_OFFSETS];
+    let mut lv = [0i64; sizes::MOST_VALUES];
+    inputs::get_list(offsets, values, &mut lo, &mut lv);
+    let no = offsets.len() / 4;
+    let nv = values.len() / 8;
+    let vs = &lv[..nv];
+    // The walk looks at no argument columns here: any slices stand in their places.
+    list_walk::run(
+        ListOp::Plain(op), &lo[..no], rows, 0, vs, elements, 0,
+        vs, elements, 0,
+        vs, elements, 0,
+        vs, elements, 0,
+        &mut o[..mo], out_rows, &mut v[..mv], out_elements,
+    )
 }
 
-// Tests the code and the sizes, and cuts the arrays to them.
+// Tests the code and the sizes, runs the operation, and encodes what it counts.
 pub fn enter(
     op: u32,
     offsets: &[u8],
@@ -128,47 +56,41 @@ pub fn enter(
     out_values: &mut [u8],
     out_elements: &mut [u8],
     counts: &mut [u8],
-    o: &mut [i32],
-    v: &mut [i64],
-    oo: &mut [i32],
-    ov: &mut [i64],
 ) -> u32
-    requires lent { ⌜ Arrays (length (now o)) (length (now v)) ⌝ }
-    requires outputs { ⌜ Arrays (length (now oo)) (length (now ov)) ⌝ }
     ensures { λ n. ⌜ ListEntry (unaryCall op (decoded offsets rows values elements)) (listSizes (size offsets) (size values)) n «out_offsets» «out_rows» «out_values» «out_elements» counts ⌝ }
 {
-    if 3 < op {
-        return 102;
+    let named = unary_of(op);
+    match named {
+        Plain::None => 102,
+        Plain::Of(operation) => {
+            let k = sizes::list_refusal(
+                offsets.len(),
+                values.len(),
+                out_offsets.len(),
+                out_values.len(),
+                counts.len(),
+            );
+            if k != 0 {
+                return k;
+            }
+            let mo = out_offsets.len() / 4;
+            let mv = out_values.len() / 8;
+            let mut o = [0i32; sizes::MOST_OFFSETS];
+            let mut v = [0i64; sizes::MOST_VALUES];
+            let answer = run(
+                operation,
+                offsets,
+                rows,
+                values,
+                elements,
+                mo,
+                mv,
+                &mut o,
+                out_rows,
+                &mut v,
+                out_elements,
+            );
+            answers::put_list(answer, &o, &v, out_offsets, out_values, counts)
+        }
     }
-    let operation = unary_of(op);
-    let k = sizes::list_refusal(
-        offsets.len(),
-        values.len(),
-        out_offsets.len(),
-        out_values.len(),
-        counts.len(),
-    );
-    if k != 0 {
-        return k;
-    }
-    let no = offsets.len() / 4;
-    let nv = values.len() / 8;
-    let mo = out_offsets.len() / 4;
-    let mv = out_values.len() / 8;
-    run(
-        operation,
-        offsets,
-        rows,
-        values,
-        elements,
-        out_offsets,
-        out_rows,
-        out_values,
-        out_elements,
-        counts,
-        &mut o[..no],
-        &mut v[..nv],
-        &mut oo[..mo],
-        &mut ov[..mv],
-    )
 }

@@ -1,23 +1,21 @@
 -- Laws of an entry's outcome: the code, the sizes, and then the operation on decoded slices.
 use mathlib.Core.Path.{_≡_, refl}
-use mathlib.Core.List.{List, [], _∷_}
-use Prim.Native.Nat.{ℕ, _<_}
+use mathlib.Core.List.{List}
+use Prim.Native.Nat.{ℕ}
 use borrow.Author.Tests.{ne-eqb}
 use lib.IntN.{ℤ}
-use lib.ListN.{List·getD-eq-default}
 use Rattle.model.specs.Basics.{Lent, absent, given}
 use Rattle.model.specs.Bitmap.{Bits}
-use Rattle.model.specs.Column.{Elem, Row, Column, column, arguments}
+use Rattle.model.specs.Column.{Elem, Row, column, arguments}
 use Rattle.model.specs.Limits.{narrow}
-use Rattle.model.specs.Rows.{unary, setOp, onLent}
+use Rattle.model.specs.Rows.{unary, setOp}
 use Rattle.model.specs.Outcome.{Outcome, refused, gate, listOutcome, anyValueOutcome, elementOutcome}
 use Rattle.model.specs.Call.{written}
 use Rattle.model.specs.Contract.{room, valueRoom}
 use Rattle.model.specs.declared.Unary.{Unary}
-use Rattle.model.specs.declared.Unary.the-variants.{Reverse, Distinct, PopFront, PopBack}
 use Rattle.model.specs.declared.SetOp.{SetOp}
 use Rattle.model.proofs.OutcomeLaws.{gate-open}
-use Rattle.entry.specs.Entry.{ListReturns, ValueReturns, entered, numberOf, unaryOf, unaryCall, setOf, setCall}
+use Rattle.entry.specs.Entry.{ListReturns, ValueReturns, entered, numberOf}
 
 -- ---- no operation, a refusal of the sizes, or the operation
 
@@ -34,32 +32,6 @@ module _ {A L : Type 0} {f : Lent (L → Outcome A)} (k : ℕ) (l : L) where
   pub called : {g : L → Outcome A} {r : ℕ} → f ≡ given g → r ≡ k → r ≡ 0 → entered f k l ≡ g l
   unfolding entered
   called {g} h e z = rw (h, ← e) (gate-open _ (g l) z)
-
--- ---- codes
-
-no-unary : (op : ℕ) → 3 < op → unaryOf op ≡ absent
-unfolding unaryOf
-no-unary op h = List·getD-eq-default (given Reverse ∷ given Distinct ∷ given PopFront ∷ given PopBack ∷ []) absent {n = op} h
-
-pub no-code : (op : ℕ) (c : Column) → 3 < op → unaryCall op c ≡ absent
-unfolding unaryCall onLent
-no-code op c h = rw (no-unary op h)
-
-pub code : (op : ℕ) {u : Unary} (c : Column) → unaryOf op ≡ given u → unaryCall op c ≡ given (listOutcome narrow (unary u c))
-unfolding unaryCall onLent
-code op c h = rw h
-
-no-set : (op : ℕ) → (op ≡ 9 → ⊥) → (op ≡ 10 → ⊥) → setOf op ≡ absent
-unfolding setOf
-no-set op h k = rw (ne-eqb op 9 h, ne-eqb op 10 k)
-
-pub no-set-code : (op : ℕ) (c d : Column) → (op ≡ 9 → ⊥) → (op ≡ 10 → ⊥) → setCall op c d ≡ absent
-unfolding setCall onLent
-no-set-code op c d h k = rw (no-set op h k)
-
-pub set-code : (op : ℕ) {u : SetOp} (c d : Column) → setOf op ≡ given u → setCall op c d ≡ given (listOutcome narrow (setOp u c d))
-unfolding setCall onLent
-set-code op c d h = rw h
 
 -- ---- the operations on decoded slices
 

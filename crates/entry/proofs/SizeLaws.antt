@@ -9,8 +9,8 @@ use lib.Dec.{ltb}
 use lib.ListN.{length, take, drop, length-drop, length-append}
 use lib.Seq.{length-take-le}
 use Rattle.model.specs.Basics.{pick, any, All, none, more}
-use Rattle.entry.specs.Inner.{Arrays}
-use Rattle.entry.specs.Entry.{Numbers, mostRows, listSizes, valueSizes, ragged, outsize, sizeRefusal}
+use Rattle.entry.specs.Inner.{ListFits}
+use Rattle.entry.specs.Entry.{Numbers, mostOffsets, mostValues, mostRows, listSizes, valueSizes, ragged, outsize, sizeRefusal}
 use Rattle.model.proofs.BoolLaws.{or-none}
 
 -- ---- the tests as the code joins them
@@ -69,15 +69,11 @@ all-right [] ys a = a
 all-right (x ∷ xs) ys (more p a) = all-right xs ys a
 
 -- the arrays hold the numbers of a list, or one value a row
-pub record ListFits (o v ao av : ℕ) : Type 0 where
-  pub offsets : o / 4 ≤ ao
-  pub values : v / 8 ≤ av
+pub list-fits : (o v : ℕ) → All Fits (listSizes o v) → ListFits o v mostOffsets mostValues
+list-fits o v (more p (more q none)) = record { offsets = p; values = q }
 
-pub list-fits : (o v : ℕ) {ao av : ℕ} → All Fits (listSizes o v) → Arrays ao av → ListFits o v ao av
-list-fits o v (more p (more q none)) a = record { offsets = rw (a .offsets) p; values = rw (a .values) q }
-
-pub value-fits : (v : ℕ) {a : ℕ} → All Fits (valueSizes v) → a ≡ mostRows → v / 8 ≤ a
-value-fits v (more p none) e = rw e p
+pub value-fits : (v : ℕ) → All Fits (valueSizes v) → v / 8 ≤ mostRows
+value-fits v (more p none) = p
 
 -- an array whose front was lent and came back has its length
 pub whole : {A : Type 0} (x l : List A) (n : ℕ) → n ≤ length l → length x ≡ length (take n l) → length (x ++ drop n l) ≡ length l

@@ -4,22 +4,16 @@ use Prim.Native.Nat.{ℕ, _/_, _%_}
 use mathlib.Core.Path.{_≡_}
 use mathlib.Core.Bool.{Bool, not, _||_}
 use mathlib.Core.List.{List, [], _∷_, _++_}
-use lib.ListN.{length, getD}
+use lib.ListN.{length}
 use lib.Dec.{eqb, ltb}
 use denote.Ref.{now}
 use Rattle.model.specs.Basics.{pick, any, Lent, absent, given}
 use Rattle.model.specs.Bitmap.{from}
-use Rattle.model.specs.Limits.{narrow}
 use Rattle.model.specs.Column.{Elem, Row, Column, column, Arguments, arguments}
 use Rattle.model.specs.Form.{Room, ValueRoom, flat, formOffsets, formRows, formValues, formElements}
-use Rattle.model.specs.Rows.{unary, setOp, onLent}
-use Rattle.model.specs.Outcome.{Outcome, refused, made, gate, listOutcome}
+use Rattle.model.specs.Outcome.{Outcome, refused, made, gate}
 use Rattle.model.specs.Call.{listCounts, valueCounts}
 use Rattle.model.specs.Contract.{Slice, after, room, valueRoom}
-use Rattle.model.specs.declared.Unary.{Unary}
-use Rattle.model.specs.declared.Unary.the-variants.{Reverse, Distinct, PopFront, PopBack}
-use Rattle.model.specs.declared.SetOp.{SetOp}
-use Rattle.model.specs.declared.SetOp.the-variants.{Union, Intersect}
 use Rattle.wire.specs.Bytes.{ints4, ints8, bytesOf4, bytesOf8, bytesOfCounts}
 
 -- ---- what is lent
@@ -87,21 +81,6 @@ sizeRefusal ss counts need = pick (any ragged ss || ltb counts need) 100 (pick (
 unfoldable pub entered : {A L : Type 0} → Lent (L → Outcome A) → ℕ → L → Outcome A
 entered absent k l = refused 102
 entered (given f) k l = gate k (f l)
-
--- the codes of document 01's recipes: "0 reverse, 1 distinct, 2 pop front, 3 pop back"
-unfoldable pub unaryOf : ℕ → Lent Unary
-unaryOf op = getD (given Reverse ∷ given Distinct ∷ given PopFront ∷ given PopBack ∷ []) op absent
-
--- an operation on one list by its code
-unfoldable pub unaryCall : ℕ → Column → Lent (Room → Outcome (List Row))
-unaryCall op c = onLent (λ k. listOutcome narrow (unary k c)) (unaryOf op)
-
--- and of its two set operations: "9 union, 10 intersect"
-unfoldable pub setOf : ℕ → Lent SetOp
-setOf op = pick (eqb op 9) (given Union) (pick (eqb op 10) (given Intersect) absent)
-
-unfoldable pub setCall : ℕ → Column → Column → Lent (Room → Outcome (List Row))
-setCall op c d = onLent (λ k. listOutcome narrow (setOp k c d)) (setOf op)
 
 -- ---- what is returned and written
 

@@ -1,5 +1,5 @@
 // The sizes of the entries' arrays, and their own refusals by the sizes, on lengths in bytes alone. 0 is none.
-ghost use Prim.Native.Nat.{_<_};
+ghost use Prim.Native.Nat.{_/_, _<_};
 ghost use Rattle.entry.specs.Entry.{listSizes, numbers, outsize, ragged, sizeRefusal, valueSizes};
 ghost use Rattle.model.specs.Basics.{any, pick};
 ghost use mathlib.Core.List.{_++_};
@@ -10,6 +10,19 @@ pub const MOST_OFFSETS: usize = 4097;
 pub const MOST_VALUES: usize = 16384;
 // Of argument columns and value answers.
 pub const MOST_ROWS: usize = 4096;
+
+// How many offsets, and how many values, stand in so many bytes.
+pub fn offsets_in(bytes: usize) -> usize
+    ensures { λ r. ⌜ r ≡ bytes / 4 ⌝ }
+{
+    bytes / 4
+}
+
+pub fn values_in(bytes: usize) -> usize
+    ensures { λ r. ⌜ r ≡ bytes / 8 ⌝ }
+{
+    bytes / 8
+}
 
 pub fn is_ragged(bytes: usize, width: usize) -> bool
     requires { ⌜ 0 < width ⌝ }

@@ -6,14 +6,17 @@ use native.Mathlib.Omega.{arith}
 use borrow.Author.Tests.{ltb-false, lt-ltb, le-ltb, ne-eqb}
 use lib.Dec.{ltb}
 use Rattle.model.specs.Basics.{All, none, more}
-use Rattle.model.specs.Column.{Row}
+use Rattle.model.specs.Column.{Row, Column, Arguments}
+use Rattle.model.specs.Form.{Room}
+use Rattle.model.specs.Limits.{narrow}
 use Rattle.model.specs.Outcome.{Outcome}
+use Rattle.model.specs.Recipe.{Recipe, recipeOutcome}
 use Rattle.entry.specs.Entry.{Numbers, listSizes, mostOffsets, mostValues, sizeRefusal}
+use Rattle.entry.specs.Inner.{ListFits}
 use Rattle.entry.proofs.SizeLaws.{Fits, Sized, sized, pick-none}
-use Rattle.recipe_bytes.specs.Inner.{Roomy}
-use Rattle.recipe_bytes.specs.Recipe.{talliedIn}
-use Rattle.recipe_inputs.specs.Inner.{Within}
-use Rattle.entry_recipe.specs.Recipe.{mostNumbers, mostArguments, recipeSizes, pairSizes, recipeSizeRefusal, tallyAfter}
+use Rattle.tally_bytes.specs.Bytes.{talliedIn}
+use Rattle.recipe_bytes.specs.Inner.{InputsFit, TraysFit}
+use Rattle.entry_recipe.specs.Recipe.{recipeSizes, pairSizes, recipeSizeRefusal, tallyAfter}
 
 -- ---- the sizes
 
@@ -31,12 +34,20 @@ recipe-sized ss c t h = let p = pick-none (ltb t 16) 100 (sizeRefusal ss c 32) (
 
 -- the arrays have places for all numbers
 pub all-fit : (bns ba bo bv bso bsv po pv qo qv lo lv : ℕ) → All Fits (((recipeSizes bns ba ++ pairSizes bo bv bso bsv) ++ pairSizes po pv qo qv) ++ listSizes lo lv)
-    → Within bns bo bv bso bsv ba mostNumbers mostOffsets mostValues mostOffsets mostValues mostArguments
-    × Roomy (po / 4) (pv / 8) (qo / 4) (qv / 8) lo lv mostOffsets mostValues mostOffsets mostValues mostOffsets mostValues
+    → InputsFit bns bo bv bso bsv ba × TraysFit (po / 4) (pv / 8) (qo / 4) (qv / 8) × ListFits lo lv mostOffsets mostValues
 all-fit bns ba bo bv bso bsv po pv qo qv lo lv (more f1 (more f2 (more f3 (more f4 (more f5 (more f6 (more f7 (more f8 (more f9 (more f10 (more f11 (more f12 none)))))))))))) = (
-  record { numbers = f1; offsets = f3; values = f4; second-offsets = f5; second-values = f6; arguments = f2 },
-  record { one-offsets = f7; one-values = f8; two-offsets = f9; two-values = f10; offsets = f11; values = f12 },
+  record { numbers = f1; list = record { offsets = f3; values = f4 }; second = record { offsets = f5; values = f6 }; arguments = f2 },
+  record { one-offsets = f7; one-values = f8; two-offsets = f9; two-values = f10 },
+  record { offsets = f11; values = f12 },
 )
+
+-- ---- the recipe for the trays' lengths as the code found them
+
+pub trays-fit : {ho hv io iv a b c d : ℕ} → ho ≡ a → hv ≡ b → io ≡ c → iv ≡ d → TraysFit a b c d → TraysFit ho hv io iv
+trays-fit p q r s h = rw (p, q, r, s) h
+
+pub same-trays : (r : Recipe) (c d : Column) (e : Arguments) {a a′ b b′ : Room} (o : Room) → a ≡ a′ → b ≡ b′ → recipeOutcome narrow r c d e a b o ≡ recipeOutcome narrow r c d e a′ b′ o
+same-trays r c d e o f g = rw (f, g)
 
 -- ---- the tally; r is what the code found k to be
 

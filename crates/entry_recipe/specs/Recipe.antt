@@ -10,14 +10,9 @@ use Rattle.model.specs.Contract.{Slice}
 use Rattle.model.specs.Form.{Room}
 use Rattle.model.specs.Outcome.{Outcome}
 use Rattle.entry.specs.Entry.{Numbers, numbers, listSizes, size, bytesRoom, sizeRefusal, ListAnswered}
-use Rattle.recipe_bytes.specs.Recipe.{Zero, talliedIn}
-
--- the most of a recipe's numbers and of argument values that the entry takes, in the code's arrays
-abbrev pub mostNumbers : ℕ
-mostNumbers = 1024
-
-abbrev pub mostArguments : ℕ
-mostArguments = 32768
+use Rattle.tally_bytes.specs.Bytes.{talliedIn}
+use Rattle.recipe_bytes.specs.Inner.{mostNumbers, mostArguments}
+use Rattle.recipe_bytes.specs.Recipe.{Zero}
 
 -- a recipe's numbers and its argument values, by their bytes
 abbrev pub recipeSizes : ℕ → ℕ → List Numbers

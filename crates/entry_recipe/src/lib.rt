@@ -1,22 +1,19 @@
-// The C entry of recipes: the sizes are tested, the trays' numbers cleared, and the recipe run on arrays. An inner crate.
+// The C entry of recipes: the sizes are tested, the trays' numbers cleared, the recipe run, its tally and its answer encoded. An
+// inner crate.
 use copies::clear_u8;
+use entry::answers;
 use entry::sizes;
-ghost use Prim.Native.Nat.{_≤_};
-ghost use Rattle.entry.specs.Entry.{listSizes, mostOffsets, mostValues, outsize, ragged, size};
-ghost use Rattle.entry_recipe.specs.Recipe.{RecipeEntry, mostArguments, mostNumbers, pairSizes, recipeSizeRefusal, recipeSizes};
+use recipe_bytes::MOST_ARGUMENTS;
+use recipe_bytes::MOST_NUMBERS;
+use tally_bytes::get_tally;
+use tally_bytes::put_tally;
+ghost use Rattle.entry.specs.Entry.{listSizes, outsize, ragged, size};
+ghost use Rattle.entry_recipe.specs.Recipe.{RecipeEntry, pairSizes, recipeSizeRefusal, recipeSizes};
 ghost use Rattle.model.specs.Basics.{any};
-ghost use Rattle.recipe_bytes.specs.Inner.{Ran, Roomy};
-ghost use Rattle.recipe_bytes.specs.Recipe.{recipeIn, trayRoom};
-ghost use Rattle.recipe_inputs.specs.Inner.{Within};
+ghost use Rattle.recipe_bytes.specs.Recipe.{recipeIn};
 ghost use lib.ListN.{length, replicate};
 ghost use mathlib.Core.List.{_++_};
 ghost use mathlib.Core.Path.{_≡_};
-
-// Of a recipe: 256 steps, more than it may have.
-pub const MOST_NUMBERS: usize = 1024;
-
-// Of argument values: eight columns of 4096 rows.
-pub const MOST_ARGUMENTS: usize = 32768;
 
 // Of a recipe's numbers and argument values, and below of two lists or two trays; on lengths in bytes alone.
 fn is_recipe_ragged(numbers: usize, arguments: usize) -> bool
@@ -54,21 +51,16 @@ fn is_pair_outsize(
         | sizes::is_list_outsize(two_offsets, two_values)
 }
 
+#[rattlefmt::skip]
 fn recipe_refusal(
     numbers: usize,
     arguments: usize,
-    offsets: usize,
-    values: usize,
-    second_offsets: usize,
-    second_values: usize,
-    one_offsets: usize,
-    one_values: usize,
-    two_offsets: usize,
-    two_values: usize,
-    out_offsets: usize,
-    out_values: usize,
-    counts: usize,
-    tally: usize,
+    offsets: usize, values: usize,
+    second_offsets: usize, second_values: usize,
+    one_offsets: usize, one_values: usize,
+    two_offsets: usize, two_values: usize,
+    out_offsets: usize, out_values: usize,
+    counts: usize, tally: usize,
 ) -> u32
     ensures { λ r. ⌜ r ≡ recipeSizeRefusal (((recipeSizes numbers arguments ++ pairSizes offsets values «second_offsets» «second_values») ++ pairSizes «one_offsets» «one_values» «two_offsets» «two_values») ++ listSizes «out_offsets» «out_values») counts tally ⌝ }
 {
@@ -99,177 +91,55 @@ fn clear_four(a: &mut [u8], b: &mut [u8], c: &mut [u8], d: &mut [u8])
     clear_u8(d);
 }
 
-// The arrays, and nothing else. Tray one has ho offsets and hv values, tray two io and iv.
-fn run_on_arrays(
-    columns: u32,
-    ho: usize,
-    hv: usize,
-    io: usize,
-    iv: usize,
-    numbers: &[u8],
-    offsets: &[u8],
-    rows: &[u8],
-    values: &[u8],
-    elements: &[u8],
-    second_offsets: &[u8],
-    second_rows: &[u8],
-    second_values: &[u8],
-    second_elements: &[u8],
-    arguments: &[u8],
-    argument_bits: &[u8],
-    one_rows: &mut [u8],
-    one_elements: &mut [u8],
-    two_rows: &mut [u8],
-    two_elements: &mut [u8],
-    out_offsets: &mut [u8],
-    out_rows: &mut [u8],
-    out_values: &mut [u8],
-    out_elements: &mut [u8],
-    counts: &mut [u8],
-    tally: &mut [u8],
-) -> u32
-    requires inputs { ⌜ Within (length (now numbers)) (length (now offsets)) (length (now values)) (length (now «second_offsets»)) (length (now «second_values»)) (length (now arguments)) mostNumbers mostOffsets mostValues mostOffsets mostValues mostArguments ⌝ }
-    requires arrays { ⌜ Roomy ho hv io iv (length (now «out_offsets»)) (length (now «out_values»)) mostOffsets mostValues mostOffsets mostValues mostOffsets mostValues ⌝ }
-    requires counts { ⌜ 32 ≤ length (now counts) ⌝ }
-    requires tally { ⌜ 16 ≤ length (now tally) ⌝ }
-    ensures { λ n. ⌜ Ran (recipeIn columns numbers offsets rows values elements «second_offsets» «second_rows» «second_values» «second_elements» arguments «argument_bits» (trayRoom ho «one_rows» hv «one_elements») (trayRoom io «two_rows» iv «two_elements»)) n «one_rows» «one_elements» «two_rows» «two_elements» «out_offsets» «out_rows» «out_values» «out_elements» counts tally ⌝ }
-{
-    let mut ns = [0u32; MOST_NUMBERS];
-    let mut o = [0i32; sizes::MOST_OFFSETS];
-    let mut v = [0i64; sizes::MOST_VALUES];
-    let mut so = [0i32; sizes::MOST_OFFSETS];
-    let mut sv = [0i64; sizes::MOST_VALUES];
-    let mut a = [0i64; MOST_ARGUMENTS];
-    let mut ao = [0i32; sizes::MOST_OFFSETS];
-    let mut av = [0i64; sizes::MOST_VALUES];
-    let mut bo = [0i32; sizes::MOST_OFFSETS];
-    let mut bv = [0i64; sizes::MOST_VALUES];
-    let mut oo = [0i32; sizes::MOST_OFFSETS];
-    let mut ov = [0i64; sizes::MOST_VALUES];
-    recipe_inputs::run(
-        columns,
-        ho,
-        hv,
-        io,
-        iv,
-        numbers,
-        offsets,
-        rows,
-        values,
-        elements,
-        second_offsets,
-        second_rows,
-        second_values,
-        second_elements,
-        arguments,
-        argument_bits,
-        one_rows,
-        one_elements,
-        two_rows,
-        two_elements,
-        out_offsets,
-        out_rows,
-        out_values,
-        out_elements,
-        counts,
-        tally,
-        &mut ns,
-        &mut o,
-        &mut v,
-        &mut so,
-        &mut sv,
-        &mut a,
-        &mut ao,
-        &mut av,
-        &mut bo,
-        &mut bv,
-        &mut oo,
-        &mut ov,
-    )
-}
-
-// Tests the sizes, clears the trays' numbers, and runs the recipe, which clears the trays' bitmaps.
+// Tests the sizes, clears the trays' numbers, runs the recipe, which clears the trays' bitmaps, and encodes the tally and what is counted.
+#[rattlefmt::skip]
 pub fn enter(
-    columns: u32,
-    numbers: &[u8],
-    offsets: &[u8],
-    rows: &[u8],
-    values: &[u8],
-    elements: &[u8],
-    second_offsets: &[u8],
-    second_rows: &[u8],
-    second_values: &[u8],
-    second_elements: &[u8],
-    arguments: &[u8],
-    argument_bits: &[u8],
-    one_offsets: &mut [u8],
-    one_rows: &mut [u8],
-    one_values: &mut [u8],
-    one_elements: &mut [u8],
-    two_offsets: &mut [u8],
-    two_rows: &mut [u8],
-    two_values: &mut [u8],
-    two_elements: &mut [u8],
-    out_offsets: &mut [u8],
-    out_rows: &mut [u8],
-    out_values: &mut [u8],
-    out_elements: &mut [u8],
-    counts: &mut [u8],
-    tally: &mut [u8],
+    columns: u32, numbers: &[u8],
+    offsets: &[u8], rows: &[u8], values: &[u8], elements: &[u8],
+    second_offsets: &[u8], second_rows: &[u8], second_values: &[u8], second_elements: &[u8],
+    arguments: &[u8], argument_bits: &[u8],
+    one_offsets: &mut [u8], one_rows: &mut [u8], one_values: &mut [u8], one_elements: &mut [u8],
+    two_offsets: &mut [u8], two_rows: &mut [u8], two_values: &mut [u8], two_elements: &mut [u8],
+    out_offsets: &mut [u8], out_rows: &mut [u8], out_values: &mut [u8], out_elements: &mut [u8],
+    counts: &mut [u8], tally: &mut [u8],
 ) -> u32
     ensures { λ n. ⌜ RecipeEntry (recipeIn columns numbers offsets rows values elements «second_offsets» «second_rows» «second_values» «second_elements» arguments «argument_bits») (recipeSizes (size numbers) (size arguments) ++ pairSizes (size offsets) (size values) (size «second_offsets») (size «second_values»)) n «one_offsets» «one_rows» «one_values» «one_elements» «two_offsets» «two_rows» «two_values» «two_elements» «out_offsets» «out_rows» «out_values» «out_elements» counts tally ⌝ }
 {
     let k = recipe_refusal(
         numbers.len(),
         arguments.len(),
-        offsets.len(),
-        values.len(),
-        second_offsets.len(),
-        second_values.len(),
-        one_offsets.len(),
-        one_values.len(),
-        two_offsets.len(),
-        two_values.len(),
-        out_offsets.len(),
-        out_values.len(),
-        counts.len(),
-        tally.len(),
+        offsets.len(), values.len(),
+        second_offsets.len(), second_values.len(),
+        one_offsets.len(), one_values.len(),
+        two_offsets.len(), two_values.len(),
+        out_offsets.len(), out_values.len(),
+        counts.len(), tally.len(),
     );
-    let ho = one_offsets.len() / 4;
-    let hv = one_values.len() / 8;
-    let io = two_offsets.len() / 4;
-    let iv = two_values.len() / 8;
+    let ho = sizes::offsets_in(one_offsets.len());
+    let hv = sizes::values_in(one_values.len());
+    let io = sizes::offsets_in(two_offsets.len());
+    let iv = sizes::values_in(two_values.len());
     clear_four(one_offsets, one_values, two_offsets, two_values);
     if k != 0 {
         clear_four(one_rows, one_elements, two_rows, two_elements);
         return k;
     }
-    run_on_arrays(
-        columns,
-        ho,
-        hv,
-        io,
-        iv,
-        numbers,
-        offsets,
-        rows,
-        values,
-        elements,
-        second_offsets,
-        second_rows,
-        second_values,
-        second_elements,
-        arguments,
-        argument_bits,
-        one_rows,
-        one_elements,
-        two_rows,
-        two_elements,
-        out_offsets,
-        out_rows,
-        out_values,
-        out_elements,
-        counts,
-        tally,
-    )
+    let mo = out_offsets.len() / 4;
+    let mv = out_values.len() / 8;
+    let before = get_tally(tally);
+    let mut o = [0i32; sizes::MOST_OFFSETS];
+    let mut v = [0i64; sizes::MOST_VALUES];
+    let done = recipe_bytes::run(
+        before, columns, ho, hv, io, iv, mo, mv, numbers,
+        offsets, rows, values, elements,
+        second_offsets, second_rows, second_values, second_elements,
+        arguments, argument_bits,
+        one_rows, one_elements,
+        two_rows, two_elements,
+        &mut o, out_rows, &mut v, out_elements,
+    );
+    let after = done.tally;
+    put_tally(after, tally);
+    let answer = done.answer;
+    answers::put_list(answer, &o, &v, out_offsets, out_values, counts)
 }

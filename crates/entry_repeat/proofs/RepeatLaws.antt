@@ -1,12 +1,11 @@
 -- What list-repeat leaves in its outputs, and what is sent of them, come to what its entry returns.
 use mathlib.Core.Path.{_≡_, refl, sym, ap, _∙_}
-use mathlib.Core.List.{List, [], _∷_, map, flatMap}
-use Prim.Native.Nat.{ℕ, _+_, _/_, _≤_}
+use mathlib.Core.List.{List, _++_, map}
+use Prim.Native.Nat.{ℕ, _+_, _*_, _/_, _≤_}
 use native.Mathlib.Numerals.{add-one}
 use native.Mathlib.Omega.{arith}
 use lib.IntN.{ℤ}
-use lib.ListN.{length, take, drop, length-append, length-drop}
-use lib.Seq.{take-at}
+use lib.ListN.{length, take, drop}
 use Rattle.model.specs.Basics.{All, none, more}
 use Rattle.model.specs.Bitmap.{Bits}
 use Rattle.model.specs.Column.{column, arguments}
@@ -19,40 +18,23 @@ use Rattle.model.specs.declared.RepeatAnswer.{RepeatAnswer}
 use Rattle.model.specs.declared.RepeatAnswer.the-variants as R
 use Rattle.model.proofs.TabLaws.{length-map}
 use Rattle.model.proofs.FormLaws.{length-offsets}
-use Rattle.wire.specs.Bytes.{bytesOf, bytesOf4, bytesOf8, bytesOfCounts}
+use Rattle.wire.specs.Bytes.{bytesOf4, bytesOf8, bytesOfCounts}
 use Rattle.entry.specs.Entry.{numberOf}
-use Rattle.entry.specs.Inner.{Holds, numberIn, countsIn}
+use Rattle.entry.specs.Inner.{numberIn, countsIn}
 use Rattle.entry.proofs.SizeLaws.{Fits}
 use Rattle.entry.proofs.AnswerLaws.{number-of, counts-of, bytes-written, none4, none8, no-counts, within, front}
 use Rattle.model.proofs.BoolLaws.{never}
 use Rattle.entry_repeat.specs.Repeat.{RepeatReturns, mostInner, innerSizes}
-use Rattle.entry_repeat.specs.Inner.{outerSlots, innerSlots, valueSlots, RepeatReady, RepeatSent}
+use Rattle.repeat_bytes.specs.Inner.{outerSlots, innerSlots, valueSlots, RepeatRan, RepeatReady, RepeatSent}
 
 -- ---- sizes, and the operation on decoded slices
 
-pub inner-fits : (i : ℕ) {a : ℕ} → All Fits (innerSizes i) → a ≡ mostInner → i / 4 ≤ a
-inner-fits i (more p none) e = rw e p
+pub inner-fits : (i : ℕ) → All Fits (innerSizes i) → i / 4 ≤ mostInner
+inner-fits i (more p none) = p
 
 pub repeat-decoded : (r e b : Bits) (lr lj le : ℕ) {o o′ v v′ t t′ : List ℤ} {lo lo′ li li′ lv lv′ : ℕ} → o ≡ o′ → v ≡ v′ → t ≡ t′ → lo ≡ lo′ → li ≡ li′ → lv ≡ lv′
     → repeatOutcome narrow (column o′ r v′ e) (arguments t′ b) (repeatRoom lo′ lr li′ lj lv′ le) ≡ repeatOutcome narrow (column o r v e) (arguments t b) (repeatRoom lo lr li lj lv le)
 repeat-decoded r e b lr lj le p q s f g h = rw (p, q, s, f, g, h)
-
--- ---- an answer is sent
-
-pub sent-refused : {a : RepeatAnswer} (k : ℕ) {o io v : List ℤ} {bo bi bv c : List ℕ} → a ≡ R.Refused k → RepeatSent a k o io v bo bo bi bi bv bv c c
-unfolding toldRepeat numberIn countsIn outerSlots innerSlots valueSlots bytesOf bytesOfCounts flatMap
-sent-refused k q = rw q (record { number = refl; offsets = refl; inner-offsets = refl; values = refl; counts = refl })
-
-module _ {a : RepeatAnswer} {r e n m i j : ℕ} (q : a ≡ R.Counts r e n m i j) where
-  pub sent-made : {o io v : List ℤ} {bo bo′ bi bi′ bv bv′ c c′ : List ℕ}
-      → bo′ ≡ over (bytesOf4 (take (r + 1) o)) bo → bi′ ≡ over (bytesOf4 (take (i + 1) io)) bi → bv′ ≡ over (bytesOf8 (take e v)) bv → c′ ≡ over (bytesOfCounts (r ∷ e ∷ n ∷ m ∷ i ∷ j ∷ [])) c
-      → RepeatSent a 0 o io v bo bo′ bi bi′ bv bv′ c c′
-  unfolding toldRepeat numberIn countsIn outerSlots innerSlots valueSlots
-  sent-made f g h k = rw q (record { number = refl; offsets = f; inner-offsets = g; values = h; counts = k })
-
-  pub counted : {o io v lo li lv lc : ℕ} → RepeatReady a o io v lo li lv lc → (r + 1 ≤ o) × (i + 1 ≤ io) × (e ≤ v)
-  unfolding outerSlots innerSlots valueSlots
-  counted d = (rw q at (d .offsets), rw q at (d .inner-offsets), rw q at (d .values))
 
 -- ---- an answer after the operation
 
@@ -83,30 +65,50 @@ value-slots (refused k) (R.Counts r e n m i j) h = never cc
 value-slots (made os) (R.Refused l) h = never cc
 value-slots (made os) (R.Counts r e n m i j) h = let z : e ≡ length (flat (inner os)) = cc in z ∙ sym (length-map valueOf (flat (inner os)))
 
-module _ {x : Outcome (List Outer)} {a : RepeatAnswer} {o₀ o : List ℤ} {r r′ : List ℕ} {i₀ i : List ℤ} {ir ir′ : List ℕ} {v₀ v : List ℤ} {e e′ : List ℕ} (m : RepeatMeets x a o₀ o r r′ i₀ i ir ir′ v₀ v e e′) where
-  pub ready : {lo li lv lc : ℕ} → length o ≡ length o₀ → length i ≡ length i₀ → length v ≡ length v₀ → Holds (length o₀) (length v₀) lo lv → length i₀ ≡ li / 4 → 48 ≤ lc → RepeatReady a (length o) (length i) (length v) lo li lv lc
-  ready p s q h g k =
+-- the operation was lent the first m offsets of o, the first i of io and the first n values of v, which came back as p, s and q
+pub repeat-ran : {x y : Outcome (List Outer)} {a : RepeatAnswer} (m i n : ℕ) (o io v : List ℤ) {p s q : List ℤ} {r r′ ir ir′ e e′ : List ℕ} → RepeatMeets x a (take m o) p r r′ (take i io) s ir ir′ (take n v) q e e′
+    → length p ≡ length (take m o) → length s ≡ length (take i io) → length q ≡ length (take n v) → m ≤ length o → i ≤ length io → n ≤ length v → y ≡ x → RepeatRan y a m i n (p ++ drop m o) (s ++ drop i io) (q ++ drop n v) r r′ ir ir′ e e′
+repeat-ran {x = x} {a = a} m i n o io v {p = p} {s = s} {q = q} t h j k f g l z =
+    let os = outer-slots x a (t .answer) in
+    let is = inner-slots x a (t .answer) in
+    let vs = value-slots x a (t .answer) in
+    rw z (record {
+      answer = t .answer;
+      offset-room = rw os (within (written (λ ws. offsetsFrom 0 (map outerLength ws)) x) o p m (t .offsets) h f);
+      inner-room = rw is (within (written (λ ws. formOffsets (inner ws)) x) io s i (t .inner-offsets) j g);
+      value-room = rw vs (within (written (λ ws. formValues (flat (inner ws))) x) v q n (t .values) k l);
+      offsets = front (written (λ ws. offsetsFrom 0 (map outerLength ws)) x) o p m (t .offsets) h f (outerSlots a) os;
+      inner-offsets = front (written (λ ws. formOffsets (inner ws)) x) io s i (t .inner-offsets) j g (innerSlots a) is;
+      values = front (written (λ ws. formValues (flat (inner ws))) x) v q n (t .values) k l (valueSlots a) vs;
+      rows = t .rows;
+      inner-rows = t .inner-rows;
+      elements = t .elements;
+    })
+
+module _ {x : Outcome (List Outer)} {a : RepeatAnswer} {m i n : ℕ} {o io v : List ℤ} {r r′ ir ir′ e e′ : List ℕ} (t : RepeatRan x a m i n o io v r r′ ir ir′ e e′) where
+  pub ready : {lo li lv lc : ℕ} → m ≤ length o → i ≤ length io → n ≤ length v → m ≡ lo / 4 → i ≡ li / 4 → n ≡ lv / 8 → 48 ≤ lc → RepeatReady a (length o) (length io) (length v) lo li lv lc
+  ready f g h p q s k =
       record {
-        offsets = rw (outer-slots x a (m .answer)) (within (written (λ os. offsetsFrom 0 (map outerLength os)) x) o₀ (m .offsets) p);
-        inner-offsets = rw (inner-slots x a (m .answer)) (within (written (λ os. formOffsets (inner os)) x) i₀ (m .inner-offsets) s);
-        values = rw (value-slots x a (m .answer)) (within (written (λ os. formValues (flat (inner os))) x) v₀ (m .values) q);
-        offset-bytes = omega (arith, h .offsets);
-        inner-bytes = omega arith;
-        value-bytes = omega (arith, h .values);
+        offsets = omega (arith, t .offset-room);
+        inner-offsets = omega (arith, t .inner-room);
+        values = omega (arith, t .value-room);
+        offset-bytes = omega (arith, t .offset-room);
+        inner-bytes = omega (arith, t .inner-room);
+        value-bytes = omega (arith, t .value-room);
         count-bytes = k;
       }
 
-  pub repeat-returns : {n : ℕ} {bo bo′ bi bi′ bv bv′ c c′ : List ℕ} → RepeatSent a n o i v bo bo′ bi bi′ bv bv′ c c′ → RepeatReturns x n bo bo′ r r′ bi bi′ ir ir′ bv bv′ e e′ c c′
+  pub repeat-returns : {l : ℕ} {bo bo′ bi bi′ bv bv′ c c′ : List ℕ} → RepeatSent a l o io v bo bo′ bi bi′ bv bv′ c c′ → RepeatReturns x l bo bo′ r r′ bi bi′ ir ir′ bv bv′ e e′ c c′
   repeat-returns {bo = bo} {bi = bi} {bv = bv} {c = c} s =
       record {
-        number = s .number ∙ ap numberIn (m .answer) ∙ number-of repeatCounts x;
-        offsets = s .offsets ∙ ap (λ w. over w bo) (front bytesOf4 (λ os. offsetsFrom 0 (map outerLength os)) x o₀ (outerSlots a) none4 (m .offsets) (outer-slots x a (m .answer)));
-        rows = m .rows;
-        inner-offsets = s .inner-offsets ∙ ap (λ w. over w bi) (front bytesOf4 (λ os. formOffsets (inner os)) x i₀ (innerSlots a) none4 (m .inner-offsets) (inner-slots x a (m .answer)));
-        inner-rows = m .inner-rows;
-        values = s .values ∙ ap (λ w. over w bv) (front bytesOf8 (λ os. formValues (flat (inner os))) x v₀ (valueSlots a) none8 (m .values) (value-slots x a (m .answer)));
-        elements = m .elements;
-        counts = s .counts ∙ ap (λ w. over w c) (ap bytesOfCounts (ap countsIn (m .answer) ∙ counts-of repeatCounts x) ∙ bytes-written bytesOfCounts repeatCounts x no-counts);
+        number = s .number ∙ ap numberIn (t .answer) ∙ number-of repeatCounts x;
+        offsets = s .offsets ∙ ap (λ w. over w bo) (ap bytesOf4 (t .offsets) ∙ bytes-written bytesOf4 (λ os. offsetsFrom 0 (map outerLength os)) x none4);
+        rows = t .rows;
+        inner-offsets = s .inner-offsets ∙ ap (λ w. over w bi) (ap bytesOf4 (t .inner-offsets) ∙ bytes-written bytesOf4 (λ os. formOffsets (inner os)) x none4);
+        inner-rows = t .inner-rows;
+        values = s .values ∙ ap (λ w. over w bv) (ap bytesOf8 (t .values) ∙ bytes-written bytesOf8 (λ os. formValues (flat (inner os))) x none8);
+        elements = t .elements;
+        counts = s .counts ∙ ap (λ w. over w c) (ap bytesOfCounts (ap countsIn (t .answer) ∙ counts-of repeatCounts x) ∙ bytes-written bytesOfCounts repeatCounts x no-counts);
       }
 
 -- ---- what is returned

@@ -1,2 +1,1 @@
 pub mod Repeat
-pub mod Inner

@@ -1,28 +1,22 @@
-// List-repeat, over bytes: the C entry but for its arrays. An inner crate: its callers meet what it asks.
+// List-repeat, over bytes: its C entry. An inner crate: its callers meet what it asks.
+use entry::inputs;
 use entry::sizes;
 use lists::repeat;
 use model::RepeatAnswer;
-use wire::decode_i32;
-use wire::decode_i64;
-use wire::encode_i32;
-use wire::encode_i64;
-use wire::encode_u64;
 ghost use Prim.Native.Nat.{_/_, _≤_};
-ghost use Rattle.entry.specs.Entry.{decoded, decodedArguments, listSizes, mostRows, outsize, ragged, size, sizeRefusal, valueSizes};
-ghost use Rattle.entry.specs.Inner.{Arrays, Holds};
-ghost use Rattle.entry_repeat.specs.Inner.{RepeatReady, RepeatSent};
-ghost use Rattle.entry_repeat.specs.Repeat.{RepeatEntry, RepeatReturned, mostInner, repeatSizes};
+ghost use Rattle.entry.specs.Entry.{decoded, decodedArguments, listSizes, mostOffsets, mostRows, mostValues, outsize, ragged, size, sizeRefusal, valueSizes};
+ghost use Rattle.entry.specs.Inner.{ListFits};
+ghost use Rattle.entry_repeat.specs.Repeat.{RepeatEntry, repeatSizes};
 ghost use Rattle.model.specs.Basics.{any, given};
-ghost use Rattle.model.specs.Form.{over};
 ghost use Rattle.model.specs.Limits.{narrow};
 ghost use Rattle.model.specs.Outcome.{repeatOutcome};
-ghost use Rattle.wire.specs.Bytes.{bytesOfCounts};
+ghost use Rattle.repeat_bytes.specs.Inner.{RepeatRuns};
 ghost use lib.ListN.{length};
-ghost use mathlib.Core.List.{[], _++_, _∷_};
+ghost use mathlib.Core.List.{_++_};
 ghost use mathlib.Core.Path.{_≡_};
 
 // Of 16384 inner rows.
-pub const MOST_INNER_OFFSETS: usize = 16385;
+const MOST_INNER_OFFSETS: usize = 16385;
 
 // Of an answer's outer offsets, inner offsets and values.
 fn is_repeat_ragged(offsets: usize, inner_offsets: usize, values: usize) -> bool
@@ -60,158 +54,46 @@ fn repeat_refusal(
     sizes::refusal(ragged, outsize)
 }
 
-// The counts, at the front of `counts`.
-fn put_repeat_counts(
-    rows: usize,
-    elements: usize,
-    null_rows: usize,
-    null_elements: usize,
-    inner_rows: usize,
-    null_inner_rows: usize,
-    counts: &mut [u8],
-)
-    requires { ⌜ 48 ≤ length (now counts) ⌝ }
-    ensures { λ _. ⌜ now (counts .exit) ≡ over (bytesOfCounts (rows ∷ elements ∷ «null_rows» ∷ «null_elements» ∷ «inner_rows» ∷ «null_inner_rows» ∷ [])) (now (counts .entry)) ⌝ }
-{
-    let c = [
-        rows as u64,
-        elements as u64,
-        null_rows as u64,
-        null_elements as u64,
-        inner_rows as u64,
-        null_inner_rows as u64,
-    ];
-    encode_u64(&c, counts);
-}
-
-// The answer as bytes: of oo, io and ov, which the operation wrote, the slots that it counts. A refusal writes nothing.
-fn put_repeat(
-    answer: RepeatAnswer,
-    oo: &[i32],
-    io: &[i32],
-    ov: &[i64],
-    out_offsets: &mut [u8],
-    inner_offsets: &mut [u8],
-    out_values: &mut [u8],
-    counts: &mut [u8],
-) -> u32
-    requires { ⌜ RepeatReady answer (length (now oo)) (length (now io)) (length (now ov)) (length (now «out_offsets»)) (length (now «inner_offsets»)) (length (now «out_values»)) (length (now counts)) ⌝ }
-    ensures { λ n. ⌜ RepeatSent answer n (now (oo .entry)) (now (io .entry)) (now (ov .entry)) (now («out_offsets» .entry)) (now («out_offsets» .exit)) (now («inner_offsets» .entry)) (now («inner_offsets» .exit)) (now («out_values» .entry)) (now («out_values» .exit)) (now (counts .entry)) (now (counts .exit)) ⌝ }
-{
-    match answer {
-        RepeatAnswer::Refused(k) => k as u32,
-        RepeatAnswer::Counts {
-            rows,
-            elements,
-            null_rows,
-            null_elements,
-            inner_rows,
-            null_inner_rows,
-        } => {
-            let n = rows + 1;
-            let m = inner_rows + 1;
-            encode_i32(&oo[..n], out_offsets);
-            encode_i32(&io[..m], inner_offsets);
-            encode_i64(&ov[..elements], out_values);
-            put_repeat_counts(
-                rows,
-                elements,
-                null_rows,
-                null_elements,
-                inner_rows,
-                null_inner_rows,
-                counts,
-            );
-            0
-        }
-    }
-}
-
-// Decodes into o, v and t, runs the operation on oo, io and ov, and encodes what it counts of those; each has a place for each
-// number.
+// Decodes the columns, and runs the operation with room for mo offsets in o, mi inner offsets in io and mv values in v.
+#[rattlefmt::skip]
 fn run(
-    offsets: &[u8],
-    rows: &[u8],
-    values: &[u8],
-    elements: &[u8],
-    times: &[u8],
-    times_bits: &[u8],
-    out_offsets: &mut [u8],
-    out_rows: &mut [u8],
-    inner_offsets: &mut [u8],
-    inner_rows: &mut [u8],
-    out_values: &mut [u8],
+    offsets: &[u8], rows: &[u8], values: &[u8], elements: &[u8],
+    times: &[u8], times_bits: &[u8],
+    mo: usize, mi: usize, mv: usize, o: &mut [i32], out_rows: &mut [u8], io: &mut [i32], inner_rows: &mut [u8], v: &mut [i64],
     out_elements: &mut [u8],
-    counts: &mut [u8],
-    o: &mut [i32],
-    v: &mut [i64],
-    t: &mut [i64],
-    oo: &mut [i32],
-    io: &mut [i32],
-    ov: &mut [i64],
-) -> u32
-    requires lent { ⌜ Holds (length (now o)) (length (now v)) (length (now offsets)) (length (now values)) ⌝ }
-    requires arguments { ⌜ length (now t) ≡ length (now times) / 8 ⌝ }
-    requires outputs { ⌜ Holds (length (now oo)) (length (now ov)) (length (now «out_offsets»)) (length (now «out_values»)) ⌝ }
-    requires inner { ⌜ length (now io) ≡ length (now «inner_offsets») / 4 ⌝ }
-    requires counts { ⌜ 48 ≤ length (now counts) ⌝ }
-    ensures { λ n. ⌜ RepeatReturned (repeatOutcome narrow (decoded offsets rows values elements) (decodedArguments times «times_bits»)) n «out_offsets» «out_rows» «inner_offsets» «inner_rows» «out_values» «out_elements» counts ⌝ }
+) -> RepeatAnswer
+    requires lent { ⌜ ListFits (length (now offsets)) (length (now values)) mostOffsets mostValues ⌝ }
+    requires arguments { ⌜ length (now times) / 8 ≤ mostRows ⌝ }
+    requires offsets { ⌜ mo ≤ length (now o) ⌝ }
+    requires inner { ⌜ mi ≤ length (now io) ⌝ }
+    requires values { ⌜ mv ≤ length (now v) ⌝ }
+    ensures { λ a. ⌜ RepeatRuns (repeatOutcome narrow (decoded offsets rows values elements) (decodedArguments times «times_bits»)) mo mi mv a o «out_rows» io «inner_rows» v «out_elements» ⌝ }
 {
-    decode_i32(offsets, o);
-    decode_i64(values, v);
-    decode_i64(times, t);
-    let answer = repeat::general_list_repeat(
-        o,
-        rows,
-        v,
-        elements,
-        t,
-        times_bits,
-        oo,
-        out_rows,
-        io,
-        inner_rows,
-        ov,
-        out_elements,
-    );
-    put_repeat(
-        answer,
-        oo,
-        io,
-        ov,
-        out_offsets,
-        inner_offsets,
-        out_values,
-        counts,
+    let mut lo = [0i32; sizes::MOST_OFFSETS];
+    let mut lv = [0i64; sizes::MOST_VALUES];
+    let mut lt = [0i64; sizes::MOST_ROWS];
+    inputs::get_list(offsets, values, &mut lo, &mut lv);
+    inputs::get_values(times, &mut lt);
+    let no = offsets.len() / 4;
+    let nv = values.len() / 8;
+    let nt = times.len() / 8;
+    repeat::general_list_repeat(
+        &lo[..no], rows, &lv[..nv], elements,
+        &lt[..nt], times_bits,
+        &mut o[..mo], out_rows, &mut io[..mi], inner_rows, &mut v[..mv], out_elements,
     )
 }
 
-// Tests the sizes, and cuts the arrays to them.
+// Tests the sizes, runs the operation, and encodes what it counts.
+#[rattlefmt::skip]
 pub fn enter(
-    offsets: &[u8],
-    rows: &[u8],
-    values: &[u8],
-    elements: &[u8],
-    times: &[u8],
-    times_bits: &[u8],
-    out_offsets: &mut [u8],
-    out_rows: &mut [u8],
-    inner_offsets: &mut [u8],
-    inner_rows: &mut [u8],
-    out_values: &mut [u8],
-    out_elements: &mut [u8],
+    offsets: &[u8], rows: &[u8], values: &[u8], elements: &[u8],
+    times: &[u8], times_bits: &[u8],
+    out_offsets: &mut [u8], out_rows: &mut [u8],
+    inner_offsets: &mut [u8], inner_rows: &mut [u8],
+    out_values: &mut [u8], out_elements: &mut [u8],
     counts: &mut [u8],
-    o: &mut [i32],
-    v: &mut [i64],
-    t: &mut [i64],
-    oo: &mut [i32],
-    io: &mut [i32],
-    ov: &mut [i64],
 ) -> u32
-    requires lent { ⌜ Arrays (length (now o)) (length (now v)) ⌝ }
-    requires arguments { ⌜ length (now t) ≡ mostRows ⌝ }
-    requires outputs { ⌜ Arrays (length (now oo)) (length (now ov)) ⌝ }
-    requires inner { ⌜ length (now io) ≡ mostInner ⌝ }
     ensures { λ n. ⌜ RepeatEntry (given (repeatOutcome narrow (decoded offsets rows values elements) (decodedArguments times «times_bits»))) (listSizes (size offsets) (size values) ++ valueSizes (size times)) n «out_offsets» «out_rows» «inner_offsets» «inner_rows» «out_values» «out_elements» counts ⌝ }
 {
     let k = repeat_refusal(
@@ -226,31 +108,21 @@ pub fn enter(
     if k != 0 {
         return k;
     }
-    let no = offsets.len() / 4;
-    let nv = values.len() / 8;
-    let nt = times.len() / 8;
     let mo = out_offsets.len() / 4;
     let mi = inner_offsets.len() / 4;
     let mv = out_values.len() / 8;
-    run(
-        offsets,
-        rows,
-        values,
-        elements,
-        times,
-        times_bits,
+    let mut o = [0i32; sizes::MOST_OFFSETS];
+    let mut io = [0i32; MOST_INNER_OFFSETS];
+    let mut v = [0i64; sizes::MOST_VALUES];
+    let answer = run(
+        offsets, rows, values, elements,
+        times, times_bits,
+        mo, mi, mv, &mut o, out_rows, &mut io, inner_rows, &mut v, out_elements,
+    );
+    repeat_bytes::put_repeat(
+        answer, &o, &io, &v,
         out_offsets,
-        out_rows,
-        inner_offsets,
-        inner_rows,
-        out_values,
-        out_elements,
+        inner_offsets, out_values,
         counts,
-        &mut o[..no],
-        &mut v[..nv],
-        &mut t[..nt],
-        &mut oo[..mo],
-        &mut io[..mi],
-        &mut ov[..mv],
     )
 }

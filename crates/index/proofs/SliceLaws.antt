@@ -16,7 +16,7 @@ use Rattle.model.specs.Column.{count}
 use Rattle.model.specs.Slice as Slice
 use Rattle.model.specs.Slice.{unfit, outside, place, fits, inRow, fromPlace, fromBound, toPlace, toBound, against, isZero, stepCount, strided, between, slicePlan}
 use Rattle.index.specs.Place.{indexPlace, bound}
-use Rattle.index.specs.Plan.{planOf, told, IsPlace, Within, Suits}
+use Rattle.index.specs.Plan.{planOf, boundTold, IsPlace, HasPlace, Suits}
 use Rattle.index.specs.declared.Bound.{Bound}
 use Rattle.index.specs.declared.Bound.the-variants as B
 use Rattle.index.specs.declared.slice.SlicePlan.the-variants as P
@@ -230,17 +230,17 @@ stride-steps (negsuc a) b s h f = absurd (h .from .natural)
 -- ---- the plan between two bounds
 
 -- what a match finds the bounds to be
-pub between-found : (f t x y : Bound) (s : ℤ) → f ≡ x → t ≡ y → planOf (between narrow (told x) (told y) s) ≡ planOf (between narrow (told f) (told t) s)
+pub between-found : (f t x y : Bound) (s : ℤ) → f ≡ x → t ≡ y → planOf (between narrow (boundTold x) (boundTold y) s) ≡ planOf (between narrow (boundTold f) (boundTold t) s)
 between-found f t x y s p q = rw (p, q)
 
-told-bound : (b : Slice.Bound) → told (bound b) ≡ b
-unfolding told bound count
+told-bound : (b : Slice.Bound) → boundTold (bound b) ≡ b
+unfolding boundTold bound count
 told-bound unfit = refl
 told-bound outside = refl
 told-bound (place p) = refl
 
 pub plan-told : (n : ℕ) (f t s : ℤ) (x y : Bound) → 0 < n → x ≡ bound (fromBound narrow n f) → y ≡ bound (toBound narrow n t)
-    → planOf (between narrow (told x) (told y) s) ≡ planOf (slicePlan narrow n f t s)
+    → planOf (between narrow (boundTold x) (boundTold y) s) ≡ planOf (slicePlan narrow n f t s)
 unfolding slicePlan
 plan-told n f t s x y h p q =
     rw (ne-eqb n 0 (λ e. omega arith), p, q, told-bound (fromBound narrow n f), told-bound (toBound narrow n t))
@@ -249,12 +249,12 @@ pub plan-empty-row : (n : ℕ) (f t s : ℤ) → n ≡ 0 → P.Empty ≡ planOf 
 unfolding slicePlan planOf
 plan-empty-row n f t s e = rw (eq-eqb n 0 e)
 
-pub from-within : (n z : ℤ) (r : Bound) → SFits w32 n → r ≡ bound (fromBound narrow (count n) z) → Within r
+pub from-within : (n z : ℤ) (r : Bound) → SFits w32 n → r ≡ bound (fromBound narrow (count n) z) → HasPlace r
 from-within n z r f e x h =
     let b = bound-at (fromBound narrow (count n) z) x (sym h ∙ e) in
     record { natural = b .1; small = omega (arith, from-inside (count n) (natAbs x) z (b .0), count-small n f) }
 
-pub to-within : (n z : ℤ) (r : Bound) → SFits w32 n → r ≡ bound (toBound narrow (count n) z) → Within r
+pub to-within : (n z : ℤ) (r : Bound) → SFits w32 n → r ≡ bound (toBound narrow (count n) z) → HasPlace r
 to-within n z r f e x h =
     let b = bound-at (toBound narrow (count n) z) x (sym h ∙ e) in
     record { natural = b .1; small = omega (arith, to-inside (count n) (natAbs x) z (b .0), count-small n f) }

@@ -23,15 +23,15 @@ planOf empty = P.Empty
 planOf (places a s n) = P.Steps (pos a) s (pos n)
 
 -- "absent stride is 1"
-unfoldable pub strideOf : Stride → ℤ
-strideOf S.Absent = pos 1
-strideOf (S.By s) = s
+unfoldable pub strideIn : Stride → ℤ
+strideIn S.Absent = pos 1
+strideIn (S.By s) = s
 
 -- the bound that the code's answer tells
-unfoldable pub told : Bound → Slice.Bound
-told B.Unfit = unfit
-told B.Outside = outside
-told (B.At x) = place (count x)
+unfoldable pub boundTold : Bound → Slice.Bound
+boundTold B.Unfit = unfit
+boundTold B.Outside = outside
+boundTold (B.At x) = place (count x)
 
 -- a place of the longest row
 pub record IsPlace (x : ℤ) : Type 0 where
@@ -39,8 +39,8 @@ pub record IsPlace (x : ℤ) : Type 0 where
   pub small : natAbs x < narrow .offset
 
 -- a bound whose place, where it has one, is such a place
-abbrev pub Within : Bound → Type 0
-Within b = (x : ℤ) → b ≡ B.At x → IsPlace x
+abbrev pub HasPlace : Bound → Type 0
+HasPlace b = (x : ℤ) → b ≡ B.At x → IsPlace x
 
 -- a stride that leads from the place a to the place b
 pub record Suits (a b s : ℤ) : Type 0 where

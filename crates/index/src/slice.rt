@@ -3,7 +3,7 @@
 use crate::Bound;
 ghost use Prim.Native.Nat.{_<_};
 ghost use Rattle.index.specs.Place.{bound};
-ghost use Rattle.index.specs.Plan.{IsPlace, Suits, Within, planOf, strideOf, told};
+ghost use Rattle.index.specs.Plan.{IsPlace, Suits, HasPlace, planOf, strideIn, boundTold};
 ghost use Rattle.model.specs.Column.{count};
 ghost use Rattle.model.specs.Limits.{narrow};
 ghost use Rattle.model.specs.Slice.{against, between, fromBound, fromPlace, slicePlan, stepCount, strided, toBound, toPlace};
@@ -128,9 +128,9 @@ fn plan_steps(from: i32, to: i32, stride: i64) -> SlicePlan
 
 // The plan between two bounds.
 fn plan_between(from: Bound, to: Bound, stride: i64) -> SlicePlan
-    requires { ⌜ Within from ⌝ }
-    requires { ⌜ Within to ⌝ }
-    ensures { λ r. ⌜ r ≡ planOf (between narrow (told from) (told to) stride) ⌝ }
+    requires { ⌜ HasPlace from ⌝ }
+    requires { ⌜ HasPlace to ⌝ }
+    ensures { λ r. ⌜ r ≡ planOf (between narrow (boundTold from) (boundTold to) stride) ⌝ }
 {
     match from {
         Bound::Unfit => SlicePlan::Refused(4),
@@ -148,7 +148,7 @@ fn plan_between(from: Bound, to: Bound, stride: i64) -> SlicePlan
 }
 
 fn stride_of(stride: Stride) -> i64
-    ensures { λ r. ⌜ r ≡ strideOf stride ⌝ }
+    ensures { λ r. ⌜ r ≡ strideIn stride ⌝ }
 {
     match stride {
         Stride::Absent => 1,
@@ -158,7 +158,7 @@ fn stride_of(stride: Stride) -> i64
 
 // A negative length counts as 0.
 pub fn compute_slice_plan(len: i32, from: i64, to: i64, stride: Stride) -> SlicePlan
-    ensures { λ r. ⌜ r ≡ planOf (slicePlan narrow (count len) from to (strideOf stride)) ⌝ }
+    ensures { λ r. ⌜ r ≡ planOf (slicePlan narrow (count len) from to (strideIn stride)) ⌝ }
 {
     if len < 1 {
         return SlicePlan::Empty;

@@ -8,39 +8,20 @@ ghost use Rattle.model.specs.Outcome.{listOutcome};
 ghost use Rattle.model.specs.Rows.{unary};
 
 // The walk looks at no argument columns here: any slices stand in their places.
+#[rattlefmt::skip]
 pub(crate) fn run(
     op: Unary,
-    offsets: &[i32],
-    rows: &[u8],
-    values: &[i64],
-    elements: &[u8],
-    out_offsets: &mut [i32],
-    out_rows: &mut [u8],
-    out_values: &mut [i64],
-    out_elements: &mut [u8],
+    offsets: &[i32], rows: &[u8], values: &[i64], elements: &[u8],
+    out_offsets: &mut [i32], out_rows: &mut [u8], out_values: &mut [i64], out_elements: &mut [u8],
 ) -> ListAnswer
     ensures { λ a. ⌜ ListAnswers (listOutcome narrow (unary op (lent offsets rows values elements))) a «out_offsets» «out_rows» «out_values» «out_elements» ⌝ }
 {
-    args::run(
+    list_walk::run(
         ListOp::Plain(op),
-        offsets,
-        rows,
-        0,
-        values,
-        elements,
-        0,
-        values,
-        elements,
-        0,
-        values,
-        elements,
-        0,
-        values,
-        elements,
-        0,
-        out_offsets,
-        out_rows,
-        out_values,
-        out_elements,
+        offsets, rows, 0, values, elements, 0,
+        values, elements, 0,
+        values, elements, 0,
+        values, elements, 0,
+        out_offsets, out_rows, out_values, out_elements,
     )
 }

@@ -7,42 +7,21 @@ ghost use Rattle.model.specs.Limits.{narrow};
 ghost use Rattle.model.specs.Outcome.{listOutcome};
 ghost use Rattle.model.specs.Rows.{remove};
 
+#[rattlefmt::skip]
 pub fn general_remove(
-    offsets: &[i32],
-    rows: &[u8],
-    values: &[i64],
-    elements: &[u8],
-    element_array: &[i64],
-    element_bits: &[u8],
-    arr_n: &[i64],
-    n_bits: &[u8],
-    out_offsets: &mut [i32],
-    out_rows: &mut [u8],
-    out_values: &mut [i64],
-    out_elements: &mut [u8],
+    offsets: &[i32], rows: &[u8], values: &[i64], elements: &[u8],
+    element_array: &[i64], element_bits: &[u8],
+    arr_n: &[i64], n_bits: &[u8],
+    out_offsets: &mut [i32], out_rows: &mut [u8], out_values: &mut [i64], out_elements: &mut [u8],
 ) -> ListAnswer
     ensures { λ a. ⌜ ListAnswers (listOutcome narrow (remove (lent offsets rows values elements) (lentArguments «element_array» «element_bits») (lentArguments «arr_n» «n_bits»))) a «out_offsets» «out_rows» «out_values» «out_elements» ⌝ }
 {
-    args::run(
+    list_walk::run(
         ListOp::Remove,
-        offsets,
-        rows,
-        0,
-        values,
-        elements,
-        0,
-        element_array,
-        element_bits,
-        0,
-        arr_n,
-        n_bits,
-        0,
-        arr_n,
-        n_bits,
-        0,
-        out_offsets,
-        out_rows,
-        out_values,
-        out_elements,
+        offsets, rows, 0, values, elements, 0,
+        element_array, element_bits, 0,
+        arr_n, n_bits, 0,
+        arr_n, n_bits, 0,
+        out_offsets, out_rows, out_values, out_elements,
     )
 }

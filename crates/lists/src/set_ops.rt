@@ -35,40 +35,19 @@ pub fn general_array_distinct(
 }
 
 // Union or intersect, row by row.
+#[rattlefmt::skip]
 pub fn generic_set_lists<'a>(
-    l_offsets: &[i32],
-    l_rows: &[u8],
-    l_values: &'a [i64],
-    l_elements: &[u8],
-    r_offsets: &[i32],
-    r_rows: &[u8],
-    r_values: &'a [i64],
-    r_elements: &[u8],
+    l_offsets: &[i32], l_rows: &[u8], l_values: &'a [i64], l_elements: &[u8],
+    r_offsets: &[i32], r_rows: &[u8], r_values: &'a [i64], r_elements: &[u8],
     set_op: SetOp,
-    out_offsets: &mut [i32],
-    out_rows: &mut [u8],
-    out_values: &mut [i64],
-    out_elements: &mut [u8],
+    out_offsets: &mut [i32], out_rows: &mut [u8], out_values: &mut [i64], out_elements: &mut [u8],
 ) -> ListAnswer
     ensures { λ a. ⌜ ListAnswers (listOutcome narrow (setOp «set_op» (lent «l_offsets» «l_rows» «l_values» «l_elements») (lent «r_offsets» «r_rows» «r_values» «r_elements»))) a «out_offsets» «out_rows» «out_values» «out_elements» ⌝ }
 {
-    sets::run(
+    set_walk::run(
         set_op,
-        l_offsets,
-        l_rows,
-        0,
-        l_values,
-        l_elements,
-        0,
-        r_offsets,
-        r_rows,
-        0,
-        r_values,
-        r_elements,
-        0,
-        out_offsets,
-        out_rows,
-        out_values,
-        out_elements,
+        l_offsets, l_rows, 0, l_values, l_elements, 0,
+        r_offsets, r_rows, 0, r_values, r_elements, 0,
+        out_offsets, out_rows, out_values, out_elements,
     )
 }

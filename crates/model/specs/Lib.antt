@@ -11,5 +11,5 @@ pub mod Outcome
 pub mod Recipe
 pub mod Call
 pub mod Contract
-pub mod Held
+pub mod Inner
 pub mod Run

@@ -59,8 +59,8 @@ abbrev pub columnOf : List Elem → ℕ → ℕ → List Elem
 columnOf es n k = tab (λ r. getD es (k * n + r) nul) 0 n
 
 -- "Codes: 0 reverse, 1 distinct, 2 pop front, 3 pop back, 4 slice .., 9 union, 10 intersect." (A code over 10 is refused before.)
-unfoldable pub callOf : ℕ → List Row → List Row → List Elem → List Elem → List Elem → ListCall (List Row) (List Elem)
-callOf code ws rs a b c =
+unfoldable pub codeCall : ℕ → List Row → List Row → List Elem → List Elem → List Elem → ListCall (List Row) (List Elem)
+codeCall code ws rs a b c =
     getD
     (unary Reverse ws
     ∷ unary Distinct ws
@@ -80,7 +80,7 @@ callOf code ws rs a b c =
 -- the second list rs, which 3 has made as many as the first list's.
 abbrev pub stepCall : Step → List Row → List Row → List Elem → ListCall (List Row) (List Elem)
 stepCall s ws rs es =
-    callOf (s .code) ws rs (columnOf es (length rs) (s .first)) (columnOf es (length rs) (s .second)) (columnOf es (length rs) (s .third))
+    codeCall (s .code) ws rs (columnOf es (length rs) (s .first)) (columnOf es (length rs) (s .second)) (columnOf es (length rs) (s .third))
 
 unfoldable pub thenOn : {A B : Type 0} → Outcome A → (A → Outcome B) → Outcome B
 thenOn (refused k) f = refused k

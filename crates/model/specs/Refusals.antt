@@ -1,4 +1,5 @@
--- The refusals after 2, and their order. Document 01, "Refused calls". 0 stands for none.
+-- The refusals after 2 and before 9: 3; element's 4; 7 and 8 of resize, union and list-repeat; and that the first bad row decides.
+-- Document 01, "Refused calls". Slice's 4, 5 and 6 stand in Slice, 9 in Form and Outcome. 0 stands for none.
 use Prim.Native.Nat.{ℕ, _+_, _*_}
 use mathlib.Core.Bool.{Bool, false, not, _&&_, _||_}
 use mathlib.Core.List.{List, [], _∷_, map}

@@ -17,7 +17,7 @@ use Rattle.rows.specs.Cells.{elemOf, fillElem}
 use Rattle.ops.specs.Ops.{callOf, planOp, sliceOp, strideOp, resizeOp, replaceOp, removeOp, validOp, rowOpOf, opElems, opMade}
 use Rattle.rows.specs.declared.Cell.{Cell}
 use Rattle.rows.specs.declared.Cell.the-variants as C
-use Rattle.rows.specs.declared.resize.Fill.the-variants as F
+use Rattle.rows.specs.declared.Fill.the-variants as F
 use Rattle.ops.specs.declared.ListOp.{ListOp}
 use Rattle.ops.specs.declared.ListOp.the-variants as L
 use Rattle.ops.specs.declared.RowOp.{RowOp}
@@ -33,11 +33,11 @@ plan-made (refuse k) es = refl
 plan-made empty es = refl
 plan-made (places a s n) es = refl
 
-slice-made : (es : List Elem) (f t : Cell) (z : ℤ) (s : Stride) → z ≡ I.strideOf s → opMade (sliceOp (length es) f t s) es ≡ sliceRow narrow (listRow es) (elemOf f) (elemOf t) (val z)
+slice-made : (es : List Elem) (f t : Cell) (z : ℤ) (s : Stride) → z ≡ I.strideIn s → opMade (sliceOp (length es) f t s) es ≡ sliceRow narrow (listRow es) (elemOf f) (elemOf t) (val z)
 unfolding sliceOp sliceRow elemOf opMade
 slice-made es C.Null t z s e = refl
 slice-made es (C.Value f) C.Null z s e = refl
-slice-made es (C.Value f) (C.Value t) z s e = rw e (plan-made (slicePlan narrow (length es) f t (I.strideOf s)) es)
+slice-made es (C.Value f) (C.Value t) z s e = rw e (plan-made (slicePlan narrow (length es) f t (I.strideIn s)) es)
 
 slice-null : (es : List Elem) (f t : Elem) → makes nullRow ≡ sliceRow narrow (listRow es) f t nul
 unfolding sliceRow
@@ -46,7 +46,7 @@ slice-null es (val f) nul = refl
 slice-null es (val f) (val t) = refl
 
 valid-made : (op : ListOp) (es : List Elem) (x y z : Cell) → opMade (validOp op (length es) x y z) es ≡ madeOf narrow (callOf op (listRow es) (elemOf x) (elemOf y) (elemOf z))
-unfolding validOp callOf madeOf opMade opElems onRow strideOf fillOf fillElem elemOf I.strideOf strideOp resizeOp replaceOp removeOp resizeRow replaceRow removeRow
+unfolding validOp callOf madeOf opMade opElems onRow strideOf fillOf fillElem elemOf I.strideIn strideOp resizeOp replaceOp removeOp resizeRow replaceRow removeRow
 valid-made (L.Plain u) es x y z = refl
 valid-made L.Slice es x y z = slice-made es x y (pos 1) S.Absent refl
 valid-made L.SliceBy es x y C.Null = slice-null es (elemOf x) (elemOf y)

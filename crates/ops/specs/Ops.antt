@@ -2,6 +2,7 @@
 use Prim.Native.Nat.{ℕ}
 use mathlib.Core.Bool.{Bool, true, false}
 use mathlib.Core.List.{List, []}
+use lib.Dec.{eqb}
 use lib.IntN.{natAbs}
 use Rattle.model.specs.Basics.{pick, absent, given}
 use Rattle.model.specs.Column.{Elem, nullRow, listRow, count}
@@ -9,21 +10,21 @@ use Rattle.model.specs.Elements.{unaryElems, resized, replaced, removed}
 use Rattle.model.specs.Limits.{narrow}
 use Rattle.model.specs.Rows.{ListCall, unary, slice, resize, replace, remove, Made, refuses, makes}
 use Rattle.model.specs.Slice.{slicePlan, sliced}
-use Rattle.index.specs.Plan.{planOf, strideOf}
+use Rattle.index.specs.Plan.{planOf, strideIn}
 use Rattle.index.specs.declared.slice.SlicePlan.{SlicePlan}
 use Rattle.index.specs.declared.slice.SlicePlan.the-variants as P
 use Rattle.index.specs.declared.slice.Stride.{Stride}
 use Rattle.index.specs.declared.slice.Stride.the-variants as S
 use Rattle.rows.specs.Cells.{elemOf, fillElem}
-use Rattle.rows.specs.Strides.{Walks}
 use Rattle.rows.specs.declared.Cell.{Cell}
 use Rattle.rows.specs.declared.Cell.the-variants as C
-use Rattle.rows.specs.declared.resize.Fill.{Fill}
-use Rattle.rows.specs.declared.resize.Fill.the-variants as F
+use Rattle.rows.specs.declared.Fill.{Fill}
+use Rattle.rows.specs.declared.Fill.the-variants as F
 use Rattle.ops.specs.declared.ListOp.{ListOp}
 use Rattle.ops.specs.declared.ListOp.the-variants as L
 use Rattle.ops.specs.declared.RowOp.{RowOp}
 use Rattle.ops.specs.declared.RowOp.the-variants as R
+use Rattle.ops.specs.declared.Arity.{Arity}
 
 -- the call that an operation makes of a list and of the argument columns that it takes
 unfoldable pub callOf : {C A : Type 0} → ListOp → C → A → A → A → ListCall C A
@@ -35,15 +36,31 @@ callOf L.ResizeWith c x y z = resize c x (given y)
 callOf L.Replace c x y z = replace c x y z
 callOf L.Remove c x y z = remove c x y
 
--- how many argument columns an operation takes
-unfoldable pub takesOf : ListOp → ℕ
-takesOf (L.Plain u) = 0
-takesOf L.Slice = 2
-takesOf L.SliceBy = 3
-takesOf L.Resize = 1
-takesOf L.ResizeWith = 2
-takesOf L.Replace = 3
-takesOf L.Remove = 2
+-- what each operation takes: how many argument columns; which of them, counted from 1, is a limit, 0 being none; whether it resizes
+abbrev pub taking : ℕ → ℕ → Bool → Arity
+taking n k b = record { columns = n; limit = k; resize = b }
+
+unfoldable pub table : ListOp → Arity
+table (L.Plain u) = taking 0 0 false
+table L.Slice = taking 2 0 false
+table L.SliceBy = taking 3 0 false
+table L.Resize = taking 1 0 true
+table L.ResizeWith = taking 2 0 true
+table L.Replace = taking 3 3 false
+table L.Remove = taking 2 2 false
+
+abbrev pub takesOf : ListOp → ℕ
+takesOf op = table op .columns
+
+-- a limit may have one row for all
+abbrev pub secondLimit : ListOp → Bool
+secondLimit op = eqb (table op .limit) 2
+
+abbrev pub thirdLimit : ListOp → Bool
+thirdLimit op = eqb (table op .limit) 3
+
+abbrev pub isResize : ListOp → Bool
+isResize op = table op .resize
 
 unfoldable pub planOp : SlicePlan → RowOp
 planOp P.Empty = R.Empty
@@ -53,7 +70,7 @@ planOp (P.Refused k) = R.Refused k
 unfoldable pub sliceOp : ℕ → Cell → Cell → Stride → RowOp
 sliceOp n C.Null t s = R.Null
 sliceOp n (C.Value f) C.Null s = R.Null
-sliceOp n (C.Value f) (C.Value t) s = planOp (planOf (slicePlan narrow n f t (strideOf s)))
+sliceOp n (C.Value f) (C.Value t) s = planOp (planOf (slicePlan narrow n f t (strideIn s)))
 
 unfoldable pub strideOp : ℕ → Cell → Cell → Cell → RowOp
 strideOp n f t C.Null = R.Null
@@ -117,33 +134,3 @@ opMade (R.Steps a s n) es = makes (listRow (opElems (R.Steps a s n) es))
 opMade (R.Resized k f) es = makes (listRow (opElems (R.Resized k f) es))
 opMade (R.Replaced f t k) es = makes (listRow (opElems (R.Replaced f t k) es))
 opMade (R.Removed f k) es = makes (listRow (opElems (R.Removed f k) es))
-
--- a limit may have one row for all
-unfoldable pub secondLimit : ListOp → Bool
-secondLimit (L.Plain u) = false
-secondLimit L.Slice = false
-secondLimit L.SliceBy = false
-secondLimit L.Resize = false
-secondLimit L.ResizeWith = false
-secondLimit L.Replace = false
-secondLimit L.Remove = true
-
-unfoldable pub thirdLimit : ListOp → Bool
-thirdLimit (L.Plain u) = false
-thirdLimit L.Slice = false
-thirdLimit L.SliceBy = false
-thirdLimit L.Resize = false
-thirdLimit L.ResizeWith = false
-thirdLimit L.Replace = true
-thirdLimit L.Remove = false
-
--- what is done can be done to a row of n elements: the places of a slice lie in it
-unfoldable pub Doable : RowOp → ℕ → Type 0
-Doable R.Null n = Unit
-Doable (R.Refused k) n = Unit
-Doable (R.Plain u) n = Unit
-Doable R.Empty n = Unit
-Doable (R.Steps a s k) n = Walks a s k n
-Doable (R.Resized k f) n = Unit
-Doable (R.Replaced f t k) n = Unit
-Doable (R.Removed f k) n = Unit

@@ -1,26 +1,15 @@
-// What an operation on one list does to one row, once the row's arguments are read. An inner crate: its callers meet what it asks.
+// Which operation a row gets, once its arguments are read. An inner crate: its callers meet what it asks.
 use index::slice::SlicePlan;
 use index::slice::Stride;
 use model::Unary;
-use pairs::distinct;
 use rows::Cell;
-use rows::remove;
-use rows::replace;
-use rows::resize;
-use rows::resize::Fill;
-use rows::reverse;
-use rows::strided;
+use rows::Fill;
 use rows::utils;
 ghost use Prim.Native.Nat.{_≤_};
-ghost use Rattle.column.specs.Outputs.{ReadableElems, RoomForElems, Writes};
-ghost use Rattle.index.specs.Plan.{planOf, strideOf};
-ghost use Rattle.model.specs.Bitmap.{from};
-ghost use Rattle.model.specs.Elements.{unaryElems};
-ghost use Rattle.model.specs.Held.{heldElems, lentElems};
+ghost use Rattle.index.specs.Plan.{planOf, strideIn};
 ghost use Rattle.model.specs.Limits.{narrow};
 ghost use Rattle.model.specs.Slice.{slicePlan};
-ghost use Rattle.ops.specs.Ops.{Doable, opElems, opNull, planOp, removeOp, replaceOp, resizeOp, rowOpOf, secondLimit, sliceOp, strideOp, takesOf, thirdLimit};
-ghost use lib.ListN.{length};
+ghost use Rattle.ops.specs.Ops.{opNull, planOp, removeOp, replaceOp, resizeOp, rowOpOf, sliceOp, strideOp, table};
 ghost use mathlib.Core.Path.{_≡_};
 
 // The operations on one list, by the arguments that they take.
@@ -56,7 +45,7 @@ pub enum RowOp {
 // What a slice between these bounds does to a row of len elements.
 fn plan_op(len: usize, from: i64, to: i64, stride: Stride) -> RowOp
     requires { ⌜ len ≤ narrow .offset ⌝ }
-    ensures { λ o. ⌜ o ≡ planOp (planOf (slicePlan narrow len from to (strideOf stride))) ⌝ }
+    ensures { λ o. ⌜ o ≡ planOp (planOf (slicePlan narrow len from to (strideIn stride))) ⌝ }
 {
     let plan = index::slice::compute_slice_plan(len as i32, from, to, stride);
     match plan {
@@ -156,48 +145,56 @@ pub fn row_op(op: ListOp, valid: bool, len: usize, x: Cell, y: Cell, z: Cell) ->
     }
 }
 
-// How many argument columns the operation takes.
-pub fn takes(op: ListOp) -> usize
-    ensures { λ k. ⌜ k ≡ takesOf op ⌝ }
-{
-    match op {
-        ListOp::Plain(_) => 0,
-        ListOp::Slice => 2,
-        ListOp::SliceBy => 3,
-        ListOp::Resize => 1,
-        ListOp::ResizeWith => 2,
-        ListOp::Replace => 3,
-        ListOp::Remove => 2,
-    }
+// What an operation takes of its argument columns.
+pub struct Arity {
+    // How many it takes.
+    pub columns: usize,
+    // Which of them, counted from 1, is a limit, which may have one row for all; 0 is none.
+    pub limit: usize,
+    // Whether the first is a count that says how long the row becomes.
+    pub resize: bool,
 }
 
-// Whether the second argument column is a limit, which may have one row for all.
-pub fn second_is_limit(op: ListOp) -> bool
-    ensures { λ b. ⌜ b ≡ secondLimit op ⌝ }
+// The table of what each operation takes.
+pub fn takes(op: ListOp) -> Arity
+    ensures { λ t. ⌜ t ≡ table op ⌝ }
 {
     match op {
-        ListOp::Plain(_) => false,
-        ListOp::Slice => false,
-        ListOp::SliceBy => false,
-        ListOp::Resize => false,
-        ListOp::ResizeWith => false,
-        ListOp::Replace => false,
-        ListOp::Remove => true,
-    }
-}
-
-// Whether the third argument column is a limit.
-pub fn third_is_limit(op: ListOp) -> bool
-    ensures { λ b. ⌜ b ≡ thirdLimit op ⌝ }
-{
-    match op {
-        ListOp::Plain(_) => false,
-        ListOp::Slice => false,
-        ListOp::SliceBy => false,
-        ListOp::Resize => false,
-        ListOp::ResizeWith => false,
-        ListOp::Replace => true,
-        ListOp::Remove => false,
+        ListOp::Plain(_) => Arity {
+            columns: 0,
+            limit: 0,
+            resize: false,
+        },
+        ListOp::Slice => Arity {
+            columns: 2,
+            limit: 0,
+            resize: false,
+        },
+        ListOp::SliceBy => Arity {
+            columns: 3,
+            limit: 0,
+            resize: false,
+        },
+        ListOp::Resize => Arity {
+            columns: 1,
+            limit: 0,
+            resize: true,
+        },
+        ListOp::ResizeWith => Arity {
+            columns: 2,
+            limit: 0,
+            resize: true,
+        },
+        ListOp::Replace => Arity {
+            columns: 3,
+            limit: 3,
+            resize: false,
+        },
+        ListOp::Remove => Arity {
+            columns: 2,
+            limit: 2,
+            resize: false,
+        },
     }
 }
 
@@ -225,216 +222,5 @@ pub fn is_null(op: RowOp) -> bool
             element: _,
             limit: _,
         } => false,
-    }
-}
-
-// The number of elements that the operation makes of the n elements from element a on.
-fn measure_plain(
-    op: Unary,
-    values: &[i64],
-    elements: &[u8],
-    estart: usize,
-    a: usize,
-    n: usize,
-) -> usize
-    requires column { ⌜ ReadableElems values elements estart a n ⌝ }
-    ensures { λ r. ⌜ r ≡ length (unaryElems op (lentElems values elements estart a n)) ⌝ }
-{
-    match op {
-        Unary::Reverse => n,
-        Unary::Distinct => distinct::measure_distinct(values, elements, estart, a, n),
-        Unary::PopFront => utils::one_less(n),
-        Unary::PopBack => utils::one_less(n),
-    }
-}
-
-// Writes what the operation makes of the n elements from element a on; gives the next place.
-fn write_plain(
-    op: Unary,
-    values: &[i64],
-    elements: &[u8],
-    estart: usize,
-    a: usize,
-    n: usize,
-    out_values: &mut [i64],
-    out_elements: &mut [u8],
-    at: usize,
-) -> usize
-    requires column { ⌜ ReadableElems values elements estart a n ⌝ }
-    requires room { ⌜ RoomForElems (unaryElems op (heldElems values elements estart a n)) at «out_values» «out_elements» ⌝ }
-    ensures { λ r. ⌜ Writes (unaryElems op (lentElems values elements estart a n)) at «out_values» «out_elements» r ⌝ }
-{
-    let k = utils::one_less(n);
-    match op {
-        Unary::Reverse => reverse::write_backward(
-            values,
-            elements,
-            estart,
-            a,
-            n,
-            out_values,
-            out_elements,
-            at,
-        ),
-        Unary::Distinct => distinct::write_distinct(
-            values,
-            elements,
-            estart,
-            a,
-            n,
-            out_values,
-            out_elements,
-            at,
-        ),
-        Unary::PopFront => utils::write_forward(
-            values,
-            elements,
-            estart,
-            a + (n - k),
-            k,
-            out_values,
-            out_elements,
-            at,
-        ),
-        Unary::PopBack => utils::write_forward(
-            values,
-            elements,
-            estart,
-            a,
-            k,
-            out_values,
-            out_elements,
-            at,
-        ),
-    }
-}
-
-// The number of elements that are made of the n elements from element a on.
-pub fn measure(
-    op: RowOp,
-    values: &[i64],
-    elements: &[u8],
-    estart: usize,
-    a: usize,
-    n: usize,
-) -> usize
-    requires column { ⌜ ReadableElems values elements estart a n ⌝ }
-    requires doable { ⌜ Doable op n ⌝ }
-    ensures { λ k. ⌜ k ≡ length (opElems op (lentElems values elements estart a n)) ⌝ }
-{
-    match op {
-        RowOp::Null => 0,
-        RowOp::Refused(_) => 0,
-        RowOp::Plain(u) => measure_plain(u, values, elements, estart, a, n),
-        RowOp::Empty => 0,
-        RowOp::Steps {
-            start: _,
-            stride: _,
-            count,
-        } => strided::to_usize(count),
-        RowOp::Resized { count, fill: _ } => count,
-        RowOp::Replaced {
-            from: _,
-            to: _,
-            limit: _,
-        } => n,
-        RowOp::Removed { element, limit } => remove::measure_removed(
-            values,
-            elements,
-            estart,
-            a,
-            n,
-            element,
-            limit,
-        ),
-    }
-}
-
-// Writes what is made of the n elements from element a on; gives the next place.
-pub fn write(
-    op: RowOp,
-    values: &[i64],
-    elements: &[u8],
-    estart: usize,
-    a: usize,
-    n: usize,
-    out_values: &mut [i64],
-    out_elements: &mut [u8],
-    at: usize,
-) -> usize
-    requires column { ⌜ ReadableElems values elements estart a n ⌝ }
-    requires doable { ⌜ Doable op n ⌝ }
-    requires room { ⌜ RoomForElems (opElems op (heldElems values elements estart a n)) at «out_values» «out_elements» ⌝ }
-    ensures { λ k. ⌜ Writes (opElems op (lentElems values elements estart a n)) at «out_values» «out_elements» k ⌝ }
-{
-    match op {
-        RowOp::Null => at,
-        RowOp::Refused(_) => at,
-        RowOp::Plain(u) => write_plain(
-            u,
-            values,
-            elements,
-            estart,
-            a,
-            n,
-            out_values,
-            out_elements,
-            at,
-        ),
-        RowOp::Empty => at,
-        RowOp::Steps {
-            start,
-            stride,
-            count,
-        } => strided::write_strided(
-            values,
-            elements,
-            estart,
-            a,
-            n,
-            start,
-            stride,
-            count,
-            out_values,
-            out_elements,
-            at,
-        ),
-        RowOp::Resized { count, fill } => resize::write_resized(
-            values,
-            elements,
-            estart,
-            a,
-            n,
-            count,
-            fill,
-            out_values,
-            out_elements,
-            at,
-        ),
-        RowOp::Replaced { from, to, limit } => replace::write_replaced(
-            values,
-            elements,
-            estart,
-            a,
-            n,
-            from,
-            to,
-            limit,
-            out_values,
-            out_elements,
-            at,
-        ),
-        RowOp::Removed { element, limit } => remove::write_removed(
-            values,
-            elements,
-            estart,
-            a,
-            n,
-            element,
-            limit,
-            out_values,
-            out_elements,
-            at,
-        ),
     }
 }

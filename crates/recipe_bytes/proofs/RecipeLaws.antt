@@ -1,30 +1,24 @@
--- Laws of the tally in bytes, and of what a recipe leaves.
-use mathlib.Core.Path.{_≡_, sym, ap, _∙_}
+-- Laws of a recipe on decoded numbers, and on trays and outputs that were cut from arrays.
+use mathlib.Core.Path.{_≡_}
 use mathlib.Core.List.{List}
 use Prim.Native.Nat.{ℕ}
-use Rattle.model.specs.Column.{Row, Column, Arguments}
+use lib.IntN.{ℤ}
+use Rattle.model.specs.Bitmap.{Bits}
+use Rattle.model.specs.Column.{Row, column, arguments}
 use Rattle.model.specs.Contract.{room}
 use Rattle.model.specs.Form.{Room}
 use Rattle.model.specs.Limits.{narrow}
 use Rattle.model.specs.Outcome.{Outcome}
-use Rattle.model.specs.Recipe.{Recipe, Tally, recipeOutcome, tallied}
-use Rattle.wire.specs.Bytes.{number}
-use Rattle.recipe_bytes.specs.Recipe.{tallyIn, withTally, talliedIn}
-
-pub tally-is : (s : List ℕ) {f r : ℕ} → f ≡ number 8 s 0 → r ≡ number 8 s 8 → _≡_ {A = Tally} (record { finished = f; refused = r }) (tallyIn s)
-unfolding tallyIn
-tally-is s p q = rw (p, q)
-
--- t is the tally that was read, u the one that was put
-pub tally-put : {x y : Outcome (List Row)} {t u : Tally} (s : List ℕ) {s′ : List ℕ} → s′ ≡ withTally u s → u ≡ tallied x t → t ≡ tallyIn s → y ≡ x → s′ ≡ talliedIn y s
-tally-put {x = x} s put one read h = put ∙ ap (λ w. withTally w s) (one ∙ ap (tallied x) read ∙ ap (λ z. tallied z (tallyIn s)) (sym h))
-
-pub tally-as : {x y : Outcome (List Row)} (s : List ℕ) {s′ : List ℕ} → y ≡ x → s′ ≡ talliedIn x s → s′ ≡ talliedIn y s
-tally-as s h p = rw h p
+use Rattle.model.specs.Recipe.{Tally, recipeOutcome, tallied}
+use Rattle.recipes.specs.Recipes.{recipe}
 
 -- trays and output of the same lengths
 pub same-room : {o o′ v v′ : ℕ} (r e : ℕ) → o ≡ o′ → v ≡ v′ → room o′ r v′ e ≡ room o r v e
 same-room r e p q = rw (p, q)
 
-pub same-rooms : (p : Recipe) (c d : Column) (e : Arguments) {a a′ b b′ o o′ : Room} → a ≡ a′ → b ≡ b′ → o ≡ o′ → recipeOutcome narrow p c d e a b o ≡ recipeOutcome narrow p c d e a′ b′ o′
-same-rooms p c d e f g h = rw (f, g, h)
+pub recipe-decoded : (columns : ℕ) (r e sr se b : Bits) {ns ns′ : List ℕ} {o o′ v v′ so so′ sv sv′ a a′ : List ℤ} {p p′ q q′ l l′ : Room} → ns ≡ ns′ → o ≡ o′ → v ≡ v′ → so ≡ so′ → sv ≡ sv′ → a ≡ a′ → p′ ≡ p → q′ ≡ q → l′ ≡ l
+    → recipeOutcome narrow (recipe ns′ columns) (column o′ r v′ e) (column so′ sr sv′ se) (arguments a′ b) p′ q′ l′ ≡ recipeOutcome narrow (recipe ns columns) (column o r v e) (column so sr sv se) (arguments a b) p q l
+recipe-decoded columns r e sr se b hn ho hv hs ht ha hp hq hl = rw (hn, ho, hv, hs, ht, ha, hp, hq, hl)
+
+pub tallied-as : {x y : Outcome (List Row)} (t : Tally) {u : Tally} → y ≡ x → u ≡ tallied x t → u ≡ tallied y t
+tallied-as t h p = rw h p

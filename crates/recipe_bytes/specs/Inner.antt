@@ -2,37 +2,26 @@
 use Prim.Native.Nat.{ℕ, _/_, _≤_}
 use mathlib.Core.Path.{_≡_}
 use mathlib.Core.List.{List}
-use lib.ListN.{length, replicate}
-use denote.Ref.{now}
-use Rattle.model.specs.Column.{Row}
-use Rattle.model.specs.Contract.{Slice}
-use Rattle.model.specs.Outcome.{Outcome}
-use Rattle.model.specs.Form.{Room}
-use Rattle.entry.specs.Entry.{ListReturns, bytesRoom}
-use Rattle.recipe_bytes.specs.Recipe.{talliedIn}
+use Rattle.entry.specs.Entry.{mostOffsets, mostValues}
+use Rattle.entry.specs.Inner.{ListFits}
 
--- arrays of ao and bo offsets and av and bv values have those that the trays have, ho and hv, io and iv; oo and ov, as many as lo and
--- lv bytes hold
-pub record Roomy (ho hv io iv lo lv ao av bo bv oo ov : ℕ) : Type 0 where
-  pub one-offsets : ho ≤ ao
-  pub one-values : hv ≤ av
-  pub two-offsets : io ≤ bo
-  pub two-values : iv ≤ bv
-  pub offsets : lo / 4 ≤ oo
-  pub values : lv / 8 ≤ ov
+-- the most of a recipe's numbers and of argument values that the entry takes, in the code's arrays
+abbrev pub mostNumbers : ℕ
+mostNumbers = 1024
 
--- what a recipe that came to x leaves, each slice at entry and at exit: the number n, the bitmaps of the trays, the output, the counts
--- and the tally
-pub record Leaves (x : Outcome (List Row)) (n : ℕ) (ar ar′ ae ae′ br br′ be be′ o o′ r r′ v v′ e e′ c c′ t t′ : List ℕ) : Type 0 where
-  pub answer : ListReturns x n o o′ r r′ v v′ e e′ c c′
-  pub tally : t′ ≡ talliedIn x t
-  pub one-rows : ar′ ≡ replicate (length ar) 0
-  pub one-elements : ae′ ≡ replicate (length ae) 0
-  pub two-rows : br′ ≡ replicate (length br) 0
-  pub two-elements : be′ ≡ replicate (length be) 0
+abbrev pub mostArguments : ℕ
+mostArguments = 32768
 
--- the same of slices, f being what the recipe comes to for the lengths of the output
-abbrev pub Ran : (Room → Outcome (List Row)) → ℕ → Slice ℕ → Slice ℕ → Slice ℕ → Slice ℕ → Slice ℕ → Slice ℕ → Slice ℕ → Slice ℕ → Slice ℕ → Slice ℕ → Type 0
-Ran f n ar ae br be o r v e c t =
-    Leaves (f (bytesRoom o r v e)) n (now (ar .entry)) (now (ar .exit)) (now (ae .entry)) (now (ae .exit)) (now (br .entry)) (now (br .exit)) (now (be .entry)) (now (be .exit))
-    (now (o .entry)) (now (o .exit)) (now (r .entry)) (now (r .exit)) (now (v .entry)) (now (v .exit)) (now (e .entry)) (now (e .exit)) (now (c .entry)) (now (c .exit)) (now (t .entry)) (now (t .exit))
+-- the arrays have places for the numbers in so many bytes of a recipe, of two lists' offsets and values, and of argument values
+pub record InputsFit (ns o v so sv a : ℕ) : Type 0 where
+  pub numbers : ns / 4 ≤ mostNumbers
+  pub list : ListFits o v mostOffsets mostValues
+  pub second : ListFits so sv mostOffsets mostValues
+  pub arguments : a / 8 ≤ mostArguments
+
+-- and for the numbers of two trays
+pub record TraysFit (ho hv io iv : ℕ) : Type 0 where
+  pub one-offsets : ho ≤ mostOffsets
+  pub one-values : hv ≤ mostValues
+  pub two-offsets : io ≤ mostOffsets
+  pub two-values : iv ≤ mostValues

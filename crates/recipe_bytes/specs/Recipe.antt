@@ -1,17 +1,17 @@
--- A recipe and its tally in slices of bytes; numbers stand in them little-endian (wire, specs/Bytes.antt).
+-- A recipe in slices of bytes; numbers stand in them little-endian (wire, specs/Bytes.antt).
 use Prim.Native.Nat.{ℕ}
 use mathlib.Core.Path.{_≡_}
-use mathlib.Core.List.{List, [], _∷_}
+use mathlib.Core.List.{List}
 use lib.ListN.{replicate}
 use denote.Ref.{now}
 use Rattle.model.specs.Column.{Row}
 use Rattle.model.specs.Contract.{Slice, room}
-use Rattle.model.specs.Form.{Room, over}
+use Rattle.model.specs.Form.{Room}
 use Rattle.model.specs.Limits.{narrow}
 use Rattle.model.specs.Outcome.{Outcome}
-use Rattle.model.specs.Recipe.{Tally, recipeOutcome, tallied}
+use Rattle.model.specs.Recipe.{recipeOutcome}
 use Rattle.recipes.specs.Recipes.{recipe}
-use Rattle.wire.specs.Bytes.{number, nats, bytesOfCounts}
+use Rattle.wire.specs.Bytes.{nats}
 use Rattle.entry.specs.Entry.{decoded, decodedArguments, size}
 
 -- what a recipe comes to for the lengths of tray one, tray two and the output, of slices of bytes as the call begins (as `recipeLent`)
@@ -26,15 +26,3 @@ trayRoom o r v e = room o (size r) v (size e)
 -- every byte of a slice is 0 as the call returns
 abbrev pub Zero : Slice ℕ → Type 0
 Zero s = now (s .exit) ≡ replicate (size s) 0
-
--- the tally in the first 16 bytes of a slice: recipes finished, then recipes refused
-unfoldable pub tallyIn : List ℕ → Tally
-tallyIn s = record { finished = number 8 s 0; refused = number 8 s 8 }
-
--- the slice with a tally over its first 16 bytes
-abbrev pub withTally : Tally → List ℕ → List ℕ
-withTally t s = over (bytesOfCounts (t .finished ∷ t .refused ∷ [])) s
-
--- the slice after a recipe that came to x
-abbrev pub talliedIn : Outcome (List Row) → List ℕ → List ℕ
-talliedIn x s = withTally (tallied x (tallyIn s)) s

@@ -11,32 +11,15 @@ ghost use mathlib.Core.Path.{_≡_};
 
 // Runs a recipe: its numbers, four a step, on the first list; the second list serves union and intersect; the argument columns, as
 // many as `columns` says, lie one after another in one slice with one bitmap. The trays are zero afterwards, whatever comes.
+#[rattlefmt::skip]
 pub fn run_recipe<'a>(
-    tally: Tally,
-    numbers: &[u32],
-    columns: usize,
-    offsets: &[i32],
-    rows: &[u8],
-    values: &'a [i64],
-    elements: &[u8],
-    second_offsets: &[i32],
-    second_rows: &[u8],
-    second_values: &'a [i64],
-    second_elements: &[u8],
-    arguments: &[i64],
-    argument_bits: &[u8],
-    one_offsets: &mut [i32],
-    one_rows: &mut [u8],
-    one_values: &mut [i64],
-    one_elements: &mut [u8],
-    two_offsets: &mut [i32],
-    two_rows: &mut [u8],
-    two_values: &mut [i64],
-    two_elements: &mut [u8],
-    out_offsets: &mut [i32],
-    out_rows: &mut [u8],
-    out_values: &mut [i64],
-    out_elements: &mut [u8],
+    tally: Tally, numbers: &[u32], columns: usize,
+    offsets: &[i32], rows: &[u8], values: &'a [i64], elements: &[u8],
+    second_offsets: &[i32], second_rows: &[u8], second_values: &'a [i64], second_elements: &[u8],
+    arguments: &[i64], argument_bits: &[u8],
+    one_offsets: &mut [i32], one_rows: &mut [u8], one_values: &mut [i64], one_elements: &mut [u8],
+    two_offsets: &mut [i32], two_rows: &mut [u8], two_values: &mut [i64], two_elements: &mut [u8],
+    out_offsets: &mut [i32], out_rows: &mut [u8], out_values: &mut [i64], out_elements: &mut [u8],
 ) -> RecipeAnswer
     ensures { λ a. ⌜ ListAnswers (recipeLent columns numbers offsets rows values elements «second_offsets» «second_rows» «second_values» «second_elements» arguments «argument_bits» (roomOf «one_offsets» «one_rows» «one_values» «one_elements») (roomOf «two_offsets» «two_rows» «two_values» «two_elements»)) (a .answer) «out_offsets» «out_rows» «out_values» «out_elements» ⌝ }
     ensures { λ _. ⌜ Clears «one_offsets» «one_rows» «one_values» «one_elements» ⌝ }
@@ -44,35 +27,13 @@ pub fn run_recipe<'a>(
     ensures { λ a. ⌜ tallyOf (a .tally) ≡ tallied (recipeLent columns numbers offsets rows values elements «second_offsets» «second_rows» «second_values» «second_elements» arguments «argument_bits» (roomOf «one_offsets» «one_rows» «one_values» «one_elements») (roomOf «two_offsets» «two_rows» «two_values» «two_elements») (roomOf «out_offsets» «out_rows» «out_values» «out_elements»)) (tallyOf tally) ⌝ }
 {
     let answer = call::attempt(
-        numbers,
-        columns,
-        offsets,
-        rows,
-        0,
-        values,
-        elements,
-        0,
-        second_offsets,
-        second_rows,
-        0,
-        second_values,
-        second_elements,
-        0,
-        arguments,
-        argument_bits,
-        0,
-        one_offsets,
-        one_rows,
-        one_values,
-        one_elements,
-        two_offsets,
-        two_rows,
-        two_values,
-        two_elements,
-        out_offsets,
-        out_rows,
-        out_values,
-        out_elements,
+        numbers, columns,
+        offsets, rows, 0, values, elements, 0,
+        second_offsets, second_rows, 0, second_values, second_elements, 0,
+        arguments, argument_bits, 0,
+        one_offsets, one_rows, one_values, one_elements,
+        two_offsets, two_rows, two_values, two_elements,
+        out_offsets, out_rows, out_values, out_elements,
     );
     copies::clear(one_offsets, one_rows, one_values, one_elements);
     copies::clear(two_offsets, two_rows, two_values, two_elements);

@@ -11,7 +11,7 @@ use Rattle.model.specs.Form.{isVal, valueOf}
 use Rattle.bitmap.proofs.BitLaws.{length-pushBits}
 use Rattle.bitmap.specs.Push.{pushBit, pushBits}
 use Rattle.column.proofs.WriteLaws.{Writing, done}
-use Rattle.column.specs.Put.{putValues, putElements, Place, Written}
+use Rattle.column.specs.Put.{putValues, putElements, RoomForElemsˡ, Writesˡ}
 
 values-append : (xs ys : List Elem) (d : List ℤ) (k : ℕ) → putValues d k (xs ++ ys) ≡ putValues (putValues d k xs) (k + length xs) ys
 values-append [] ys d k = let e : k + 0 ≡ k = omega arith in rw e
@@ -23,7 +23,7 @@ elements-append [] ys d k = let e : k + 0 ≡ k = omega arith in rw e
 elements-append (x ∷ xs) ys d k = let e : suc k + length xs ≡ k + suc (length xs) = omega arith in elements-append xs ys (pushBit d k (isVal x)) (suc k) ∙ rw e
 
 -- writing keeps the lengths of the outputs
-module _ {es : List Elem} {k : ℕ} {vo vo′ : List ℤ} {eo eo′ : List ℕ} {r : ℕ} (w : Written es k vo vo′ eo eo′ r) where
+module _ {es : List Elem} {k : ℕ} {vo vo′ : List ℤ} {eo eo′ : List ℕ} {r : ℕ} (w : Writesˡ es k vo vo′ eo eo′ r) where
   pub values-length : length vo′ ≡ length vo
   values-length = ap length (w .values) ∙ length-sets vo k (map valueOf es)
 
@@ -36,13 +36,13 @@ module _ {es : List Elem} {at : ℕ} {vo₀ : List ℤ} {eo₀ : List ℕ} {rest
     longer : length rest ≡ length run + length rest′
     longer = ap length n ∙ length-append run rest′
 
-    pub run-room : Place es at (length vo₀) (length eo₀) → Place run k (length vo) (length eo)
+    pub run-room : RoomForElemsˡ es at (length vo₀) (length eo₀) → RoomForElemsˡ run k (length vo) (length eo)
     run-room p = record {
       values = omega (arith, w .place, longer, p .values, w .lv);
       elements = omega (arith, w .place, longer, p .elements, w .le);
     }
 
-    module _ {vo′ : List ℤ} {eo′ : List ℕ} {k′ : ℕ} (d : Written run k vo vo′ eo eo′ k′) where
+    module _ {vo′ : List ℤ} {eo′ : List ℕ} {k′ : ℕ} (d : Writesˡ run k vo vo′ eo eo′ k′) where
       pub run-written : Writing es at vo₀ eo₀ rest′ k′ vo′ eo′
       run-written = record {
         values = rw (d .values, d .next, ← values-append run rest′ vo k, ← n) (w .values);
@@ -54,8 +54,8 @@ module _ {es : List Elem} {at : ℕ} {vo₀ : List ℤ} {eo₀ : List ℕ} {rest
 
   -- those left are one run
   module _ (run : List Elem) (n : rest ≡ run) where
-    pub last-room : Place es at (length vo₀) (length eo₀) → Place run k (length vo) (length eo)
+    pub last-room : RoomForElemsˡ es at (length vo₀) (length eo₀) → RoomForElemsˡ run k (length vo) (length eo)
     last-room p = run-room run [] (n ∙ sym (append-nil run)) p
 
-    pub last-written : {vo′ : List ℤ} {eo′ : List ℕ} {k′ : ℕ} → Written run k vo vo′ eo eo′ k′ → Written es at vo₀ vo′ eo₀ eo′ k′
+    pub last-written : {vo′ : List ℤ} {eo′ : List ℕ} {k′ : ℕ} → Writesˡ run k vo vo′ eo eo′ k′ → Writesˡ es at vo₀ vo′ eo₀ eo′ k′
     last-written d = done (run-written run [] (n ∙ sym (append-nil run)) d) refl

@@ -2,8 +2,8 @@
 use Rattle.model.specs.Column.{Elem, nul, val}
 use Rattle.rows.specs.declared.Cell.{Cell}
 use Rattle.rows.specs.declared.Cell.the-variants.{Null, Value}
-use Rattle.rows.specs.declared.resize.Fill.{Fill}
-use Rattle.rows.specs.declared.resize.Fill.the-variants.{Absent, Own}
+use Rattle.rows.specs.declared.Fill.{Fill}
+use Rattle.rows.specs.declared.Fill.the-variants.{Absent, Own}
 
 unfoldable pub elemOf : Cell → Elem
 elemOf Null = nul

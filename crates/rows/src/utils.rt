@@ -8,7 +8,7 @@ ghost use Rattle.column.specs.Outputs.{ReadableElems, RoomForElems, Writes};
 ghost use Rattle.model.specs.Column.{count};
 ghost use Rattle.model.specs.Elements.{eqZ, sameElem};
 ghost use Rattle.model.specs.Form.{isVal, valueOf};
-ghost use Rattle.model.specs.Held.{heldBits, heldElems, lentElem, lentElems};
+ghost use Rattle.model.specs.Inner.{nowBits, nowElems, lentElem, lentElems};
 ghost use Rattle.rows.specs.Cells.{elemOf};
 ghost use Rattle.rows.specs.Found.{Before};
 ghost use lib.IntN.{pos};
@@ -27,7 +27,7 @@ fn write_each(
     at: usize,
 ) -> usize
     requires column { ⌜ ReadableElems values elements estart a n ⌝ }
-    requires room { ⌜ RoomForElems (heldElems values elements estart a n) at «out_values» «out_elements» ⌝ }
+    requires room { ⌜ RoomForElems (nowElems values elements estart a n) at «out_values» «out_elements» ⌝ }
     ensures { λ r. ⌜ Writes (lentElems values elements estart a n) at «out_values» «out_elements» r ⌝ }
 {
     let mut p = a;
@@ -54,7 +54,7 @@ pub fn write_forward(
     at: usize,
 ) -> usize
     requires column { ⌜ ReadableElems values elements estart a n ⌝ }
-    requires room { ⌜ RoomForElems (heldElems values elements estart a n) at «out_values» «out_elements» ⌝ }
+    requires room { ⌜ RoomForElems (nowElems values elements estart a n) at «out_values» «out_elements» ⌝ }
     ensures { λ r. ⌜ Writes (lentElems values elements estart a n) at «out_values» «out_elements» r ⌝ }
 {
     if elements.len() == 0 {
@@ -82,7 +82,7 @@ pub(crate) fn compare_element_to_list(
     cell: Cell,
 ) -> bool
     requires { ⌜ i < length (now values) ⌝ }
-    requires { ⌜ Covers (heldBits elements estart) (length (now values)) ⌝ }
+    requires { ⌜ Covers (nowBits elements estart) (length (now values)) ⌝ }
     ensures { λ r. ⌜ r ≡ sameElem (lentElem values elements estart i) (elemOf cell) ⌝ }
 {
     let valid = bitmap::is_valid(elements, estart, i, values.len());
@@ -92,7 +92,7 @@ pub(crate) fn compare_element_to_list(
             if !valid {
                 return false;
             }
-            pairs::same_value(values[i], v)
+            set_elements::same_value(values[i], v)
         }
     }
 }
@@ -135,7 +135,7 @@ fn before_each(
 }
 
 // How many of the n elements from element a on come before the first match; where none can be null, a null matches none.
-pub(crate) fn before_match(
+pub fn before_match(
     values: &[i64],
     elements: &[u8],
     estart: usize,
@@ -177,7 +177,7 @@ fn write_value(v: i64, out_values: &mut [i64], out_elements: &mut [u8], k: usize
 }
 
 // Writes an argument as element k of the result.
-pub(crate) fn write_cell(cell: Cell, out_values: &mut [i64], out_elements: &mut [u8], k: usize)
+pub fn write_cell(cell: Cell, out_values: &mut [i64], out_elements: &mut [u8], k: usize)
     requires { ⌜ k < length (now «out_values») ⌝ }
     requires { ⌜ k / 8 < length (now «out_elements») ⌝ }
     ensures { λ _. ⌜ now («out_values» .exit) ≡ set (now («out_values» .entry)) k (valueOf (elemOf cell)) ⌝ }

@@ -1,3 +1,2 @@
-pub mod StoreLaws
 pub mod SameLaws
 pub mod PlainLaws

@@ -8,9 +8,10 @@ use lib.IntN.{ℤ, pos}
 use lib.ListN.{length, getD, replicate, length-replicate}
 use lib.Seq.{sets}
 use Rattle.bitmap.specs.Push.{pushBits}
+use Rattle.stores.proofs.StoreLaws.{length-back}
 use Rattle.column.proofs.PutLaws.{rev-step}
 use Rattle.column.proofs.RowLaws.{elem-plain}
-use Rattle.column.specs.Put.{Written}
+use Rattle.column.specs.Put.{Writesˡ}
 use Rattle.model.proofs.TabLaws.{length-tab, map-tab, tab-ext}
 use Rattle.model.specs.Basics.{tab}
 use Rattle.model.specs.Bitmap.{Bits}
@@ -19,7 +20,7 @@ use Rattle.model.specs.Form.{isVal, valueOf}
 
 -- elements are written where their values and their bits are
 pub both-written : (es : List Elem) (xs : List ℤ) (bs : List Bool) (at n : ℕ) {vo vo′ : List ℤ} {eo eo′ : List ℕ} → map valueOf es ≡ xs → map isVal es ≡ bs → length es ≡ n
-    → vo′ ≡ sets vo at xs → eo′ ≡ pushBits eo at bs → Written es at vo vo′ eo eo′ (at + n)
+    → vo′ ≡ sets vo at xs → eo′ ≡ pushBits eo at bs → Writesˡ es at vo vo′ eo eo′ (at + n)
 both-written es xs bs at n {vo} {vo′} {eo} {eo′} p q l v e = record {
   values = v ∙ ap (λ (r : List ℤ). sets vo at r) (sym p);
   elements = e ∙ ap (λ (r : List Bool). pushBits eo at r) (sym q);
@@ -48,13 +49,6 @@ back-same {A} {B} f g x a (suc n) e =
     let d : suc n - 1 ≡ n = omega arith in
     rw (rev-step g a (suc n) (omega arith), d, e (a + n)) (ap (λ (r : List B). x ∷ r) (back-same f g x a n e))
 
-pub length-back : {A : Type 0} (g : ℕ → A) (a n : ℕ) → length (reverse (tab g a n)) ≡ n
-unfolding tab
-length-back g a zero = refl
-length-back g a (suc n) =
-    let d : suc n - 1 ≡ n = omega arith in
-    rw (rev-step g a (suc n) (omega arith), d) (ap suc (length-back g a n))
-
 pub tab-same : {A B : Type 0} (f : A → B) (g : ℕ → A) (x : B) (a n : ℕ) → ((i : ℕ) → f (g i) ≡ x) → map f (tab g a n) ≡ replicate n x
 unfolding tab
 tab-same f g x a zero e = refl
@@ -72,7 +66,7 @@ module _ (vs : List ℤ) (eb : Bits) (z : length (eb .bytes) ≡ 0) where
   bit-at i = rw (elem-plain vs eb i z)
 
   module _ (a n at : ℕ) {vo vo′ : List ℤ} {eo eo′ : List ℕ} where
-    pub forward-written : vo′ ≡ sets vo at (tab (λ i. getD vs i (pos 0)) a n) → eo′ ≡ pushBits eo at (replicate n true) → Written (tab (elemAt vs eb) a n) at vo vo′ eo eo′ (at + n)
+    pub forward-written : vo′ ≡ sets vo at (tab (λ i. getD vs i (pos 0)) a n) → eo′ ≡ pushBits eo at (replicate n true) → Writesˡ (tab (elemAt vs eb) a n) at vo vo′ eo eo′ (at + n)
     forward-written v e =
         both-written (tab (elemAt vs eb) a n) (tab (λ i. getD vs i (pos 0)) a n) (replicate n true) at n
         (map-tab valueOf (elemAt vs eb) a n ∙ tab-ext (λ i. valueOf (elemAt vs eb i)) (λ i. getD vs i (pos 0)) a a n (λ i h. value-at (a + i)))
@@ -81,7 +75,7 @@ module _ (vs : List ℤ) (eb : Bits) (z : length (eb .bytes) ≡ 0) where
         v
         e
 
-    pub backward-written : vo′ ≡ sets vo at (reverse (tab (λ i. getD vs i (pos 0)) a n)) → eo′ ≡ pushBits eo at (replicate n true) → Written (reverse (tab (elemAt vs eb) a n)) at vo vo′ eo eo′ (at + n)
+    pub backward-written : vo′ ≡ sets vo at (reverse (tab (λ i. getD vs i (pos 0)) a n)) → eo′ ≡ pushBits eo at (replicate n true) → Writesˡ (reverse (tab (elemAt vs eb) a n)) at vo vo′ eo eo′ (at + n)
     backward-written v e =
         both-written (reverse (tab (elemAt vs eb) a n)) (reverse (tab (λ i. getD vs i (pos 0)) a n)) (replicate n true) at n
         (map-back valueOf (elemAt vs eb) (λ i. getD vs i (pos 0)) a n value-at)
@@ -92,5 +86,5 @@ module _ (vs : List ℤ) (eb : Bits) (z : length (eb .bytes) ≡ 0) where
 
 -- ---- one element again and again
 
-pub same-written : (x : Elem) (n at : ℕ) {vo vo′ : List ℤ} {eo eo′ : List ℕ} → vo′ ≡ sets vo at (replicate n (valueOf x)) → eo′ ≡ pushBits eo at (replicate n (isVal x)) → Written (replicate n x) at vo vo′ eo eo′ (at + n)
+pub same-written : (x : Elem) (n at : ℕ) {vo vo′ : List ℤ} {eo eo′ : List ℕ} → vo′ ≡ sets vo at (replicate n (valueOf x)) → eo′ ≡ pushBits eo at (replicate n (isVal x)) → Writesˡ (replicate n x) at vo vo′ eo eo′ (at + n)
 same-written x n at v e = both-written (replicate n x) (replicate n (valueOf x)) (replicate n (isVal x)) at n (map-same valueOf x n) (map-same isVal x n) (length-replicate n x) v e

@@ -3,41 +3,15 @@ use column::elements;
 ghost use Prim.Native.Nat.{_%_, _*_, _+_, _-_, _/_, _<_, _^_, _≤_};
 ghost use Rattle.bitmap.specs.Push.{pushBits};
 ghost use Rattle.column.specs.Outputs.{ReadableElems, RoomForElems, Writes};
-ghost use Rattle.model.specs.Basics.{pick, tab};
+ghost use Rattle.model.specs.Basics.{pick};
 ghost use Rattle.model.specs.Bitmap.{bytesFor};
 ghost use Rattle.model.specs.Column.{nul, val};
-ghost use Rattle.model.specs.Held.{heldElems, lentElems};
-ghost use lib.IntN.{pos};
-ghost use lib.ListN.{getD, length, replicate};
-ghost use lib.Seq.{sets};
+ghost use Rattle.model.specs.Inner.{nowElems, lentElems};
+ghost use lib.ListN.{length, replicate};
 ghost use mathlib.Core.List.{reverse};
 ghost use mathlib.Core.Path.{_≡_};
 
 // ---- bits
-
-// Stores a byte at m places, from place k on.
-fn put_bytes(bitmap: &mut [u8], k: usize, m: usize, byte: u8)
-    requires { ⌜ k + m ≤ length (now bitmap) ⌝ }
-    ensures { λ _. ⌜ now (bitmap .exit) ≡ sets (now (bitmap .entry)) k (replicate m byte) ⌝ }
-{
-    let mut j = k;
-    let mut left = m;
-    while 0 < left {
-        bitmap[j] = byte;
-        j += 1;
-        left -= 1;
-    }
-}
-
-// Eight bits, all the same.
-fn byte_of(on: bool) -> u8
-    ensures { λ r. ⌜ r ≡ pick on 255 0 ⌝ }
-{
-    if on {
-        return 255;
-    }
-    0
-}
 
 // The m lowest bits of a byte, fewer than eight.
 fn low_ones(m: usize) -> u8
@@ -79,7 +53,7 @@ fn push_bytes(bitmap: &mut [u8], k: usize, n: usize, on: bool)
 {
     let whole = n / 8;
     let last = n % 8;
-    put_bytes(bitmap, k, whole, byte_of(on));
+    stores::put_bytes(bitmap, k, whole, stores::byte_of(on));
     if last == 0 {
         return;
     }
@@ -105,54 +79,6 @@ pub fn push_same(bitmap: &mut [u8], at: usize, n: usize, on: bool)
     push_bytes(bitmap, at / 8 + 1, n - gap, on);
 }
 
-// ---- values
-
-// Copies the n values from value a on, from place at on.
-fn copy_values(values: &[i64], a: usize, n: usize, out: &mut [i64], at: usize)
-    requires { ⌜ a + n ≤ length (now values) ⌝ }
-    requires { ⌜ at + n ≤ length (now out) ⌝ }
-    ensures { λ _. ⌜ now (out .exit) ≡ sets (now (out .entry)) at (tab (λ i. getD (now (values .entry)) i (pos 0)) a n) ⌝ }
-{
-    let mut p = a;
-    let mut k = at;
-    let mut left = n;
-    while 0 < left {
-        out[k] = values[p];
-        p += 1;
-        k += 1;
-        left -= 1;
-    }
-}
-
-// Copies the n values from value a on, last first.
-fn copy_backward(values: &[i64], a: usize, n: usize, out: &mut [i64], at: usize)
-    requires { ⌜ a + n ≤ length (now values) ⌝ }
-    requires { ⌜ at + n ≤ length (now out) ⌝ }
-    ensures { λ _. ⌜ now (out .exit) ≡ sets (now (out .entry)) at (reverse (tab (λ i. getD (now (values .entry)) i (pos 0)) a n)) ⌝ }
-{
-    let mut k = at;
-    let mut left = n;
-    while 0 < left {
-        left -= 1;
-        out[k] = values[a + left];
-        k += 1;
-    }
-}
-
-// Stores a value at n places, from place at on.
-fn fill_values(v: i64, n: usize, out: &mut [i64], at: usize)
-    requires { ⌜ at + n ≤ length (now out) ⌝ }
-    ensures { λ _. ⌜ now (out .exit) ≡ sets (now (out .entry)) at (replicate n v) ⌝ }
-{
-    let mut k = at;
-    let mut left = n;
-    while 0 < left {
-        out[k] = v;
-        k += 1;
-        left -= 1;
-    }
-}
-
 // ---- elements
 
 // Writes the n elements from element a on, none of them null, from place at of the result on; gives the next place.
@@ -167,11 +93,11 @@ pub fn write_forward(
     at: usize,
 ) -> usize
     requires column { ⌜ ReadableElems values elements estart a n ⌝ }
-    requires room { ⌜ RoomForElems (heldElems values elements estart a n) at «out_values» «out_elements» ⌝ }
+    requires room { ⌜ RoomForElems (nowElems values elements estart a n) at «out_values» «out_elements» ⌝ }
     requires plain { ⌜ length (now elements) ≡ 0 ⌝ }
     ensures { λ r. ⌜ Writes (lentElems values elements estart a n) at «out_values» «out_elements» r ⌝ }
 {
-    copy_values(values, a, n, out_values, at);
+    stores::copy_values(values, a, n, out_values, at);
     push_same(out_elements, at, n, true);
     at + n
 }
@@ -188,11 +114,11 @@ pub fn write_backward(
     at: usize,
 ) -> usize
     requires column { ⌜ ReadableElems values elements estart a n ⌝ }
-    requires room { ⌜ RoomForElems (reverse (heldElems values elements estart a n)) at «out_values» «out_elements» ⌝ }
+    requires room { ⌜ RoomForElems (reverse (nowElems values elements estart a n)) at «out_values» «out_elements» ⌝ }
     requires plain { ⌜ length (now elements) ≡ 0 ⌝ }
     ensures { λ r. ⌜ Writes (reverse (lentElems values elements estart a n)) at «out_values» «out_elements» r ⌝ }
 {
-    copy_backward(values, a, n, out_values, at);
+    stores::copy_backward(values, a, n, out_values, at);
     push_same(out_elements, at, n, true);
     at + n
 }
@@ -208,7 +134,7 @@ pub fn write_value(
     requires room { ⌜ RoomForElems (replicate n (val v)) at «out_values» «out_elements» ⌝ }
     ensures { λ r. ⌜ Writes (replicate n (val v)) at «out_values» «out_elements» r ⌝ }
 {
-    fill_values(v, n, out_values, at);
+    stores::fill_values(v, n, out_values, at);
     push_same(out_elements, at, n, true);
     at + n
 }
@@ -218,7 +144,7 @@ pub fn write_null(n: usize, out_values: &mut [i64], out_elements: &mut [u8], at:
     requires room { ⌜ RoomForElems (replicate n nul) at «out_values» «out_elements» ⌝ }
     ensures { λ r. ⌜ Writes (replicate n nul) at «out_values» «out_elements» r ⌝ }
 {
-    fill_values(elements::UNDER_NULL, n, out_values, at);
+    stores::fill_values(elements::UNDER_NULL, n, out_values, at);
     push_same(out_elements, at, n, false);
     at + n
 }

@@ -1,9 +1,10 @@
 -- Laws of a chain of steps: what an answer tells of its outcome, and what a step leaves for the next.
-use Prim.Native.Nat.{ℕ, _+_, _-_, _≤_, _<_}
+use Prim.Native.Nat.{ℕ, _+_, _-_, _*_, _≤_, _<_}
 use mathlib.Core.Path.{_≡_, refl, sym, ap, _∙_}
 use mathlib.Core.Bool.{Bool, true, false}
 use mathlib.Core.List.{List, [], _∷_, map}
 use native.Mathlib.Omega.{arith}
+use borrow.Author.Tests.{eqb-true, eqb-false}
 use lib.Dec.{eqb}
 use lib.IntN.{ℤ}
 use lib.ListN.{length, take}
@@ -25,12 +26,13 @@ use Rattle.model.proofs.TabLaws.{length-map, length-tab, tab-step, tab-none}
 use Rattle.ops.specs.Ops.{callOf}
 use Rattle.ops.specs.declared.ListOp.{ListOp}
 use Rattle.ops.specs.declared.ListOp.the-variants as L
-use Rattle.codes.specs.Codes.{stepOp}
-use Rattle.steps.specs.Steps.{front, AtFront, Steps, StepFits, opCall}
-use Rattle.codes.specs.declared.StepOp.{StepOp}
-use Rattle.codes.specs.declared.StepOp.the-variants as S
-use Rattle.steps.proofs.RoundLaws.{held-over, rows-over}
-use Rattle.steps.proofs.StepLaws.{call-is}
+use Rattle.codes.specs.Codes.{operationOf}
+use Rattle.step.specs.Step.{front, AtFront, StepFits, opCall, Taken, rowsTaken}
+use Rattle.steps.specs.Steps.{Steps}
+use Rattle.codes.specs.declared.Operation.{Operation}
+use Rattle.codes.specs.declared.Operation.the-variants as S
+use Rattle.steps.proofs.RoundLaws.{at-front-over, rows-over}
+use Rattle.step.proofs.StepLaws.{call-is, taken-later}
 use Rattle.model.proofs.BoolLaws.{never}
 
 -- ---- what an answer tells
@@ -53,7 +55,7 @@ answer-made (made ws) a n m p q e h = record { rows = ws; is = refl; many = cc; 
 
 -- ---- a step makes as many rows as it takes
 
-rows-of-call : (o : StepOp) (ws rs : List Row) (a b c : List Elem) → rowsIn (opCall o ws rs a b c) ≡ length ws
+rows-of-call : (o : Operation) (ws rs : List Row) (a b c : List Elem) → rowsIn (opCall o ws rs a b c) ≡ length ws
 unfolding opCall rowsIn callOf
 rows-of-call (S.One (L.Plain u)) ws rs a b c = refl
 rows-of-call (S.One L.Slice) ws rs a b c = refl
@@ -63,6 +65,7 @@ rows-of-call (S.One L.ResizeWith) ws rs a b c = refl
 rows-of-call (S.One L.Replace) ws rs a b c = refl
 rows-of-call (S.One L.Remove) ws rs a b c = refl
 rows-of-call (S.Two op) ws rs a b c = refl
+rows-of-call S.None ws rs a b c = refl
 
 length-made : (q : ListCall (List Row) (List Elem)) → length (rowsMade narrow q) ≡ rowsIn q
 unfolding rowsMade rowByRow
@@ -81,7 +84,7 @@ unfolding afterThree gate fitted
 after-made q l ws h = fit-made (fitsIn (length (rowsMade narrow q)) (length (flat (rowsMade narrow q))) l) (rowsMade narrow q) ws (gate-made (eqb (rowsRefusal narrow q) 0) (rowsRefusal narrow q) _ ws h)
 
 pub rows-kept : (s : Step) (ws rs : List Row) (es : List Elem) (l : Room) (ws′ : List Row) → afterThree narrow (stepCall s ws rs es) l ≡ made ws′ → length ws′ ≡ length ws
-rows-kept s ws rs es l ws′ h = ap length (sym (after-made (stepCall s ws rs es) l ws′ h)) ∙ length-made (stepCall s ws rs es) ∙ ap rowsIn (call-is (s .code) ws rs _ _ _) ∙ rows-of-call (stepOp (s .code)) ws rs _ _ _
+rows-kept s ws rs es l ws′ h = ap length (sym (after-made (stepCall s ws rs es) l ws′ h)) ∙ length-made (stepCall s ws rs es) ∙ ap rowsIn (call-is (s .code) ws rs _ _ _) ∙ rows-of-call (operationOf (s .code)) ws rs _ _ _
 
 -- ---- the chain
 
@@ -109,7 +112,7 @@ module _ (s : Step) (ts : List Step) (ws rs : List Row) (es : List Elem) (a b o 
 pub record Carried (o : Outcome (List Row)) (oo′ : List ℤ) (ro′ : List ℕ) (vo′ : List ℤ) (eo′ : List ℕ) (n m : ℕ) : Type 0 where
   pub rows : List Row
   pub is : o ≡ made rows
-  pub held : AtFront n m oo′ ro′ vo′ eo′
+  pub at-front : AtFront n m oo′ ro′ vo′ eo′
   pub shown : rowsOf (front oo′ ro′ vo′ eo′ n m) ≡ rows
 
 pub carries : (o : Outcome (List Row)) (a : ListAnswer) (n r m p q : ℕ) {oo oo′ : List ℤ} {ro ro′ : List ℕ} {vo vo′ : List ℤ} {eo eo′ : List ℕ}
@@ -125,13 +128,32 @@ carries o a n r m p q {oo} {oo′} {ro} {ro′} {vo} {vo′} {eo} {eo′} h e f 
     record {
       rows = d .rows;
       is = d .is;
-      held = rw (x, y, z, w) (held-over (d .rows) oo ro vo eo n m k (d .elements));
+      at-front = rw (x, y, z, w) (at-front-over (d .rows) oo ro vo eo n m k (d .elements));
       shown = rw (x, y, z, w) (rows-over (d .rows) oo ro vo eo n m k (d .elements));
     }
 
 -- the rows at the front of a tray are as many as it holds
-pub front-rows : {n m : ℕ} {o : List ℤ} {r : List ℕ} {v : List ℤ} {e : List ℕ} → AtFront n m o r v e → length (rowsOf (front o r v e n m)) ≡ n
+front-rows : {n m : ℕ} {o : List ℤ} {r : List ℕ} {v : List ℤ} {e : List ℕ} → AtFront n m o r v e → length (rowsOf (front o r v e n m)) ≡ n
 front-rows {n} {m} {o} {r} {v} {e} h = let l = length-take-le (n + 1) o (h .offsets) in length-rows (front o r v e n m) ∙ omega arith
+
+-- ---- the rows that a step takes
+
+pub taken-rows : {k n m : ℕ} {c : Column} {o : List ℤ} {r : List ℕ} {v : List ℤ} {e : List ℕ} → Taken k n m c o r v e → length (rowsTaken k c (front o r v e n m)) ≡ n
+unfolding rowsTaken
+taken-rows {k} {n} {m} {c} {o} {r} {v} {e} h = cases (eqb k 0) refl
+  where
+    cases : (t : Bool) → eqb k 0 ≡ t → length (pick t (rowsOf c) (rowsOf (front o r v e n m))) ≡ n
+    cases true q = length-rows c ∙ h .rows (eqb-true k 0 q)
+    cases false q = front-rows (h .later (eqb-false k 0 q))
+
+later : (k : ℕ) → k + 1 ≡ 0 → ⊥
+later k z = omega arith
+
+pub taken-next : (k : ℕ) {n m : ℕ} (c : Column) {o : List ℤ} {r : List ℕ} {v : List ℤ} {e : List ℕ} → AtFront n m o r v e → Taken (k + 1) n m c o r v e
+taken-next k c h = record { first = λ z. absurd (later k z); rows = λ z. absurd (later k z); later = λ _. h }
+
+pub next-rows : (k : ℕ) (c t : Column) → rowsTaken (k + 1) c t ≡ rowsOf t
+next-rows k c t = taken-later (k + 1) c t (later k)
 
 pub same-room : {x x′ y y′ z z′ w w′ : ℕ} → x′ ≡ x → y′ ≡ y → z′ ≡ z → w′ ≡ w → room x′ y′ z′ w′ ≡ room x y z w
 same-room a b c d = rw (a, b, c, d)
@@ -141,6 +163,9 @@ same-room a b c d = rw (a, b, c, d)
 module _ {ns : List ℕ} {n len k left : ℕ} (s : Steps ns n len k left) where
   pub step-fits : StepFits (stepAt ns k) n len
   step-fits = let e : k + 0 ≡ k = omega arith in rw e at (s .fit 0 (s .some))
+
+  pub step-there : 4 * k + 4 ≤ length ns
+  step-there = omega (arith, s .some, s .there)
 
   pub none-left : left ≡ 1 → tab (stepAt ns) (k + 1) (left - 1) ≡ []
   none-left e = tab-none (stepAt ns) (k + 1) (left - 1) (omega arith)

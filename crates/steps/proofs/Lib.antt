@@ -1,3 +1,2 @@
 pub mod RoundLaws
-pub mod StepLaws
 pub mod ChainLaws

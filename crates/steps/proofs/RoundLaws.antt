@@ -20,7 +20,7 @@ use Rattle.bitmap.proofs.PackLaws.{valid-pack}
 use Rattle.column.specs.Put.{Readable}
 use Rattle.column.proofs.RowLaws.{flat-append}
 use Rattle.column.proofs.PutLaws.{flat-snoc}
-use Rattle.steps.specs.Steps.{front, AtFront}
+use Rattle.step.specs.Step.{front, AtFront}
 
 -- ---- elements
 
@@ -154,8 +154,8 @@ module _ (ws : List Row) (d₁ : List ℤ) (d₂ : List ℕ) (d₃ : List ℤ) (
         take-at (formElements (flat ws)) (drop (length (formElements (flat ws))) d₄) (bytesFor m) (length-pack (map isVal (flat ws)) ∙ ap bytesFor (length-map isVal (flat ws) ∙ sym f)),
       )
 
-  pub held-over : AtFront n m (over (formOffsets ws) d₁) (over (formRows ws) d₂) (over (formValues (flat ws)) d₃) (over (formElements (flat ws)) d₄)
-  held-over = record {
+  pub at-front-over : AtFront n m (over (formOffsets ws) d₁) (over (formRows ws) d₂) (over (formValues (flat ws)) d₃) (over (formElements (flat ws)) d₄)
+  at-front-over = record {
     offsets = omega (arith, length-append (formOffsets ws) (drop (length (formOffsets ws)) d₁), length-offsets 0 (map lengthOf ws), length-map lengthOf ws);
     rows = omega (arith, length-append (formRows ws) (drop (length (formRows ws)) d₂), length-pack (map isRow ws), length-map isRow ws);
     values = omega (arith, length-append (formValues (flat ws)) (drop (length (formValues (flat ws))) d₃), length-map valueOf (flat ws));

@@ -7,10 +7,10 @@ use Rattle.model.specs.Contract.{told}
 use Rattle.model.specs.Outcome.{Outcome, refused, made}
 use Rattle.model.specs.Recipe.{Tally, tallied}
 use Rattle.model.specs.declared.ListAnswer.{ListAnswer}
-use Rattle.tally.specs.Tallies.{talliedBy}
+use Rattle.tally.specs.Tallies.{outcomeOf, talliedBy}
 
 by-outcome : (x : Outcome (List Row)) (t : Tally) → talliedBy (answerOf listCounts x) t ≡ tallied x t
-unfolding talliedBy answerOf tallied
+unfolding outcomeOf answerOf tallied
 by-outcome (refused k) t = refl
 by-outcome (made ws) t = refl
 

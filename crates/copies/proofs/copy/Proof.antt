@@ -7,12 +7,22 @@ use Rattle.model.specs.Bitmap.{from}
 use Rattle.model.specs.Column.{Row, Column, column, rowsOf}
 use Rattle.model.specs.Contract.{room}
 use Rattle.model.specs.Form.{Room, fitsIn, flat}
-use Rattle.column.specs.Put.{HasRoom}
+use Rattle.column.specs.Put.{RoomInˡ}
 use Rattle.column.proofs.AnswerLaws.{list-refused, list-made, has-room, same-fit, fitted-made, fitted-short}
 use Rattle.model.proofs.ColumnLaws.{length-rows}
 use borrow.Author.Needs.{needs}
 use Rattle.copies.proofs.copy.Statement.{statement}
 use Rattle.copies.proofs.copy.Tie as tie
+
+-- ---- places: the start; room found, from the rows written
+
+abbrev S : tie.After-has-room → tie.Start
+S h = h .before .before .before .before .before .before .before
+
+abbrev roomed : tie.After-write-rows → tie.Else1
+roomed w = w .before .before .before .before .before
+
+-- ---- the column, its rows, and the lengths of the output
 
 abbrev C : tie.Start → Column
 C s = let a = s .args in column (a .offsets .now) (from (a .rstart) (a .rows .now)) (a .values .now) (from (a .estart) (a .elements .now))
@@ -23,9 +33,6 @@ L s = let a = s .args in room (length (a .out-offsets .now)) (length (a .out-row
 abbrev W : tie.Start → List Row
 W s = rowsOf (C s)
 
-abbrev S : tie.After-has-room → tie.Start
-S h = h .before .before .before .before .before .before .before
-
 -- what the test of the room tells
 rows-are : (h : tie.After-has-room) → h .before .before .row-count .result ≡ length (W (S h))
 rows-are h = h .before .before .row-count .ensures ∙ sym (length-rows (C (S h)))
@@ -33,7 +40,7 @@ rows-are h = h .before .before .row-count .ensures ∙ sym (length-rows (C (S h)
 room-is : (h : tie.After-has-room) → h .has-room .result ≡ fitsIn (length (W (S h))) (length (flat (W (S h)))) (L (S h))
 room-is h = h .has-room .ensures ∙ same-fit (L (S h)) (rows-are h) (h .before .measure-rows .ensures .0)
 
-roomy : (e : tie.Else1) → let s = S (e .before) in HasRoom (length (W s)) (length (flat (W s))) (length (s .args .out-offsets .now)) (length (s .args .out-rows .now)) (length (s .args .out-values .now)) (length (s .args .out-elements .now))
+roomy : (e : tie.Else1) → let s = S (e .before) in RoomInˡ (length (W s)) (length (flat (W s))) (length (s .args .out-offsets .now)) (length (s .args .out-rows .now)) (length (s .args .out-values .now)) (length (s .args .out-elements .now))
 roomy e = has-room _ _ _ _ _ _ (sym (room-is (e .before)) ∙ not-false _ (e .if1 .left))
 
 row-count-requires : tie.Need-row-count-requires
@@ -57,26 +64,26 @@ write-rows-requires c κs =
 list-answer-requires : tie.Need-list-answer-requires
 list-answer-requires c κs =
     let w = c .before .before .before .before .before .before .before .before in
-    let e = c .before .before .before .before .before .before .before .before .before .before .before .before .before in
+    let e = roomed w in
     let r = roomy e in
     (omega (arith, r .rows, rows-are (e .before), w .write-rows .kept .1 .1 .1 .1 .1 .1 .1 .0), omega (arith, r .elements, e .before .before .measure-rows .ensures .0, w .write-rows .kept .1 .1 .1 .1 .1 .1 .1 .1 .1 .0))
 
 same-length : tie.Need-same-length
-same-length c = search needs
+same-length c = search
 
 same-length-2 : tie.Need-same-length-2
-same-length-2 c = search needs
+same-length-2 c = search
 
 same-length-3 : tie.Need-same-length-3
-same-length-3 c = search needs
+same-length-3 c = search
 
 same-length-4 : tie.Need-same-length-4
-same-length-4 c = search needs
+same-length-4 c = search
 
 returns-2 : tie.Need-returns-2
 returns-2 c =
     let w = c .before .before .before .before .before .before .before .before .before in
-    let e = c .before .before .before .before .before .before .before .before .before .before .before .before .before .before in
+    let e = roomed w in
     let h = e .before in
     let s = S h in
     list-made (W s) _ _ (fitted-made (W s) (L s) (sym (room-is h) ∙ not-false _ (e .if1 .left))) (rows-are h) (h .before .measure-rows .ensures .0) (w .write-rows .ensures) (c .list-answer .ensures)

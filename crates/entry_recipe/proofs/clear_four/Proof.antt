@@ -27,8 +27,30 @@ same-length-3 c = search needs
 same-length-4 : tie.Need-same-length-4
 same-length-4 c = search needs
 
+-- the places that are used below
+abbrev clear-u83-of-slice-known8 : tie.After-slice-known8 → tie.After-clear-u83
+clear-u83-of-slice-known8 p = p .before .before .before .before .before .before
+
+abbrev c-of-slice-known8 : tie.After-slice-known8 → tie.After-c
+c-of-slice-known8 p = p .before .before .before .before .before
+
+abbrev clear-u82-of-c : tie.After-c → tie.After-clear-u82
+clear-u82-of-c p = p .before .before .before .before .before
+
+abbrev clear-u82-of-slice-known8 : tie.After-slice-known8 → tie.After-clear-u82
+clear-u82-of-slice-known8 p = clear-u82-of-c (c-of-slice-known8 p)
+
+abbrev clear-u8-arg3-of-slice-known8 : tie.After-slice-known8 → tie.After-clear-u8-arg3
+clear-u8-arg3-of-slice-known8 p = p .before .before .before .before .before .before .before
+
+abbrev clear-u8-of-clear-u8-arg3 : tie.After-clear-u8-arg3 → tie.After-clear-u8
+clear-u8-of-clear-u8-arg3 p = p .before .before .before .before .before .before .before
+
+abbrev clear-u8-of-slice-known8 : tie.After-slice-known8 → tie.After-clear-u8
+clear-u8-of-slice-known8 p = clear-u8-of-clear-u8-arg3 (clear-u8-arg3-of-slice-known8 p)
+
 returns : tie.Need-returns
-returns c = (c .before .before .before .before .before .before .before .before .before .before .before .before .before .before .clear-u8 .ensures, (c .before .before .before .before .before .before .before .before .before .before .clear-u82 .ensures, (c .before .before .before .before .before .before .clear-u83 .ensures, c .before .before .clear-u84 .ensures)))
+returns c = (clear-u8-of-slice-known8 c .clear-u8 .ensures, (clear-u82-of-slice-known8 c .clear-u82 .ensures, (clear-u83-of-slice-known8 c .clear-u83 .ensures, c .before .before .clear-u84 .ensures)))
 
 pub clear-four-spec : {M : Type 1} → statement M
 clear-four-spec =

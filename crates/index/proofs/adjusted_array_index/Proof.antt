@@ -2,7 +2,6 @@ use mathlib.Core.Path.{_≡_, sym, _∙_}
 use mathlib.Core.Bool.{true}
 use mir.Syntax.{w32, w64}
 use mir.Val.{SFits, toZ, ofZ}
-use borrow.Author.Needs.{needs}
 use borrow.Author.Tests.{not-true, not-false}
 use Rattle.model.specs.Limits.{narrow}
 use Rattle.model.specs.Slice.{fits}
@@ -26,7 +25,7 @@ module _ (c : tie.Else1) where
   index-small = fits-signed _ index-fits
 
 fits-i32-requires : tie.Need-fits-i32-requires
-fits-i32-requires c κs = search needs
+fits-i32-requires c κs = search
 
 returns : tie.Need-returns
 returns c = answer-unfit _ _ (rw (read-index (c .before .before)) at (sym (c .before .fits-i32 .ensures) ∙ not-true _ (c .if1 .taken)))
@@ -35,7 +34,7 @@ cast-index-place : tie.Need-cast-index-place
 cast-index-place c = rw (read-index (c .before .before)) (index-small c)
 
 index-place-requires : tie.Need-index-place-requires
-index-place-requires c κs = search needs
+index-place-requires c κs = search
 
 returns-2 : tie.Need-returns-2
 returns-2 c =

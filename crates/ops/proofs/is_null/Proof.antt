@@ -1,31 +1,30 @@
 use Rattle.ops.specs.Ops.{opNull}
-use borrow.Author.Needs.{needs}
 use Rattle.ops.proofs.is_null.Statement.{statement}
 use Rattle.ops.proofs.is_null.Tie as tie
 
 enum-told : tie.Need-enum-told
-enum-told c = search needs
+enum-told c = search
 
 enum-told-2 : tie.Need-enum-told-2
-enum-told-2 c = search needs
+enum-told-2 c = search
 
 enum-told-3 : tie.Need-enum-told-3
-enum-told-3 c = search needs
+enum-told-3 c = search
 
 enum-told-4 : tie.Need-enum-told-4
-enum-told-4 c = search needs
+enum-told-4 c = search
 
 enum-told-5 : tie.Need-enum-told-5
-enum-told-5 c = search needs
+enum-told-5 c = search
 
 enum-told-6 : tie.Need-enum-told-6
-enum-told-6 c = search needs
+enum-told-6 c = search
 
 enum-told-7 : tie.Need-enum-told-7
-enum-told-7 c = search needs
+enum-told-7 c = search
 
 enum-told-8 : tie.Need-enum-told-8
-enum-told-8 c = search needs
+enum-told-8 c = search
 
 returns : tie.Need-returns
 unfolding opNull

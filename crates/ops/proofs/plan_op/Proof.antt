@@ -6,7 +6,7 @@ use mir.Facts.{toZ-pos}
 use Rattle.model.specs.Column.{count}
 use Rattle.model.specs.Limits.{narrow}
 use Rattle.model.specs.Slice.{slicePlan}
-use Rattle.index.specs.Plan.{planOf, strideOf}
+use Rattle.index.specs.Plan.{planOf, strideIn}
 use Rattle.index.proofs.SignedLaws.{read-back}
 use Rattle.ops.specs.Ops.{planOp}
 use borrow.Author.Needs.{needs}
@@ -14,7 +14,7 @@ use Rattle.ops.proofs.plan_op.Statement.{statement}
 use Rattle.ops.proofs.plan_op.Tie as tie
 
 -- what the index crate promises of the numbers passed
-ens : (c : tie.After-compute-slice-plan) → let a = c .before .args in c .compute-slice-plan .result ≡ planOf (slicePlan narrow (a .len) (a .from) (a .to) (strideOf (a .stride)))
+ens : (c : tie.After-compute-slice-plan) → let a = c .before .args in c .compute-slice-plan .result ≡ planOf (slicePlan narrow (a .len) (a .from) (a .to) (strideIn (a .stride)))
 unfolding count
 ens c =
     let s = c .before in
@@ -24,16 +24,16 @@ cast-compute-slice-plan : tie.Need-cast-compute-slice-plan
 cast-compute-slice-plan c = search needs
 
 compute-slice-plan-requires : tie.Need-compute-slice-plan-requires
-compute-slice-plan-requires c κs = search needs
+compute-slice-plan-requires c κs = search
 
 enum-told : tie.Need-enum-told
-enum-told c = search needs
+enum-told c = search
 
 enum-known-plan : tie.Need-enum-known-plan
-enum-known-plan c = search needs
+enum-known-plan c = search
 
 enum-known-plan-2 : tie.Need-enum-known-plan-2
-enum-known-plan-2 c = search needs
+enum-known-plan-2 c = search
 
 returns : tie.Need-returns
 unfolding planOp

@@ -4,24 +4,23 @@ use Prim.Native.Nat.{ℕ}
 use mathlib.Core.Path.{ap}
 use Rattle.column.proofs.OffsetLaws.{back64}
 use Rattle.ops.specs.Ops.{removeOp}
-use borrow.Author.Needs.{needs}
 use Rattle.ops.proofs.remove_op.Statement.{statement}
 use Rattle.ops.proofs.remove_op.Tie as tie
 
 enum-told : tie.Need-enum-told
-enum-told c = search needs
+enum-told c = search
 
 enum-known-element : tie.Need-enum-known-element
-enum-known-element c = search needs
+enum-known-element c = search
 
 enum-told-2 : tie.Need-enum-told-2
-enum-told-2 c = search needs
+enum-told-2 c = search
 
 enum-known-limit : tie.Need-enum-known-limit
-enum-known-limit c = search needs
+enum-known-limit c = search
 
 limit-of-requires : tie.Need-limit-of-requires
-limit-of-requires c κs = search needs
+limit-of-requires c κs = search
 
 returns : tie.Need-returns
 unfolding removeOp

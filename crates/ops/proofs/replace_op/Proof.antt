@@ -3,18 +3,17 @@ use Prim.Native.Nat.{ℕ}
 use mathlib.Core.Path.{ap}
 use Rattle.column.proofs.OffsetLaws.{back64}
 use Rattle.ops.specs.Ops.{replaceOp}
-use borrow.Author.Needs.{needs}
 use Rattle.ops.proofs.replace_op.Statement.{statement}
 use Rattle.ops.proofs.replace_op.Tie as tie
 
 enum-told : tie.Need-enum-told
-enum-told c = search needs
+enum-told c = search
 
 enum-known-limit : tie.Need-enum-known-limit
-enum-known-limit c = search needs
+enum-known-limit c = search
 
 limit-of-requires : tie.Need-limit-of-requires
-limit-of-requires c κs = search needs
+limit-of-requires c κs = search
 
 returns : tie.Need-returns
 unfolding replaceOp

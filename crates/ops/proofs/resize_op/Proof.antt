@@ -3,18 +3,17 @@ use Prim.Native.Nat.{ℕ}
 use mathlib.Core.Path.{ap}
 use Rattle.column.proofs.OffsetLaws.{back64}
 use Rattle.ops.specs.Ops.{resizeOp}
-use borrow.Author.Needs.{needs}
 use Rattle.ops.proofs.resize_op.Statement.{statement}
 use Rattle.ops.proofs.resize_op.Tie as tie
 
 enum-told : tie.Need-enum-told
-enum-told c = search needs
+enum-told c = search
 
 enum-known-count : tie.Need-enum-known-count
-enum-known-count c = search needs
+enum-known-count c = search
 
 limit-of-requires : tie.Need-limit-of-requires
-limit-of-requires c κs = search needs
+limit-of-requires c κs = search
 
 returns : tie.Need-returns
 unfolding resizeOp

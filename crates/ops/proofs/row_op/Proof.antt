@@ -1,6 +1,5 @@
 use Rattle.ops.specs.Ops.{rowOpOf, validOp}
 use borrow.Author.Tests.{not-true, not-false}
-use borrow.Author.Needs.{needs}
 use Rattle.ops.proofs.row_op.Statement.{statement}
 use Rattle.ops.proofs.row_op.Tie as tie
 
@@ -9,43 +8,43 @@ unfolding rowOpOf
 returns c = rw (not-true (c .before .args .valid) (c .if1 .taken))
 
 enum-known-op : tie.Need-enum-known-op
-enum-known-op c = search needs
+enum-known-op c = search
 
 enum-told : tie.Need-enum-told
-enum-told c = search needs
+enum-told c = search
 
 slice-op-requires : tie.Need-slice-op-requires
-slice-op-requires c κs = search needs
+slice-op-requires c κs = search
 
 enum-told-2 : tie.Need-enum-told-2
-enum-told-2 c = search needs
+enum-told-2 c = search
 
 stride-op-requires : tie.Need-stride-op-requires
-stride-op-requires c κs = search needs
+stride-op-requires c κs = search
 
 enum-told-3 : tie.Need-enum-told-3
-enum-told-3 c = search needs
+enum-told-3 c = search
 
 resize-op-requires : tie.Need-resize-op-requires
-resize-op-requires c κs = search needs
+resize-op-requires c κs = search
 
 enum-told-4 : tie.Need-enum-told-4
-enum-told-4 c = search needs
+enum-told-4 c = search
 
 resize-op-requires-2 : tie.Need-resize-op-requires-2
-resize-op-requires-2 c κs = search needs
+resize-op-requires-2 c κs = search
 
 enum-told-5 : tie.Need-enum-told-5
-enum-told-5 c = search needs
+enum-told-5 c = search
 
 replace-op-requires : tie.Need-replace-op-requires
-replace-op-requires c κs = search needs
+replace-op-requires c κs = search
 
 enum-told-6 : tie.Need-enum-told-6
-enum-told-6 c = search needs
+enum-told-6 c = search
 
 remove-op-requires : tie.Need-remove-op-requires
-remove-op-requires c κs = search needs
+remove-op-requires c κs = search
 
 returns-2 : tie.Need-returns-2
 unfolding rowOpOf validOp

@@ -1,23 +1,22 @@
 use Rattle.column.proofs.OffsetLaws.{back64}
 use Rattle.ops.specs.Ops.{sliceOp}
-use borrow.Author.Needs.{needs}
 use Rattle.ops.proofs.slice_op.Statement.{statement}
 use Rattle.ops.proofs.slice_op.Tie as tie
 
 enum-told : tie.Need-enum-told
-enum-told c = search needs
+enum-told c = search
 
 enum-known-from : tie.Need-enum-known-from
-enum-known-from c = search needs
+enum-known-from c = search
 
 enum-told-2 : tie.Need-enum-told-2
-enum-told-2 c = search needs
+enum-told-2 c = search
 
 enum-known-to : tie.Need-enum-known-to
-enum-known-to c = search needs
+enum-known-to c = search
 
 plan-op-requires : tie.Need-plan-op-requires
-plan-op-requires c κs = search needs
+plan-op-requires c κs = search
 
 returns : tie.Need-returns
 unfolding sliceOp

@@ -1,17 +1,16 @@
 use Rattle.column.proofs.OffsetLaws.{back64}
 use Rattle.ops.specs.Ops.{strideOp}
-use borrow.Author.Needs.{needs}
 use Rattle.ops.proofs.stride_op.Statement.{statement}
 use Rattle.ops.proofs.stride_op.Tie as tie
 
 enum-told : tie.Need-enum-told
-enum-told c = search needs
+enum-told c = search
 
 enum-known-stride : tie.Need-enum-known-stride
-enum-known-stride c = search needs
+enum-known-stride c = search
 
 slice-op-requires : tie.Need-slice-op-requires
-slice-op-requires c κs = search needs
+slice-op-requires c κs = search
 
 returns : tie.Need-returns
 unfolding strideOp

@@ -1,62 +1,98 @@
-use mathlib.Core.Path.{_≡_, ap, _∙_}
+use mathlib.Core.Path.{ap, _∙_}
 use lib.IntN.{pos}
 use lib.ListN.{replicate}
-use Prim.Native.Nat.{ℕ}
+use Prim.Native.Nat.{ℕ, _<_}
+use native.Mathlib.Omega.{arith}
 use Rattle.tally.proofs.TallyLaws.{tallied-is}
-use borrow.Author.Needs.{needs}
 use Rattle.recipes.proofs.run_recipe.Statement.{statement}
 use Rattle.recipes.proofs.run_recipe.Tie as tie
 
+-- ---- places: tray two cleared, tray one cleared, the steps tried
+
+abbrev two : tie.After-settle → tie.After-clear2
+two c = c .before .before .before .before .before .before .before
+
+abbrev one : tie.After-settle → tie.After-clear
+one c = let p = two c .before .before .before .before .before in p .before .before .before .before .before .before
+
+abbrev tried : tie.After-settle → tie.After-attempt
+tried c = let p = one c .before .before .before .before .before .before .before .before in let q = p .before .before .before .before .before .before .before .before in q .before .before .before .before .before .before .before
+
+-- ---- needs
+
+-- each bitmap begins at bit 0
+small : 0 < 8
+small = omega arith
+
 attempt-requires : tie.Need-attempt-requires
-attempt-requires c κs = search needs
+attempt-requires c κs = (small, (small, (small, (small, small))))
 
 clear-requires : tie.Need-clear-requires
-clear-requires c κs = search needs
+clear-requires c κs = tt
 
 clear-requires-2 : tie.Need-clear-requires-2
-clear-requires-2 c κs = search needs
+clear-requires-2 c κs = tt
 
 settle-requires : tie.Need-settle-requires
-settle-requires c κs = search needs
+settle-requires c κs = tt
 
 same-length : tie.Need-same-length
-same-length c = c .before .before .before .before .before .before .before .before .before .before .before .before .before .before .before .before .before .before .clear .kept .0 ∙ c .before .before .before .before .before .before .before .before .before .before .before .before .before .before .before .before .before .before .before .before .before .before .before .before .before .before .before .before .before .before .before .before .before .before .before .before .before .before .before .before .before .attempt .kept .1 .1 .1 .1 .1 .1 .1 .1 .1 .1 .1 .1 .1 .1 .1 .1 .1 .0
+same-length c = one c .clear .kept .0 ∙ tried c .attempt .kept .1 .1 .1 .1 .1 .1 .1 .1 .1 .1 .1 .1 .1 .1 .1 .1 .1 .0
 
 same-length-2 : tie.Need-same-length-2
-same-length-2 c = c .before .before .before .before .before .before .before .before .before .before .before .before .before .before .before .before .before .before .clear .kept .1 .0 ∙ c .before .before .before .before .before .before .before .before .before .before .before .before .before .before .before .before .before .before .before .before .before .before .before .before .before .before .before .before .before .before .before .before .before .before .before .before .before .before .before .before .before .attempt .kept .1 .1 .1 .1 .1 .1 .1 .1 .1 .1 .1 .1 .1 .1 .1 .1 .1 .1 .0
+same-length-2 c = one c .clear .kept .1 .0 ∙ tried c .attempt .kept .1 .1 .1 .1 .1 .1 .1 .1 .1 .1 .1 .1 .1 .1 .1 .1 .1 .1 .0
 
 same-length-3 : tie.Need-same-length-3
-same-length-3 c = c .before .before .before .before .before .before .before .before .before .before .before .before .before .before .before .before .before .before .clear .kept .1 .1 .0 ∙ c .before .before .before .before .before .before .before .before .before .before .before .before .before .before .before .before .before .before .before .before .before .before .before .before .before .before .before .before .before .before .before .before .before .before .before .before .before .before .before .before .before .attempt .kept .1 .1 .1 .1 .1 .1 .1 .1 .1 .1 .1 .1 .1 .1 .1 .1 .1 .1 .1 .0
+same-length-3 c = one c .clear .kept .1 .1 .0 ∙ tried c .attempt .kept .1 .1 .1 .1 .1 .1 .1 .1 .1 .1 .1 .1 .1 .1 .1 .1 .1 .1 .1 .0
 
 same-length-4 : tie.Need-same-length-4
-same-length-4 c = c .before .before .before .before .before .before .before .before .before .before .before .before .before .before .before .before .before .before .clear .kept .1 .1 .1 .0 ∙ c .before .before .before .before .before .before .before .before .before .before .before .before .before .before .before .before .before .before .before .before .before .before .before .before .before .before .before .before .before .before .before .before .before .before .before .before .before .before .before .before .before .attempt .kept .1 .1 .1 .1 .1 .1 .1 .1 .1 .1 .1 .1 .1 .1 .1 .1 .1 .1 .1 .1 .0
+same-length-4 c = one c .clear .kept .1 .1 .1 .0 ∙ tried c .attempt .kept .1 .1 .1 .1 .1 .1 .1 .1 .1 .1 .1 .1 .1 .1 .1 .1 .1 .1 .1 .1 .0
 
 same-length-5 : tie.Need-same-length-5
-same-length-5 c = c .before .before .before .before .before .before .before .clear2 .kept .0 ∙ c .before .before .before .before .before .before .before .before .before .before .before .before .before .before .before .before .before .before .before .before .before .before .before .before .before .before .before .before .before .before .before .before .before .before .before .before .before .before .before .before .before .attempt .kept .1 .1 .1 .1 .1 .1 .1 .1 .1 .1 .1 .1 .1 .1 .1 .1 .1 .1 .1 .1 .1 .0
+same-length-5 c = two c .clear2 .kept .0 ∙ tried c .attempt .kept .1 .1 .1 .1 .1 .1 .1 .1 .1 .1 .1 .1 .1 .1 .1 .1 .1 .1 .1 .1 .1 .0
 
 same-length-6 : tie.Need-same-length-6
-same-length-6 c = c .before .before .before .before .before .before .before .clear2 .kept .1 .0 ∙ c .before .before .before .before .before .before .before .before .before .before .before .before .before .before .before .before .before .before .before .before .before .before .before .before .before .before .before .before .before .before .before .before .before .before .before .before .before .before .before .before .before .attempt .kept .1 .1 .1 .1 .1 .1 .1 .1 .1 .1 .1 .1 .1 .1 .1 .1 .1 .1 .1 .1 .1 .1 .0
+same-length-6 c = two c .clear2 .kept .1 .0 ∙ tried c .attempt .kept .1 .1 .1 .1 .1 .1 .1 .1 .1 .1 .1 .1 .1 .1 .1 .1 .1 .1 .1 .1 .1 .1 .0
 
 same-length-7 : tie.Need-same-length-7
-same-length-7 c = c .before .before .before .before .before .before .before .clear2 .kept .1 .1 .0 ∙ c .before .before .before .before .before .before .before .before .before .before .before .before .before .before .before .before .before .before .before .before .before .before .before .before .before .before .before .before .before .before .before .before .before .before .before .before .before .before .before .before .before .attempt .kept .1 .1 .1 .1 .1 .1 .1 .1 .1 .1 .1 .1 .1 .1 .1 .1 .1 .1 .1 .1 .1 .1 .1 .0
+same-length-7 c = two c .clear2 .kept .1 .1 .0 ∙ tried c .attempt .kept .1 .1 .1 .1 .1 .1 .1 .1 .1 .1 .1 .1 .1 .1 .1 .1 .1 .1 .1 .1 .1 .1 .1 .0
 
 same-length-8 : tie.Need-same-length-8
-same-length-8 c = c .before .before .before .before .before .before .before .clear2 .kept .1 .1 .1 .0 ∙ c .before .before .before .before .before .before .before .before .before .before .before .before .before .before .before .before .before .before .before .before .before .before .before .before .before .before .before .before .before .before .before .before .before .before .before .before .before .before .before .before .before .attempt .kept .1 .1 .1 .1 .1 .1 .1 .1 .1 .1 .1 .1 .1 .1 .1 .1 .1 .1 .1 .1 .1 .1 .1 .1 .0
+same-length-8 c = two c .clear2 .kept .1 .1 .1 .0 ∙ tried c .attempt .kept .1 .1 .1 .1 .1 .1 .1 .1 .1 .1 .1 .1 .1 .1 .1 .1 .1 .1 .1 .1 .1 .1 .1 .1 .0
 
 same-length-9 : tie.Need-same-length-9
-same-length-9 c = search needs
+same-length-9 c = tried c .attempt .kept .1 .1 .1 .1 .1 .1 .1 .1 .1 .1 .1 .1 .1 .1 .1 .1 .1 .1 .1 .1 .1 .1 .1 .1 .1 .0
 
 same-length-10 : tie.Need-same-length-10
-same-length-10 c = search needs
+same-length-10 c = tried c .attempt .kept .1 .1 .1 .1 .1 .1 .1 .1 .1 .1 .1 .1 .1 .1 .1 .1 .1 .1 .1 .1 .1 .1 .1 .1 .1 .1 .0
 
 same-length-11 : tie.Need-same-length-11
-same-length-11 c = search needs
+same-length-11 c = tried c .attempt .kept .1 .1 .1 .1 .1 .1 .1 .1 .1 .1 .1 .1 .1 .1 .1 .1 .1 .1 .1 .1 .1 .1 .1 .1 .1 .1 .1 .0
 
 same-length-12 : tie.Need-same-length-12
-same-length-12 c = search needs
+same-length-12 c = tried c .attempt .kept .1 .1 .1 .1 .1 .1 .1 .1 .1 .1 .1 .1 .1 .1 .1 .1 .1 .1 .1 .1 .1 .1 .1 .1 .1 .1 .1 .1 .0
 
 returns : tie.Need-returns
-returns c = (rw (c .settle .ensures .0) (c .before .before .before .before .before .before .before .before .before .before .before .before .before .before .before .before .before .before .before .before .before .before .before .before .before .before .before .before .before .before .before .before .before .before .before .before .before .before .before .before .before .attempt .ensures), (record { offsets = c .before .before .before .before .before .before .before .before .before .before .before .before .before .before .before .before .before .before .clear .ensures .0 ∙ ap (λ (n : ℕ). replicate n (pos 0)) (c .before .before .before .before .before .before .before .before .before .before .before .before .before .before .before .before .before .before .before .before .before .before .before .before .before .before .before .before .before .before .before .before .before .before .before .before .before .before .before .before .before .attempt .kept .1 .1 .1 .1 .1 .1 .1 .1 .1 .1 .1 .1 .1 .1 .1 .1 .1 .0); rows = c .before .before .before .before .before .before .before .before .before .before .before .before .before .before .before .before .before .before .clear .ensures .1 .0 ∙ ap (λ (n : ℕ). replicate n 0) (c .before .before .before .before .before .before .before .before .before .before .before .before .before .before .before .before .before .before .before .before .before .before .before .before .before .before .before .before .before .before .before .before .before .before .before .before .before .before .before .before .before .attempt .kept .1 .1 .1 .1 .1 .1 .1 .1 .1 .1 .1 .1 .1 .1 .1 .1 .1 .1 .0); values = c .before .before .before .before .before .before .before .before .before .before .before .before .before .before .before .before .before .before .clear .ensures .1 .1 .0 ∙ ap (λ (n : ℕ). replicate n (pos 0)) (c .before .before .before .before .before .before .before .before .before .before .before .before .before .before .before .before .before .before .before .before .before .before .before .before .before .before .before .before .before .before .before .before .before .before .before .before .before .before .before .before .before .attempt .kept .1 .1 .1 .1 .1 .1 .1 .1 .1 .1 .1 .1 .1 .1 .1 .1 .1 .1 .1 .0); elements = c .before .before .before .before .before .before .before .before .before .before .before .before .before .before .before .before .before .before .clear .ensures .1 .1 .1 ∙ ap (λ (n : ℕ). replicate n 0) (c .before .before .before .before .before .before .before .before .before .before .before .before .before .before .before .before .before .before .before .before .before .before .before .before .before .before .before .before .before .before .before .before .before .before .before .before .before .before .before .before .before .attempt .kept .1 .1 .1 .1 .1 .1 .1 .1 .1 .1 .1 .1 .1 .1 .1 .1 .1 .1 .1 .1 .0) }, (record { offsets = c .before .before .before .before .before .before .before .clear2 .ensures .0 ∙ ap (λ (n : ℕ). replicate n (pos 0)) (c .before .before .before .before .before .before .before .before .before .before .before .before .before .before .before .before .before .before .before .before .before .before .before .before .before .before .before .before .before .before .before .before .before .before .before .before .before .before .before .before .before .attempt .kept .1 .1 .1 .1 .1 .1 .1 .1 .1 .1 .1 .1 .1 .1 .1 .1 .1 .1 .1 .1 .1 .0); rows = c .before .before .before .before .before .before .before .clear2 .ensures .1 .0 ∙ ap (λ (n : ℕ). replicate n 0) (c .before .before .before .before .before .before .before .before .before .before .before .before .before .before .before .before .before .before .before .before .before .before .before .before .before .before .before .before .before .before .before .before .before .before .before .before .before .before .before .before .before .attempt .kept .1 .1 .1 .1 .1 .1 .1 .1 .1 .1 .1 .1 .1 .1 .1 .1 .1 .1 .1 .1 .1 .1 .0); values = c .before .before .before .before .before .before .before .clear2 .ensures .1 .1 .0 ∙ ap (λ (n : ℕ). replicate n (pos 0)) (c .before .before .before .before .before .before .before .before .before .before .before .before .before .before .before .before .before .before .before .before .before .before .before .before .before .before .before .before .before .before .before .before .before .before .before .before .before .before .before .before .before .attempt .kept .1 .1 .1 .1 .1 .1 .1 .1 .1 .1 .1 .1 .1 .1 .1 .1 .1 .1 .1 .1 .1 .1 .1 .0); elements = c .before .before .before .before .before .before .before .clear2 .ensures .1 .1 .1 ∙ ap (λ (n : ℕ). replicate n 0) (c .before .before .before .before .before .before .before .before .before .before .before .before .before .before .before .before .before .before .before .before .before .before .before .before .before .before .before .before .before .before .before .before .before .before .before .before .before .before .before .before .before .attempt .kept .1 .1 .1 .1 .1 .1 .1 .1 .1 .1 .1 .1 .1 .1 .1 .1 .1 .1 .1 .1 .1 .1 .1 .1 .0) }, c .settle .ensures .1 ∙ tallied-is _ _ _ (c .before .before .before .before .before .before .before .before .before .before .before .before .before .before .before .before .before .before .before .before .before .before .before .before .before .before .before .before .before .before .before .before .before .before .before .before .before .before .before .before .before .attempt .ensures .answer))))
+returns c = (
+  rw (c .settle .ensures .0) (tried c .attempt .ensures),
+  (
+    record {
+      offsets = one c .clear .ensures .0 ∙ ap (λ (n : ℕ). replicate n (pos 0)) (tried c .attempt .kept .1 .1 .1 .1 .1 .1 .1 .1 .1 .1 .1 .1 .1 .1 .1 .1 .1 .0);
+      rows = one c .clear .ensures .1 .0 ∙ ap (λ (n : ℕ). replicate n 0) (tried c .attempt .kept .1 .1 .1 .1 .1 .1 .1 .1 .1 .1 .1 .1 .1 .1 .1 .1 .1 .1 .0);
+      values = one c .clear .ensures .1 .1 .0 ∙ ap (λ (n : ℕ). replicate n (pos 0)) (tried c .attempt .kept .1 .1 .1 .1 .1 .1 .1 .1 .1 .1 .1 .1 .1 .1 .1 .1 .1 .1 .1 .0);
+      elements = one c .clear .ensures .1 .1 .1 ∙ ap (λ (n : ℕ). replicate n 0) (tried c .attempt .kept .1 .1 .1 .1 .1 .1 .1 .1 .1 .1 .1 .1 .1 .1 .1 .1 .1 .1 .1 .1 .0);
+    },
+    (
+      record {
+        offsets = two c .clear2 .ensures .0 ∙ ap (λ (n : ℕ). replicate n (pos 0)) (tried c .attempt .kept .1 .1 .1 .1 .1 .1 .1 .1 .1 .1 .1 .1 .1 .1 .1 .1 .1 .1 .1 .1 .1 .0);
+        rows = two c .clear2 .ensures .1 .0 ∙ ap (λ (n : ℕ). replicate n 0) (tried c .attempt .kept .1 .1 .1 .1 .1 .1 .1 .1 .1 .1 .1 .1 .1 .1 .1 .1 .1 .1 .1 .1 .1 .1 .0);
+        values = two c .clear2 .ensures .1 .1 .0 ∙ ap (λ (n : ℕ). replicate n (pos 0)) (tried c .attempt .kept .1 .1 .1 .1 .1 .1 .1 .1 .1 .1 .1 .1 .1 .1 .1 .1 .1 .1 .1 .1 .1 .1 .1 .0);
+        elements = two c .clear2 .ensures .1 .1 .1 ∙ ap (λ (n : ℕ). replicate n 0) (tried c .attempt .kept .1 .1 .1 .1 .1 .1 .1 .1 .1 .1 .1 .1 .1 .1 .1 .1 .1 .1 .1 .1 .1 .1 .1 .1 .0);
+      },
+      c .settle .ensures .1 ∙ tallied-is _ _ _ (tried c .attempt .ensures .answer),
+    ),
+  ),
+)
 
 pub run-recipe-spec : {M : Type 1} → statement M
 run-recipe-spec =

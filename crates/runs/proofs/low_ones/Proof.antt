@@ -14,7 +14,7 @@ cast-result : tie.Need-cast-result
 cast-result c = search needs
 
 shl-result : tie.Need-shl-result
-shl-result c = search needs
+shl-result c = search
 
 sub-result : tie.Need-sub-result
 sub-result c = rw (shifted c) (pow-pos (c .args .m))

@@ -5,13 +5,13 @@ use Rattle.runs.proofs.push_bytes.Statement.{statement}
 use Rattle.runs.proofs.push_bytes.Tie as tie
 
 byte-of-requires : tie.Need-byte-of-requires
-byte-of-requires c κs = search needs
+byte-of-requires c κs = search
 
 put-bytes-requires : tie.Need-put-bytes-requires
 put-bytes-requires c κs = search needs
 
 same-length : tie.Need-same-length
-same-length c = search needs
+same-length c = search
 
 returns : tie.Need-returns
 returns c =

@@ -12,7 +12,7 @@ push-bytes-requires : tie.Need-push-bytes-requires
 push-bytes-requires c κs = search needs
 
 same-length : tie.Need-same-length
-same-length c = search needs
+same-length c = search
 
 returns : tie.Need-returns
 returns c =
@@ -27,10 +27,10 @@ push-within-requires : tie.Need-push-within-requires
 push-within-requires c κs = search needs
 
 same-length-2 : tie.Need-same-length-2
-same-length-2 c = search needs
+same-length-2 c = search
 
 returns-2 : tie.Need-returns-2
-returns-2 c = search needs
+returns-2 c = search
 
 push-within-requires-2 : tie.Need-push-within-requires-2
 push-within-requires-2 c κs = search needs
@@ -45,7 +45,7 @@ push-bytes-requires-2 : tie.Need-push-bytes-requires-2
 push-bytes-requires-2 c κs = search needs
 
 same-length-3 : tie.Need-same-length-3
-same-length-3 c = search needs
+same-length-3 c = search
 
 returns-3 : tie.Need-returns-3
 returns-3 c =

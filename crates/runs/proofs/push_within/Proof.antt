@@ -15,7 +15,7 @@ low-ones-requires : tie.Need-low-ones-requires
 low-ones-requires c κs = search needs
 
 slice-read-byte : tie.Need-slice-read-byte
-slice-read-byte c = search needs
+slice-read-byte c = search
 
 cast-bitmap : tie.Need-cast-bitmap
 cast-bitmap c = search needs
@@ -24,7 +24,7 @@ shl-bitmap : tie.Need-shl-bitmap
 shl-bitmap c = search needs
 
 slice-write-bitmap : tie.Need-slice-write-bitmap
-slice-write-bitmap c = search needs
+slice-write-bitmap c = search
 
 same-length : tie.Need-same-length
 same-length c = search needs

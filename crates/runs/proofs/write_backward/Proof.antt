@@ -3,8 +3,8 @@ use native.Mathlib.Omega.{arith}
 use lib.ListN.{length}
 use Rattle.model.specs.Bitmap.{from, bytesFor}
 use Rattle.model.specs.Column.{elemAt}
-use Rattle.runs.proofs.PlainLaws.{backward-written, length-back}
-use borrow.Author.Needs.{needs}
+use Rattle.stores.proofs.StoreLaws.{length-back}
+use Rattle.runs.proofs.PlainLaws.{backward-written}
 use Rattle.runs.proofs.write_backward.Statement.{statement}
 use Rattle.runs.proofs.write_backward.Tie as tie
 
@@ -24,10 +24,10 @@ add-result : tie.Need-add-result
 add-result c = let m = many (c .before .before .before .before .before .before .before .before .before) in omega (arith, c .before .before .before .before .before .before .before .before .before)
 
 same-length : tie.Need-same-length
-same-length c = search needs
+same-length c = search
 
 same-length-2 : tie.Need-same-length-2
-same-length-2 c = search needs
+same-length-2 c = search
 
 returns : tie.Need-returns
 returns c = let s = c .before .before .before .before .before .before .before .before .before in backward-written (s .args .values .now) (from (s .args .estart) (s .args .elements .now)) (s .pre .1 .1) (s .args .a) (s .args .n) (s .args .at) (c .before .before .before .before .before .copy-backward .ensures) (c .before .before .push-same .ensures)

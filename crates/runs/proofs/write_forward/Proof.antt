@@ -5,7 +5,6 @@ use Rattle.model.specs.Bitmap.{from, bytesFor}
 use Rattle.model.specs.Column.{elemAt}
 use Rattle.model.proofs.TabLaws.{length-tab}
 use Rattle.runs.proofs.PlainLaws.{forward-written}
-use borrow.Author.Needs.{needs}
 use Rattle.runs.proofs.write_forward.Statement.{statement}
 use Rattle.runs.proofs.write_forward.Tie as tie
 
@@ -25,10 +24,10 @@ add-result : tie.Need-add-result
 add-result c = let m = many (c .before .before .before .before .before .before .before .before .before) in omega (arith, c .before .before .before .before .before .before .before .before .before)
 
 same-length : tie.Need-same-length
-same-length c = search needs
+same-length c = search
 
 same-length-2 : tie.Need-same-length-2
-same-length-2 c = search needs
+same-length-2 c = search
 
 returns : tie.Need-returns
 returns c = let s = c .before .before .before .before .before .before .before .before .before in forward-written (s .args .values .now) (from (s .args .estart) (s .args .elements .now)) (s .pre .1 .1) (s .args .a) (s .args .n) (s .args .at) (c .before .before .before .before .before .copy-values .ensures) (c .before .before .push-same .ensures)

@@ -6,7 +6,6 @@ use Rattle.model.specs.Column.{val}
 use Rattle.model.specs.Form.{isVal, valueOf}
 use Rattle.runs.proofs.PlainLaws.{same-written}
 use Rattle.column.proofs.OffsetLaws.{back64}
-use borrow.Author.Needs.{needs}
 use Rattle.runs.proofs.write_value.Statement.{statement}
 use Rattle.runs.proofs.write_value.Tie as tie
 
@@ -26,10 +25,10 @@ add-result : tie.Need-add-result
 add-result c = let m = many (c .before .before .before .before .before .before .before .before) in omega (arith, c .before .before .before .before .before .before .before .before)
 
 same-length : tie.Need-same-length
-same-length c = search needs
+same-length c = search
 
 same-length-2 : tie.Need-same-length-2
-same-length-2 c = search needs
+same-length-2 c = search
 
 returns : tie.Need-returns
 unfolding isVal valueOf

@@ -1,494 +1,236 @@
-use borrow.Author.Needs.{needs}
-use mathlib.Core.Path.{_≡_, sym, _∙_}
+use mathlib.Core.Path.{_≡_, _∙_}
 use mathlib.Core.List.{List}
-use Prim.Native.Nat.{_+_, _-_}
+use Prim.Native.Nat.{ℕ, _<_, _+_, _-_}
 use native.Mathlib.Omega.{arith}
 use lib.ListN.{length}
 use Rattle.model.specs.Basics.{tab}
 use Rattle.model.specs.Bitmap.{from}
-use Rattle.model.specs.Column.{Column, column, Arguments, arguments, rowsOf, shownBy}
+use Rattle.model.specs.Column.{Elem, Row, Column, column, arguments, rowsOf, shownBy}
 use Rattle.model.specs.Contract.{room}
-use Rattle.model.specs.Recipe.{stepAt}
+use Rattle.model.specs.Form.{Room}
+use Rattle.model.specs.Recipe.{Step, stepAt}
 use Rattle.column.proofs.AnswerLaws.{list-refused}
-use Rattle.steps.specs.Steps.{front}
-use Rattle.steps.proofs.ChainLaws.{answer-refused, rows-kept, chain-last, chain-refused, chain-on, carries, front-rows, same-room, step-fits, none-left, more-left, next-steps}
-use Prim.Native.Nat.{ℕ, _<_}
+use Rattle.step.specs.Step.{front, rowsTaken}
+use Rattle.steps.proofs.ChainLaws.{answer-refused, rows-kept, chain-last, chain-refused, chain-on, Carried, carries, taken-rows, taken-next, next-rows, same-room, step-fits, step-there, none-left, more-left, next-steps}
 use borrow.Fn.Kinds.{In}
 use borrow.Fn.PlainCycle.{Measures, is, falls, and}
 use Rattle.steps.proofs.steps.Reads as steps
 use Rattle.steps.proofs.steps.Kinds as steps-kinds
 use Rattle.steps.proofs.+steps.Lts-steps as steps-lts
-use Rattle.steps.proofs.step_from.Reads as step-from-reads
+use Rattle.step.proofs.step_at.Reads as step-at-reads
 use Rattle.steps.proofs.+steps.{statement}
 use Rattle.steps.proofs.+steps.Tie.{close}
 
-abbrev μ-steps : Measures 19 steps-kinds.ps ℕ
+abbrev μ-steps : Measures 22 steps-kinds.ps ℕ
 μ-steps κs a = a .1 .1 .0
 
-abbrev steps-at : ℕ → In 19 steps-kinds.ps
-steps-at t = and 19 steps-kinds.ps (is 19 steps-kinds.ps μ-steps t) steps.Pre
+abbrev steps-at : ℕ → In 22 steps-kinds.ps
+steps-at t = and 22 steps-kinds.ps (is 22 steps-kinds.ps μ-steps t) steps.Pre
 
-abbrev steps-below : ℕ → In 19 steps-kinds.ps
-steps-below t = and 19 steps-kinds.ps (falls 19 steps-kinds.ps _<_ μ-steps t) steps.Pre
+abbrev steps-below : ℕ → In 22 steps-kinds.ps
+steps-below t = and 22 steps-kinds.ps (falls 22 steps-kinds.ps _<_ μ-steps t) steps.Pre
 
-steps-mul-i : (t : ℕ) → steps-lts.Need-mul-i (
-  step-from-reads.Asked,
-  step-from-reads.Learnt,
-  steps-below t,
-  steps.Post,
-) (steps-at t) steps.Post
-steps-mul-i t c = let s = c .before .before .before .before .before .before .before .before .before .before in let st = s .pre .1 .0 in omega (arith, st .there, st .some, s .good .0)
+abbrev Cs : ℕ → steps-lts.Claims
+Cs t = (step-at-reads.Asked, step-at-reads.Learnt, steps-below t, steps.Post)
 
-steps-mul-code : (t : ℕ) → steps-lts.Need-mul-code (
-  step-from-reads.Asked,
-  step-from-reads.Learnt,
-  steps-below t,
-  steps.Post,
-) (steps-at t) steps.Post
-steps-mul-code t c = let s = c .before .before .before .before .before .before .before .before .before .before in let st = s .pre .1 .0 in omega (arith, st .there, st .some, s .good .0)
+module _ (t : ℕ) where
+  -- ---- places: the slices known, the start
 
-steps-shared-slice-read-code : (t : ℕ) → steps-lts.Need-shared-slice-read-code (
-  step-from-reads.Asked,
-  step-from-reads.Learnt,
-  steps-below t,
-  steps.Post,
-) (steps-at t) steps.Post
-steps-shared-slice-read-code t c = let s = c .before .before .before .before .before .before .before .before .before .before .before in let st = s .pre .1 .0 in omega (arith, st .there, st .some, s .good .0)
+  abbrev S : steps-lts.After-slice-known6 (Cs t) (steps-at t) steps.Post → steps-lts.Start (Cs t) (steps-at t) steps.Post
+  S c = let k = c .before .before .before .before .before in k .before .before .before .before .before .before .before
 
-steps-add-first : (t : ℕ) → steps-lts.Need-add-first (
-  step-from-reads.Asked,
-  step-from-reads.Learnt,
-  steps-below t,
-  steps.Post,
-) (steps-at t) steps.Post
-steps-add-first t c = let s = c .before .before .before .before .before .before .before .before .before .before .before in let st = s .pre .1 .0 in omega (arith, st .there, st .some, s .good .0)
+  -- the last step, before it and after it
+  abbrev last : steps-lts.After-step-at-arg8 (Cs t) (steps-at t) steps.Post → steps-lts.Then1 (Cs t) (steps-at t) steps.Post
+  last c = c .before .before .before .before .before .before .before .before
 
-steps-mul-first : (t : ℕ) → steps-lts.Need-mul-first (
-  step-from-reads.Asked,
-  step-from-reads.Learnt,
-  steps-below t,
-  steps.Post,
-) (steps-at t) steps.Post
-steps-mul-first t c = let s = c .before .before .before .before .before .before .before .before .before .before .before in let st = s .pre .1 .0 in omega (arith, st .there, st .some, s .good .0)
+  abbrev ended : steps-lts.After-slice-known8 (Cs t) (steps-at t) steps.Post → steps-lts.After-step-at (Cs t) (steps-at t) steps.Post
+  ended c = c .before .before .before .before .before .before
 
-steps-shared-slice-read-first : (t : ℕ) → steps-lts.Need-shared-slice-read-first (
-  step-from-reads.Asked,
-  step-from-reads.Learnt,
-  steps-below t,
-  steps.Post,
-) (steps-at t) steps.Post
-steps-shared-slice-read-first t c = let s = c .before .before .before .before .before .before .before .before .before .before .before .before in let st = s .pre .1 .0 in omega (arith, st .there, st .some, s .good .0)
+  -- a step before others, before it and after it
+  abbrev more : steps-lts.After-step-at-arg16 (Cs t) (steps-at t) steps.Post → steps-lts.Else1 (Cs t) (steps-at t) steps.Post
+  more c = c .before .before .before .before .before .before .before .before
 
-steps-add-second : (t : ℕ) → steps-lts.Need-add-second (
-  step-from-reads.Asked,
-  step-from-reads.Learnt,
-  steps-below t,
-  steps.Post,
-) (steps-at t) steps.Post
-steps-add-second t c = let s = c .before .before .before .before .before .before .before .before .before .before .before .before in let st = s .pre .1 .0 in omega (arith, st .there, st .some, s .good .0)
+  abbrev taken : steps-lts.After-slice-known10 (Cs t) (steps-at t) steps.Post → steps-lts.After-step-at2 (Cs t) (steps-at t) steps.Post
+  taken c = c .before .before .before .before .before .before
 
-steps-mul-second : (t : ℕ) → steps-lts.Need-mul-second (
-  step-from-reads.Asked,
-  step-from-reads.Learnt,
-  steps-below t,
-  steps.Post,
-) (steps-at t) steps.Post
-steps-mul-second t c = let s = c .before .before .before .before .before .before .before .before .before .before .before .before in let st = s .pre .1 .0 in omega (arith, st .there, st .some, s .good .0)
+  -- the steps after it, before them and after them
+  abbrev counted : steps-lts.After-steps-arg12 (Cs t) (steps-at t) steps.Post → steps-lts.After-answer2 (Cs t) (steps-at t) steps.Post
+  counted c = let g = c .before .before .before .before .before .before .before .before .before in g .before .before .before .before
 
-steps-shared-slice-read-second : (t : ℕ) → steps-lts.Need-shared-slice-read-second (
-  step-from-reads.Asked,
-  step-from-reads.Learnt,
-  steps-below t,
-  steps.Post,
-) (steps-at t) steps.Post
-steps-shared-slice-read-second t c = let s = c .before .before .before .before .before .before .before .before .before .before .before .before .before in let st = s .pre .1 .0 in omega (arith, st .there, st .some, s .good .0)
+  abbrev went : steps-lts.After-slice-known16 (Cs t) (steps-at t) steps.Post → steps-lts.After-steps (Cs t) (steps-at t) steps.Post
+  went c = let g = c .before .before .before .before .before .before .before .before .before in g .before .before .before .before .before .before .before .before .before
 
-steps-add-third : (t : ℕ) → steps-lts.Need-add-third (
-  step-from-reads.Asked,
-  step-from-reads.Learnt,
-  steps-below t,
-  steps.Post,
-) (steps-at t) steps.Post
-steps-add-third t c = let s = c .before .before .before .before .before .before .before .before .before .before .before .before .before in let st = s .pre .1 .0 in omega (arith, st .there, st .some, s .good .0)
+  -- ---- the step, those after it, the rows that it takes, the second list's, the arguments, and the lengths of the trays and the output
 
-steps-mul-third : (t : ℕ) → steps-lts.Need-mul-third (
-  step-from-reads.Asked,
-  step-from-reads.Learnt,
-  steps-below t,
-  steps.Post,
-) (steps-at t) steps.Post
-steps-mul-third t c = let s = c .before .before .before .before .before .before .before .before .before .before .before .before .before in let st = s .pre .1 .0 in omega (arith, st .there, st .some, s .good .0)
+  abbrev Now : steps-lts.Start (Cs t) (steps-at t) steps.Post → Step
+  Now s = stepAt (s .args .recipe .now) (s .args .k)
 
-steps-shared-slice-read-third : (t : ℕ) → steps-lts.Need-shared-slice-read-third (
-  step-from-reads.Asked,
-  step-from-reads.Learnt,
-  steps-below t,
-  steps.Post,
-) (steps-at t) steps.Post
-steps-shared-slice-read-third t c = let s = c .before .before .before .before .before .before .before .before .before .before .before .before .before .before in let st = s .pre .1 .0 in omega (arith, st .there, st .some, s .good .0)
+  abbrev Next : steps-lts.Start (Cs t) (steps-at t) steps.Post → List Step
+  Next s = let a = s .args in tab (stepAt (a .recipe .now)) (a .k + 1) (a .left - 1)
 
-steps-step-from-requires : (t : ℕ) → steps-lts.Need-step-from-requires (
-  step-from-reads.Asked,
-  step-from-reads.Learnt,
-  steps-below t,
-  steps.Post,
-) (steps-at t) steps.Post
-steps-step-from-requires t c κs =
-    let s = c .before .before .before .before .before .before .before .before .before .before .before .before .before .before .before .before .before .before .before .before .before .before .before in
-    let a = s .args in
-    let st = s .pre .1 .0 in
-    let he = s .pre .1 .1 .0 in
-    (he, (s .pre .1 .1 .1, step-fits st))
+  abbrev C : steps-lts.Start (Cs t) (steps-at t) steps.Post → Column
+  C s = let a = s .args in column (a .offsets .now) (from (a .rstart) (a .rows .now)) (a .values .now) (from (a .estart) (a .elements .now))
 
-steps-same-length : (t : ℕ) → steps-lts.Need-same-length (
-  step-from-reads.Asked,
-  step-from-reads.Learnt,
-  steps-below t,
-  steps.Post,
-) (steps-at t) steps.Post
-steps-same-length t c = search needs
+  abbrev Ws : steps-lts.Start (Cs t) (steps-at t) steps.Post → List Row
+  Ws s = let a = s .args in rowsTaken (a .k) (C s) (front (a .from-offsets .now) (a .from-rows .now) (a .from-values .now) (a .from-elements .now) (a .n) (a .m))
 
-steps-same-length-2 : (t : ℕ) → steps-lts.Need-same-length-2 (
-  step-from-reads.Asked,
-  step-from-reads.Learnt,
-  steps-below t,
-  steps.Post,
-) (steps-at t) steps.Post
-steps-same-length-2 t c = search needs
+  abbrev Rs : steps-lts.Start (Cs t) (steps-at t) steps.Post → List Row
+  Rs s = let a = s .args in rowsOf (column (a .roffsets .now) (from (a .r-rstart) (a .rrows .now)) (a .rvalues .now) (from (a .r-estart) (a .relements .now)))
 
-steps-same-length-3 : (t : ℕ) → steps-lts.Need-same-length-3 (
-  step-from-reads.Asked,
-  step-from-reads.Learnt,
-  steps-below t,
-  steps.Post,
-) (steps-at t) steps.Post
-steps-same-length-3 t c = search needs
+  abbrev Es : steps-lts.Start (Cs t) (steps-at t) steps.Post → List Elem
+  Es s = let a = s .args in shownBy (arguments (a .args .now) (from (a .start) (a .bits .now)))
 
-steps-same-length-4 : (t : ℕ) → steps-lts.Need-same-length-4 (
-  step-from-reads.Asked,
-  step-from-reads.Learnt,
-  steps-below t,
-  steps.Post,
-) (steps-at t) steps.Post
-steps-same-length-4 t c = search needs
+  abbrev To : steps-lts.Start (Cs t) (steps-at t) steps.Post → Room
+  To s = let a = s .args in room (length (a .to-offsets .now)) (length (a .to-rows .now)) (length (a .to-values .now)) (length (a .to-elements .now))
 
-steps-same-length-5 : (t : ℕ) → steps-lts.Need-same-length-5 (
-  step-from-reads.Asked,
-  step-from-reads.Learnt,
-  steps-below t,
-  steps.Post,
-) (steps-at t) steps.Post
-steps-same-length-5 t c = search needs
+  abbrev From : steps-lts.Start (Cs t) (steps-at t) steps.Post → Room
+  From s = let a = s .args in room (length (a .from-offsets .now)) (length (a .from-rows .now)) (length (a .from-values .now)) (length (a .from-elements .now))
 
-steps-same-length-6 : (t : ℕ) → steps-lts.Need-same-length-6 (
-  step-from-reads.Asked,
-  step-from-reads.Learnt,
-  steps-below t,
-  steps.Post,
-) (steps-at t) steps.Post
-steps-same-length-6 t c = search needs
+  abbrev Out : steps-lts.Start (Cs t) (steps-at t) steps.Post → Room
+  Out s = let a = s .args in room (length (a .out-offsets .now)) (length (a .out-rows .now)) (length (a .out-values .now)) (length (a .out-elements .now))
 
-steps-same-length-7 : (t : ℕ) → steps-lts.Need-same-length-7 (
-  step-from-reads.Asked,
-  step-from-reads.Learnt,
-  steps-below t,
-  steps.Post,
-) (steps-at t) steps.Post
-steps-same-length-7 t c = search needs
+  -- ---- needs
 
-steps-same-length-8 : (t : ℕ) → steps-lts.Need-same-length-8 (
-  step-from-reads.Asked,
-  step-from-reads.Learnt,
-  steps-below t,
-  steps.Post,
-) (steps-at t) steps.Post
-steps-same-length-8 t c = search needs
+  steps-step-at-requires : steps-lts.Need-step-at-requires (Cs t) (steps-at t) steps.Post
+  steps-step-at-requires c κs = let p = S (last c .before) .pre .1 in (step-there (p .0), (p .1 .0, (p .1 .1, step-fits (p .0))))
 
-steps-returns : (t : ℕ) → steps-lts.Need-returns (
-  step-from-reads.Asked,
-  step-from-reads.Learnt,
-  steps-below t,
-  steps.Post,
-) (steps-at t) steps.Post
-steps-returns t c =
-    let s = c .before .before .before .before .before .before .before .before .before .before .before .before .before .before .before .before .before .before .before .before .before .before .before .before .before .before .before .before .before .before in
-    let a = s .args in
-    let st = s .pre .1 .0 in
-    let he = s .pre .1 .1 .0 in
-    rw (chain-last (stepAt (a .recipe .now) (a .k)) (tab (stepAt (a .recipe .now)) (a .k + 1) (a .left - 1)) (rowsOf (front (a .from-offsets .now) (a .from-rows .now) (a .from-values .now) (a .from-elements .now) (a .n) (a .m))) (rowsOf (column (a .roffsets .now) (from (a .r-rstart) (a .rrows .now)) (a .rvalues .now) (from (a .r-estart) (a .relements .now)))) (shownBy (arguments (a .args .now) (from (a .start) (a .bits .now)))) (room (length (a .to-offsets .now)) (length (a .to-rows .now)) (length (a .to-values .now)) (length (a .to-elements .now))) (room (length (a .from-offsets .now)) (length (a .from-rows .now)) (length (a .from-values .now)) (length (a .from-elements .now))) (room (length (a .out-offsets .now)) (length (a .out-rows .now)) (length (a .out-values .now)) (length (a .out-elements .now))) (none-left st (c .before .before .before .before .before .before .before .before .before .before .before .before .before .before .before .if1 .taken))) (c .before .before .before .before .before .before .step-from .ensures)
+  steps-same-length : steps-lts.Need-same-length (Cs t) (steps-at t) steps.Post
+  steps-same-length c = search
 
-steps-step-from-requires-2 : (t : ℕ) → steps-lts.Need-step-from-requires-2 (
-  step-from-reads.Asked,
-  step-from-reads.Learnt,
-  steps-below t,
-  steps.Post,
-) (steps-at t) steps.Post
-steps-step-from-requires-2 t c κs =
-    let s = c .before .before .before .before .before .before .before .before .before .before .before .before .before .before .before .before .before .before .before .before .before .before .before in
-    let a = s .args in
-    let st = s .pre .1 .0 in
-    let he = s .pre .1 .1 .0 in
-    (he, (s .pre .1 .1 .1, step-fits st))
+  steps-same-length-2 : steps-lts.Need-same-length-2 (Cs t) (steps-at t) steps.Post
+  steps-same-length-2 c = search
 
-steps-enum-known-answer : (t : ℕ) → steps-lts.Need-enum-known-answer (
-  step-from-reads.Asked,
-  step-from-reads.Learnt,
-  steps-below t,
-  steps.Post,
-) (steps-at t) steps.Post
-steps-enum-known-answer t c = search needs
+  steps-same-length-3 : steps-lts.Need-same-length-3 (Cs t) (steps-at t) steps.Post
+  steps-same-length-3 c = search
 
-steps-enum-known-answer-2 : (t : ℕ) → steps-lts.Need-enum-known-answer-2 (
-  step-from-reads.Asked,
-  step-from-reads.Learnt,
-  steps-below t,
-  steps.Post,
-) (steps-at t) steps.Post
-steps-enum-known-answer-2 t c = search needs
+  steps-same-length-4 : steps-lts.Need-same-length-4 (Cs t) (steps-at t) steps.Post
+  steps-same-length-4 c = search
 
-steps-add-steps : (t : ℕ) → steps-lts.Need-add-steps (
-  step-from-reads.Asked,
-  step-from-reads.Learnt,
-  steps-below t,
-  steps.Post,
-) (steps-at t) steps.Post
-steps-add-steps t c = let s = c .before .before .before .before .before .before .before .before .before .before .before .before .before .before .before .before .before .before .before .before .before .before .before .before .before .before .before .before .before .before .before .before .before in let st = s .pre .1 .0 in omega (arith, st .there, st .some, s .good .0)
+  steps-same-length-5 : steps-lts.Need-same-length-5 (Cs t) (steps-at t) steps.Post
+  steps-same-length-5 c = search
 
-steps-sub-steps : (t : ℕ) → steps-lts.Need-sub-steps (
-  step-from-reads.Asked,
-  step-from-reads.Learnt,
-  steps-below t,
-  steps.Post,
-) (steps-at t) steps.Post
-steps-sub-steps t c = let s = c .before .before .before .before .before .before .before .before .before .before .before .before .before .before .before .before .before .before .before .before .before .before .before .before .before .before .before .before .before .before .before .before .before in let st = s .pre .1 .0 in omega (arith, st .some)
+  steps-same-length-6 : steps-lts.Need-same-length-6 (Cs t) (steps-at t) steps.Post
+  steps-same-length-6 c = search
 
-steps-steps-requires : (t : ℕ) → steps-lts.Need-steps-requires (
-  step-from-reads.Asked,
-  step-from-reads.Learnt,
-  steps-below t,
-  steps.Post,
-) (steps-at t) steps.Post
-steps-steps-requires t c κs =
-    let s = c .before .before .before .before .before .before .before .before .before .before .before .before .before .before .before .before .before .before .before .before .before .before .before .before .before .before .before .before .before .before .before .before .before .before .before .before .before .before .before .before .before .before .before .before .before in
-    let a = s .args in
-    let st = s .pre .1 .0 in
-    let he = s .pre .1 .1 .0 in
-    let w = c .before .before .before .before .before .before .before .before .before .before .before .before .before .before .before .before .before .before .before .before .before .step-from2 in
-    let k = carries _ _ (a .n) _ _ _ _ (w .ensures) (c .before .before .before .before .before .before .before .before .before .before .before .before .before .answer2 .given .1) (λ ws e. rows-kept (stepAt (a .recipe .now) (a .k)) (rowsOf (front (a .from-offsets .now) (a .from-rows .now) (a .from-values .now) (a .from-elements .now) (a .n) (a .m))) (rowsOf (column (a .roffsets .now) (from (a .r-rstart) (a .rrows .now)) (a .rvalues .now) (from (a .r-estart) (a .relements .now)))) (shownBy (arguments (a .args .now) (from (a .start) (a .bits .now)))) (room (length (a .to-offsets .now)) (length (a .to-rows .now)) (length (a .to-values .now)) (length (a .to-elements .now))) ws e ∙ front-rows he) in
-    (omega (arith, s .pre .0, st .some), (next-steps st (c .before .before .before .before .before .before .before .before .before .before .before .before .before .before .before .before .before .before .before .before .before .before .before .before .before .before .before .before .before .before .if1 .left), (k .held, s .pre .1 .1 .1)))
+  steps-same-length-7 : steps-lts.Need-same-length-7 (Cs t) (steps-at t) steps.Post
+  steps-same-length-7 c = search
 
-steps-same-length-9 : (t : ℕ) → steps-lts.Need-same-length-9 (
-  step-from-reads.Asked,
-  step-from-reads.Learnt,
-  steps-below t,
-  steps.Post,
-) (steps-at t) steps.Post
-steps-same-length-9 t c = search needs
+  steps-same-length-8 : steps-lts.Need-same-length-8 (Cs t) (steps-at t) steps.Post
+  steps-same-length-8 c = search
 
-steps-same-length-10 : (t : ℕ) → steps-lts.Need-same-length-10 (
-  step-from-reads.Asked,
-  step-from-reads.Learnt,
-  steps-below t,
-  steps.Post,
-) (steps-at t) steps.Post
-steps-same-length-10 t c = search needs
+  steps-returns : steps-lts.Need-returns (Cs t) (steps-at t) steps.Post
+  steps-returns c =
+      let w = ended c in
+      let q = last (w .before) in
+      let s = S (q .before) in
+      rw (chain-last (Now s) (Next s) (Ws s) (Rs s) (Es s) (To s) (From s) (Out s) (none-left (s .pre .1 .0) (q .if1 .taken))) (w .step-at .ensures)
 
-steps-same-length-11 : (t : ℕ) → steps-lts.Need-same-length-11 (
-  step-from-reads.Asked,
-  step-from-reads.Learnt,
-  steps-below t,
-  steps.Post,
-) (steps-at t) steps.Post
-steps-same-length-11 t c = search needs
+  steps-step-at-requires-2 : steps-lts.Need-step-at-requires-2 (Cs t) (steps-at t) steps.Post
+  steps-step-at-requires-2 c κs = let p = S (more c .before) .pre .1 in (step-there (p .0), (p .1 .0, (p .1 .1, step-fits (p .0))))
 
-steps-same-length-12 : (t : ℕ) → steps-lts.Need-same-length-12 (
-  step-from-reads.Asked,
-  step-from-reads.Learnt,
-  steps-below t,
-  steps.Post,
-) (steps-at t) steps.Post
-steps-same-length-12 t c = search needs
+  steps-enum-known-answer : steps-lts.Need-enum-known-answer (Cs t) (steps-at t) steps.Post
+  steps-enum-known-answer c = search
 
-steps-same-length-13 : (t : ℕ) → steps-lts.Need-same-length-13 (
-  step-from-reads.Asked,
-  step-from-reads.Learnt,
-  steps-below t,
-  steps.Post,
-) (steps-at t) steps.Post
-steps-same-length-13 t c = search needs
+  steps-enum-known-answer-2 : steps-lts.Need-enum-known-answer-2 (Cs t) (steps-at t) steps.Post
+  steps-enum-known-answer-2 c = search
 
-steps-same-length-14 : (t : ℕ) → steps-lts.Need-same-length-14 (
-  step-from-reads.Asked,
-  step-from-reads.Learnt,
-  steps-below t,
-  steps.Post,
-) (steps-at t) steps.Post
-steps-same-length-14 t c = search needs
+  steps-add-steps : steps-lts.Need-add-steps (Cs t) (steps-at t) steps.Post
+  steps-add-steps c = let s = S (more (taken (c .before .before .before) .before) .before) in omega (arith, s .pre .1 .0 .there, s .pre .1 .0 .some, s .good .0)
 
-steps-same-length-15 : (t : ℕ) → steps-lts.Need-same-length-15 (
-  step-from-reads.Asked,
-  step-from-reads.Learnt,
-  steps-below t,
-  steps.Post,
-) (steps-at t) steps.Post
-steps-same-length-15 t c = search needs
+  steps-sub-steps : steps-lts.Need-sub-steps (Cs t) (steps-at t) steps.Post
+  steps-sub-steps c = let s = S (more (taken (c .before .before .before) .before) .before) in omega (arith, s .pre .1 .0 .some)
 
-steps-same-length-16 : (t : ℕ) → steps-lts.Need-same-length-16 (
-  step-from-reads.Asked,
-  step-from-reads.Learnt,
-  steps-below t,
-  steps.Post,
-) (steps-at t) steps.Post
-steps-same-length-16 t c = search needs
+  steps-steps-requires : steps-lts.Need-steps-requires (Cs t) (steps-at t) steps.Post
+  steps-steps-requires c κs =
+      let q = counted c in
+      let w = taken (q .before .before) in
+      let m = more (w .before) in
+      let s = S (m .before) in
+      let k = carries _ _ (s .args .n) _ _ _ _ (w .step-at2 .ensures) (q .answer2 .given .1) (λ ws e. rows-kept (Now s) (Ws s) (Rs s) (Es s) (To s) ws e ∙ taken-rows (s .pre .1 .1 .0)) in
+      (omega (arith, s .pre .0, s .pre .1 .0 .some), (next-steps (s .pre .1 .0) (m .if1 .left), (taken-next (s .args .k) (C s) (k .at-front), s .pre .1 .1 .1)))
 
-steps-returns-2 : (t : ℕ) → steps-lts.Need-returns-2 (
-  step-from-reads.Asked,
-  step-from-reads.Learnt,
-  steps-below t,
-  steps.Post,
-) (steps-at t) steps.Post
-steps-returns-2 t c =
-    let s = c .before .before .before .before .before .before .before .before .before .before .before .before .before .before .before .before .before .before .before .before .before .before .before .before .before .before .before .before .before .before .before .before .before in
-    let a = s .args in
-    let st = s .pre .1 .0 in
-    let he = s .pre .1 .1 .0 in
-    let w = c .before .before .before .before .before .before .before .before .before .step-from2 in
-    list-refused _ (chain-refused (stepAt (a .recipe .now) (a .k)) (tab (stepAt (a .recipe .now)) (a .k + 1) (a .left - 1)) (rowsOf (front (a .from-offsets .now) (a .from-rows .now) (a .from-values .now) (a .from-elements .now) (a .n) (a .m))) (rowsOf (column (a .roffsets .now) (from (a .r-rstart) (a .rrows .now)) (a .rvalues .now) (from (a .r-estart) (a .relements .now)))) (shownBy (arguments (a .args .now) (from (a .start) (a .bits .now)))) (room (length (a .to-offsets .now)) (length (a .to-rows .now)) (length (a .to-values .now)) (length (a .to-elements .now))) (room (length (a .from-offsets .now)) (length (a .from-rows .now)) (length (a .from-values .now)) (length (a .from-elements .now))) (room (length (a .out-offsets .now)) (length (a .out-rows .now)) (length (a .out-values .now)) (length (a .out-elements .now))) _ _ _ (more-left st (c .before .before .before .before .before .before .before .before .before .before .before .before .before .before .before .before .before .before .if1 .left)) (answer-refused _ _ _ (c .before .answer .given .1) (w .ensures .answer)))
+  steps-same-length-9 : steps-lts.Need-same-length-9 (Cs t) (steps-at t) steps.Post
+  steps-same-length-9 c = search
 
-steps-same-length-17 : (t : ℕ) → steps-lts.Need-same-length-17 (
-  step-from-reads.Asked,
-  step-from-reads.Learnt,
-  steps-below t,
-  steps.Post,
-) (steps-at t) steps.Post
-steps-same-length-17 t c = c .before .before .before .before .before .before .before .before .before .before .before .before .before .before .before .before .before .before .steps .kept .1 .1 .1 .1 .1 .1 .1 .1 .1 .1 .1 .1 .1 .1 .1 .1 .1 .1 .0
+  steps-same-length-10 : steps-lts.Need-same-length-10 (Cs t) (steps-at t) steps.Post
+  steps-same-length-10 c = search
 
-steps-same-length-18 : (t : ℕ) → steps-lts.Need-same-length-18 (
-  step-from-reads.Asked,
-  step-from-reads.Learnt,
-  steps-below t,
-  steps.Post,
-) (steps-at t) steps.Post
-steps-same-length-18 t c = c .before .before .before .before .before .before .before .before .before .before .before .before .before .before .before .before .before .before .steps .kept .1 .1 .1 .1 .1 .1 .1 .1 .1 .1 .1 .1 .1 .1 .1 .1 .1 .1 .1 .0
+  steps-same-length-11 : steps-lts.Need-same-length-11 (Cs t) (steps-at t) steps.Post
+  steps-same-length-11 c = search
 
-steps-same-length-19 : (t : ℕ) → steps-lts.Need-same-length-19 (
-  step-from-reads.Asked,
-  step-from-reads.Learnt,
-  steps-below t,
-  steps.Post,
-) (steps-at t) steps.Post
-steps-same-length-19 t c = c .before .before .before .before .before .before .before .before .before .before .before .before .before .before .before .before .before .before .steps .kept .1 .1 .1 .1 .1 .1 .1 .1 .1 .1 .1 .1 .1 .1 .1 .1 .1 .1 .1 .1 .0
+  steps-same-length-12 : steps-lts.Need-same-length-12 (Cs t) (steps-at t) steps.Post
+  steps-same-length-12 c = search
 
-steps-same-length-20 : (t : ℕ) → steps-lts.Need-same-length-20 (
-  step-from-reads.Asked,
-  step-from-reads.Learnt,
-  steps-below t,
-  steps.Post,
-) (steps-at t) steps.Post
-steps-same-length-20 t c = c .before .before .before .before .before .before .before .before .before .before .before .before .before .before .before .before .before .before .steps .kept .1 .1 .1 .1 .1 .1 .1 .1 .1 .1 .1 .1 .1 .1 .1 .1 .1 .1 .1 .1 .1 .0
+  steps-same-length-13 : steps-lts.Need-same-length-13 (Cs t) (steps-at t) steps.Post
+  steps-same-length-13 c = search
 
-steps-same-length-21 : (t : ℕ) → steps-lts.Need-same-length-21 (
-  step-from-reads.Asked,
-  step-from-reads.Learnt,
-  steps-below t,
-  steps.Post,
-) (steps-at t) steps.Post
-steps-same-length-21 t c = c .before .before .before .before .before .before .before .before .before .before .before .before .before .before .before .before .before .before .steps .kept .1 .1 .1 .1 .1 .1 .1 .1 .1 .1 .1 .1 .1 .1 .0 ∙ c .before .before .before .before .before .before .before .before .before .before .before .before .before .before .before .before .before .before .before .before .before .before .before .before .before .before .before .before .before .before .before .before .before .before .before .before .before .before .before .before .step-from2 .kept .1 .1 .1 .1 .1 .1 .1 .1 .1 .1 .1 .1 .1 .1 .1 .1 .1 .1 .1 .0
+  steps-same-length-14 : steps-lts.Need-same-length-14 (Cs t) (steps-at t) steps.Post
+  steps-same-length-14 c = search
 
-steps-same-length-22 : (t : ℕ) → steps-lts.Need-same-length-22 (
-  step-from-reads.Asked,
-  step-from-reads.Learnt,
-  steps-below t,
-  steps.Post,
-) (steps-at t) steps.Post
-steps-same-length-22 t c = c .before .before .before .before .before .before .before .before .before .before .before .before .before .before .before .before .before .before .steps .kept .1 .1 .1 .1 .1 .1 .1 .1 .1 .1 .1 .1 .1 .1 .1 .0 ∙ c .before .before .before .before .before .before .before .before .before .before .before .before .before .before .before .before .before .before .before .before .before .before .before .before .before .before .before .before .before .before .before .before .before .before .before .before .before .before .before .before .step-from2 .kept .1 .1 .1 .1 .1 .1 .1 .1 .1 .1 .1 .1 .1 .1 .1 .1 .1 .1 .1 .1 .0
+  steps-same-length-15 : steps-lts.Need-same-length-15 (Cs t) (steps-at t) steps.Post
+  steps-same-length-15 c = search
 
-steps-same-length-23 : (t : ℕ) → steps-lts.Need-same-length-23 (
-  step-from-reads.Asked,
-  step-from-reads.Learnt,
-  steps-below t,
-  steps.Post,
-) (steps-at t) steps.Post
-steps-same-length-23 t c = c .before .before .before .before .before .before .before .before .before .before .before .before .before .before .before .before .before .before .steps .kept .1 .1 .1 .1 .1 .1 .1 .1 .1 .1 .1 .1 .1 .1 .1 .1 .0 ∙ c .before .before .before .before .before .before .before .before .before .before .before .before .before .before .before .before .before .before .before .before .before .before .before .before .before .before .before .before .before .before .before .before .before .before .before .before .before .before .before .before .step-from2 .kept .1 .1 .1 .1 .1 .1 .1 .1 .1 .1 .1 .1 .1 .1 .1 .1 .1 .1 .1 .1 .1 .0
+  steps-same-length-16 : steps-lts.Need-same-length-16 (Cs t) (steps-at t) steps.Post
+  steps-same-length-16 c = search
 
-steps-same-length-24 : (t : ℕ) → steps-lts.Need-same-length-24 (
-  step-from-reads.Asked,
-  step-from-reads.Learnt,
-  steps-below t,
-  steps.Post,
-) (steps-at t) steps.Post
-steps-same-length-24 t c = c .before .before .before .before .before .before .before .before .before .before .before .before .before .before .before .before .before .before .steps .kept .1 .1 .1 .1 .1 .1 .1 .1 .1 .1 .1 .1 .1 .1 .1 .1 .1 .0 ∙ c .before .before .before .before .before .before .before .before .before .before .before .before .before .before .before .before .before .before .before .before .before .before .before .before .before .before .before .before .before .before .before .before .before .before .before .before .before .before .before .before .step-from2 .kept .1 .1 .1 .1 .1 .1 .1 .1 .1 .1 .1 .1 .1 .1 .1 .1 .1 .1 .1 .1 .1 .1 .0
+  steps-returns-2 : steps-lts.Need-returns-2 (Cs t) (steps-at t) steps.Post
+  steps-returns-2 c =
+      let w = taken (c .before .before .before) in
+      let m = more (w .before) in
+      let s = S (m .before) in
+      list-refused _ (chain-refused (Now s) (Next s) (Ws s) (Rs s) (Es s) (To s) (From s) (Out s) _ _ _ (more-left (s .pre .1 .0) (m .if1 .left)) (answer-refused _ _ _ (c .before .answer .given .1) (w .step-at2 .ensures .answer)))
 
-steps-same-length-25 : (t : ℕ) → steps-lts.Need-same-length-25 (
-  step-from-reads.Asked,
-  step-from-reads.Learnt,
-  steps-below t,
-  steps.Post,
-) (steps-at t) steps.Post
-steps-same-length-25 t c = c .before .before .before .before .before .before .before .before .before .before .before .before .before .before .before .before .before .before .steps .kept .1 .1 .1 .1 .1 .1 .1 .1 .1 .1 .1 .1 .1 .1 .1 .1 .1 .1 .1 .1 .1 .1 .0
+  steps-same-length-17 : steps-lts.Need-same-length-17 (Cs t) (steps-at t) steps.Post
+  steps-same-length-17 c = went c .steps .kept .1 .1 .1 .1 .1 .1 .1 .1 .1 .1 .1 .1 .1 .1 .1 .1 .1 .1 .1 .1 .1 .1 .1 .1 .0
 
-steps-same-length-26 : (t : ℕ) → steps-lts.Need-same-length-26 (
-  step-from-reads.Asked,
-  step-from-reads.Learnt,
-  steps-below t,
-  steps.Post,
-) (steps-at t) steps.Post
-steps-same-length-26 t c = c .before .before .before .before .before .before .before .before .before .before .before .before .before .before .before .before .before .before .steps .kept .1 .1 .1 .1 .1 .1 .1 .1 .1 .1 .1 .1 .1 .1 .1 .1 .1 .1 .1 .1 .1 .1 .1 .0
+  steps-same-length-18 : steps-lts.Need-same-length-18 (Cs t) (steps-at t) steps.Post
+  steps-same-length-18 c = went c .steps .kept .1 .1 .1 .1 .1 .1 .1 .1 .1 .1 .1 .1 .1 .1 .1 .1 .1 .1 .1 .1 .1 .1 .1 .1 .1 .0
 
-steps-same-length-27 : (t : ℕ) → steps-lts.Need-same-length-27 (
-  step-from-reads.Asked,
-  step-from-reads.Learnt,
-  steps-below t,
-  steps.Post,
-) (steps-at t) steps.Post
-steps-same-length-27 t c = c .before .before .before .before .before .before .before .before .before .before .before .before .before .before .before .before .before .before .steps .kept .1 .1 .1 .1 .1 .1 .1 .1 .1 .1 .1 .1 .1 .1 .1 .1 .1 .1 .1 .1 .1 .1 .1 .1 .0
+  steps-same-length-19 : steps-lts.Need-same-length-19 (Cs t) (steps-at t) steps.Post
+  steps-same-length-19 c = went c .steps .kept .1 .1 .1 .1 .1 .1 .1 .1 .1 .1 .1 .1 .1 .1 .1 .1 .1 .1 .1 .1 .1 .1 .1 .1 .1 .1 .0
 
-steps-same-length-28 : (t : ℕ) → steps-lts.Need-same-length-28 (
-  step-from-reads.Asked,
-  step-from-reads.Learnt,
-  steps-below t,
-  steps.Post,
-) (steps-at t) steps.Post
-steps-same-length-28 t c = c .before .before .before .before .before .before .before .before .before .before .before .before .before .before .before .before .before .before .steps .kept .1 .1 .1 .1 .1 .1 .1 .1 .1 .1 .1 .1 .1 .1 .1 .1 .1 .1 .1 .1 .1 .1 .1 .1 .1 .0
+  steps-same-length-20 : steps-lts.Need-same-length-20 (Cs t) (steps-at t) steps.Post
+  steps-same-length-20 c = went c .steps .kept .1 .1 .1 .1 .1 .1 .1 .1 .1 .1 .1 .1 .1 .1 .1 .1 .1 .1 .1 .1 .1 .1 .1 .1 .1 .1 .1 .0
 
-steps-returns-3 : (t : ℕ) → steps-lts.Need-returns-3 (
-  step-from-reads.Asked,
-  step-from-reads.Learnt,
-  steps-below t,
-  steps.Post,
-) (steps-at t) steps.Post
-steps-returns-3 t c =
-    let s = c .before .before .before .before .before .before .before .before .before .before .before .before .before .before .before .before .before .before .before .before .before .before .before .before .before .before .before .before .before .before .before .before .before .before .before .before .before .before .before .before .before .before .before .before .before .before .before .before .before .before .before .before .before .before .before .before .before .before .before .before .before .before .before .before in
-    let a = s .args in
-    let st = s .pre .1 .0 in
-    let he = s .pre .1 .1 .0 in
-    let w = c .before .before .before .before .before .before .before .before .before .before .before .before .before .before .before .before .before .before .before .before .before .before .before .before .before .before .before .before .before .before .before .before .before .before .before .before .before .before .before .before .step-from2 in
-    let k = carries _ _ (a .n) _ _ _ _ (w .ensures) (c .before .before .before .before .before .before .before .before .before .before .before .before .before .before .before .before .before .before .before .before .before .before .before .before .before .before .before .before .before .before .before .before .answer2 .given .1) (λ ws e. rows-kept (stepAt (a .recipe .now) (a .k)) (rowsOf (front (a .from-offsets .now) (a .from-rows .now) (a .from-values .now) (a .from-elements .now) (a .n) (a .m))) (rowsOf (column (a .roffsets .now) (from (a .r-rstart) (a .rrows .now)) (a .rvalues .now) (from (a .r-estart) (a .relements .now)))) (shownBy (arguments (a .args .now) (from (a .start) (a .bits .now)))) (room (length (a .to-offsets .now)) (length (a .to-rows .now)) (length (a .to-values .now)) (length (a .to-elements .now))) ws e ∙ front-rows he) in
-    let l = same-room (w .kept .1 .1 .1 .1 .1 .1 .1 .1 .1 .1 .1 .1 .1 .1 .1 .1 .1 .1 .1 .0) (w .kept .1 .1 .1 .1 .1 .1 .1 .1 .1 .1 .1 .1 .1 .1 .1 .1 .1 .1 .1 .1 .0) (w .kept .1 .1 .1 .1 .1 .1 .1 .1 .1 .1 .1 .1 .1 .1 .1 .1 .1 .1 .1 .1 .1 .0) (w .kept .1 .1 .1 .1 .1 .1 .1 .1 .1 .1 .1 .1 .1 .1 .1 .1 .1 .1 .1 .1 .1 .1 .0) in
-    chain-on (stepAt (a .recipe .now) (a .k)) (tab (stepAt (a .recipe .now)) (a .k + 1) (a .left - 1)) (rowsOf (front (a .from-offsets .now) (a .from-rows .now) (a .from-values .now) (a .from-elements .now) (a .n) (a .m))) (rowsOf (column (a .roffsets .now) (from (a .r-rstart) (a .rrows .now)) (a .rvalues .now) (from (a .r-estart) (a .relements .now)))) (shownBy (arguments (a .args .now) (from (a .start) (a .bits .now)))) (room (length (a .to-offsets .now)) (length (a .to-rows .now)) (length (a .to-values .now)) (length (a .to-elements .now))) (room (length (a .from-offsets .now)) (length (a .from-rows .now)) (length (a .from-values .now)) (length (a .from-elements .now))) (room (length (a .out-offsets .now)) (length (a .out-rows .now)) (length (a .out-values .now)) (length (a .out-elements .now))) _ _ (more-left st (c .before .before .before .before .before .before .before .before .before .before .before .before .before .before .before .before .before .before .before .before .before .before .before .before .before .before .before .before .before .before .before .before .before .before .before .before .before .before .before .before .before .before .before .before .before .before .before .before .before .if1 .left)) (k .is) (k .shown) l (c .before .before .before .before .before .before .before .before .before .before .before .before .before .before .before .before .before .before .steps .ensures)
+  steps-same-length-21 : steps-lts.Need-same-length-21 (Cs t) (steps-at t) steps.Post
+  steps-same-length-21 c = went c .steps .kept .1 .1 .1 .1 .1 .1 .1 .1 .1 .1 .1 .1 .1 .1 .1 .1 .1 .1 .1 .1 .0 ∙ taken (counted (went c .before) .before .before) .step-at2 .kept .1 .1 .1 .1 .1 .1 .1 .1 .1 .1 .1 .1 .1 .1 .1 .1 .1 .1 .1 .1 .1 .1 .1 .0
+
+  steps-same-length-22 : steps-lts.Need-same-length-22 (Cs t) (steps-at t) steps.Post
+  steps-same-length-22 c = went c .steps .kept .1 .1 .1 .1 .1 .1 .1 .1 .1 .1 .1 .1 .1 .1 .1 .1 .1 .1 .1 .1 .1 .0 ∙ taken (counted (went c .before) .before .before) .step-at2 .kept .1 .1 .1 .1 .1 .1 .1 .1 .1 .1 .1 .1 .1 .1 .1 .1 .1 .1 .1 .1 .1 .1 .1 .1 .0
+
+  steps-same-length-23 : steps-lts.Need-same-length-23 (Cs t) (steps-at t) steps.Post
+  steps-same-length-23 c = went c .steps .kept .1 .1 .1 .1 .1 .1 .1 .1 .1 .1 .1 .1 .1 .1 .1 .1 .1 .1 .1 .1 .1 .1 .0 ∙ taken (counted (went c .before) .before .before) .step-at2 .kept .1 .1 .1 .1 .1 .1 .1 .1 .1 .1 .1 .1 .1 .1 .1 .1 .1 .1 .1 .1 .1 .1 .1 .1 .1 .0
+
+  steps-same-length-24 : steps-lts.Need-same-length-24 (Cs t) (steps-at t) steps.Post
+  steps-same-length-24 c = went c .steps .kept .1 .1 .1 .1 .1 .1 .1 .1 .1 .1 .1 .1 .1 .1 .1 .1 .1 .1 .1 .1 .1 .1 .1 .0 ∙ taken (counted (went c .before) .before .before) .step-at2 .kept .1 .1 .1 .1 .1 .1 .1 .1 .1 .1 .1 .1 .1 .1 .1 .1 .1 .1 .1 .1 .1 .1 .1 .1 .1 .1 .0
+
+  steps-same-length-25 : steps-lts.Need-same-length-25 (Cs t) (steps-at t) steps.Post
+  steps-same-length-25 c = went c .steps .kept .1 .1 .1 .1 .1 .1 .1 .1 .1 .1 .1 .1 .1 .1 .1 .1 .1 .1 .1 .1 .1 .1 .1 .1 .1 .1 .1 .1 .0
+
+  steps-same-length-26 : steps-lts.Need-same-length-26 (Cs t) (steps-at t) steps.Post
+  steps-same-length-26 c = went c .steps .kept .1 .1 .1 .1 .1 .1 .1 .1 .1 .1 .1 .1 .1 .1 .1 .1 .1 .1 .1 .1 .1 .1 .1 .1 .1 .1 .1 .1 .1 .0
+
+  steps-same-length-27 : steps-lts.Need-same-length-27 (Cs t) (steps-at t) steps.Post
+  steps-same-length-27 c = went c .steps .kept .1 .1 .1 .1 .1 .1 .1 .1 .1 .1 .1 .1 .1 .1 .1 .1 .1 .1 .1 .1 .1 .1 .1 .1 .1 .1 .1 .1 .1 .1 .0
+
+  steps-same-length-28 : steps-lts.Need-same-length-28 (Cs t) (steps-at t) steps.Post
+  steps-same-length-28 c = went c .steps .kept .1 .1 .1 .1 .1 .1 .1 .1 .1 .1 .1 .1 .1 .1 .1 .1 .1 .1 .1 .1 .1 .1 .1 .1 .1 .1 .1 .1 .1 .1 .1 .0
+
+  steps-returns-3 : steps-lts.Need-returns-3 (Cs t) (steps-at t) steps.Post
+  steps-returns-3 c =
+      let q = counted (went c .before) in
+      let w = taken (q .before .before) in
+      let m = more (w .before) in
+      let s = S (m .before) in
+      let k = carries _ _ (s .args .n) _ _ _ _ (w .step-at2 .ensures) (q .answer2 .given .1) (λ ws e. rows-kept (Now s) (Ws s) (Rs s) (Es s) (To s) ws e ∙ taken-rows (s .pre .1 .1 .0)) in
+      let l = same-room (w .step-at2 .kept .1 .1 .1 .1 .1 .1 .1 .1 .1 .1 .1 .1 .1 .1 .1 .1 .1 .1 .1 .1 .1 .1 .1 .0) (w .step-at2 .kept .1 .1 .1 .1 .1 .1 .1 .1 .1 .1 .1 .1 .1 .1 .1 .1 .1 .1 .1 .1 .1 .1 .1 .1 .0) (w .step-at2 .kept .1 .1 .1 .1 .1 .1 .1 .1 .1 .1 .1 .1 .1 .1 .1 .1 .1 .1 .1 .1 .1 .1 .1 .1 .1 .0) (w .step-at2 .kept .1 .1 .1 .1 .1 .1 .1 .1 .1 .1 .1 .1 .1 .1 .1 .1 .1 .1 .1 .1 .1 .1 .1 .1 .1 .1 .0) in
+      chain-on (Now s) (Next s) (Ws s) (Rs s) (Es s) (To s) (From s) (Out s) _ _ (more-left (s .pre .1 .0) (m .if1 .left)) (k .is) (next-rows (s .args .k) (C s) _ ∙ k .shown) l (went c .steps .ensures)
 
 pub +steps-spec : {M : Type 1} → statement M
-+steps-spec = close μ-steps λ t. steps-lts.spec (
-  step-from-reads.Asked,
-  step-from-reads.Learnt,
-  steps-below t,
-  steps.Post,
-)
++steps-spec = close μ-steps λ t. steps-lts.spec (Cs t)
     (steps-at t)
     steps.Post
-    (steps-mul-i t)
-    (steps-mul-code t)
-    (steps-shared-slice-read-code t)
-    (steps-add-first t)
-    (steps-mul-first t)
-    (steps-shared-slice-read-first t)
-    (steps-add-second t)
-    (steps-mul-second t)
-    (steps-shared-slice-read-second t)
-    (steps-add-third t)
-    (steps-mul-third t)
-    (steps-shared-slice-read-third t)
-    (steps-step-from-requires t)
+    (steps-step-at-requires t)
     (steps-same-length t)
     (steps-same-length-2 t)
     (steps-same-length-3 t)
@@ -498,7 +240,7 @@ pub +steps-spec : {M : Type 1} → statement M
     (steps-same-length-7 t)
     (steps-same-length-8 t)
     (steps-returns t)
-    (steps-step-from-requires-2 t)
+    (steps-step-at-requires-2 t)
     (steps-enum-known-answer t)
     (steps-enum-known-answer-2 t)
     (steps-add-steps t)

@@ -1,36 +1,32 @@
-use mathlib.Core.Path.{_≡_}
-use native.Mathlib.Omega.{arith}
-use Rattle.model.specs.Recipe.{columnsOf}
-use Rattle.codes.proofs.CheckLaws.{few-columns, late-columns}
+use Rattle.codes.specs.Codes.{columnsTaken}
 use Rattle.codes.proofs.check.columns_of.Statement.{statement}
 use Rattle.codes.proofs.check.columns_of.Tie as tie
 
+enum-known-o : tie.Need-enum-known-o
+enum-known-o c = search
+
+takes-requires : tie.Need-takes-requires
+takes-requires c κs = search
+
+enum-told : tie.Need-enum-told
+enum-told c = search
+
+enum-told-2 : tie.Need-enum-told-2
+enum-told-2 c = search
+
 returns : tie.Need-returns
-returns c = few-columns _ (c .if1 .taken)
+unfolding columnsTaken
+returns c = rw (c .before .before .o .given .1, c .takes .ensures)
 
 returns-2 : tie.Need-returns-2
-returns-2 c = late-columns _ (c .if2 .taken)
+unfolding columnsTaken
+returns-2 c = rw (c .enum-told .given .1)
 
 returns-3 : tie.Need-returns-3
-unfolding columnsOf
-returns-3 c = rw (c .match .keys1)
-
-returns-4 : tie.Need-returns-4
-unfolding columnsOf
-returns-4 c = rw (c .match .keys2)
-
-returns-5 : tie.Need-returns-5
-unfolding columnsOf
-returns-5 c = rw (c .match .keys3)
-
-returns-6 : tie.Need-returns-6
-unfolding columnsOf
-returns-6 c = rw (c .match .keys4)
-
-returns-7 : tie.Need-returns-7
-unfolding columnsOf
-returns-7 c = let e : c .before .before .before .args .code ≡ 8 = omega (arith, c .before .if2 .left, c .before .before .if1 .left) in rw e
+unfolding columnsTaken
+returns-3 c = rw (c .enum-told2 .given .1)
 
 pub columns-of-spec : {M : Type 1} → statement M
 columns-of-spec =
-    tie.close (tie.spec returns returns-2 returns-3 returns-4 returns-5 returns-6 returns-7)
+    tie.close
+    (tie.spec enum-known-o takes-requires enum-told enum-told-2 returns returns-2 returns-3)

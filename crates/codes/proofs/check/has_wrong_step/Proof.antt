@@ -1,4 +1,3 @@
-use borrow.Author.Needs.{needs}
 use mathlib.Core.Path.{_≡_, refl, sym, _∙_}
 use Prim.Native.Nat.{_+_}
 use native.Mathlib.Omega.{arith}
@@ -54,7 +53,7 @@ shared-slice-read-is-wrong-step-4 : tie.Need-shared-slice-read-is-wrong-step-4 I
 shared-slice-read-is-wrong-step-4 c = omega (arith, c .before .before .before .before .before .loop .inv .1, c .before .before .before .before .loop-test .taken, c .before .before .before .before .before .before .before .pre, c .before .before .before .before .before .before .before .good .0)
 
 is-wrong-step-requires : tie.Need-is-wrong-step-requires Inv-loop μ-loop
-is-wrong-step-requires c κs = search needs
+is-wrong-step-requires c κs = search
 
 returns : tie.Need-returns Inv-loop μ-loop
 returns c = let l = c .before .before .before .before .before .before .before in let a = c .before .before .before .before .before .before .before .before .before .args in sym (sym (l .loop .inv .0) ∙ any-here (wrongStep (a .columns)) (stepAt (a .recipe .now)) (l .loop .k) (l .loop .left) (c .before .before .before .before .before .before .loop-test .taken) (sym (c .before .is-wrong-step .ensures) ∙ c .if1 .taken))

@@ -3,7 +3,6 @@ use native.Mathlib.Omega.{arith}
 use lib.ListN.{length}
 use Prim.Native.Nat.{_%_, _/_}
 use Rattle.model.specs.Recipe.{malformed, stepsOf}
-use borrow.Author.Needs.{needs}
 use Rattle.codes.proofs.check.is_malformed.Statement.{statement}
 use Rattle.codes.proofs.check.is_malformed.Tie as tie
 

@@ -1,18 +1,48 @@
--- A refusal of the sizes, or the call on arrays that are cut to them.
-use borrow.Author.Needs.{needs}
+-- A refusal of the sizes, or the operation and its answer sent.
 use mathlib.Core.Path.{refl, sym, _∙_}
 use mathlib.Core.List.{List, _++_}
-use Prim.Native.Nat.{_/_, _≤_}
 use lib.ListN.{length}
-use lib.Seq.{length-take-le}
 use Rattle.entry.specs.Entry.{Numbers, listSizes, valueSizes}
-use Rattle.entry.proofs.SizeLaws.{Sized, sized, all-left, all-right, ListFits, list-fits, value-fits}
+use Rattle.entry.proofs.SizeLaws.{Sized, sized, all-left, all-right, list-fits, value-fits}
+use Rattle.entry.proofs.AnswerLaws.{values-ready, value-returns}
 use Rattle.entry.proofs.EntryLaws.{size-refused, called, value-refused, value-as}
+use borrow.Author.Needs.{needs}
 use Rattle.entries.proofs.element.enter.Statement.{statement}
 use Rattle.entries.proofs.element.enter.Tie as tie
 
+-- the places that are used below
+abbrev run-of-put-values-arg2 : tie.After-put-values-arg2 → tie.After-run
+run-of-put-values-arg2 p = p .before .before .before .before .before .before
+
+abbrev else1-of-put-values-arg2 : tie.After-put-values-arg2 → tie.Else1
+else1-of-put-values-arg2 p = p .before .before .before .before .before .before .before .before .before
+
+abbrev shared-slice-known5-of-else1 : tie.Else1 → tie.After-shared-slice-known5
+shared-slice-known5-of-else1 p = p .before .before .before .before .before .before
+
+abbrev start-of-shared-slice-known5 : tie.After-shared-slice-known5 → tie.Start
+start-of-shared-slice-known5 p = p .before .before .before .before .before
+
+abbrev start-of-else1 : tie.Else1 → tie.Start
+start-of-else1 p = start-of-shared-slice-known5 (shared-slice-known5-of-else1 p)
+
+abbrev run-of-slice-known6 : tie.After-slice-known6 → tie.After-run
+run-of-slice-known6 p = run-of-put-values-arg2 (p .before .before .before .before .before)
+
+abbrev else1-of-slice-known6 : tie.After-slice-known6 → tie.Else1
+else1-of-slice-known6 p = else1-of-put-values-arg2 (p .before .before .before .before .before)
+
+abbrev slice-known4-of-slice-known6 : tie.After-slice-known6 → tie.After-slice-known4
+slice-known4-of-slice-known6 p = p .before .before .before .before .before .before .before .before
+
+abbrev element-refusal-of-slice-known4 : tie.After-slice-known4 → tie.After-element-refusal
+element-refusal-of-slice-known4 p = p .before .before .before .before .before .before .before
+
+abbrev element-refusal-of-slice-known6 : tie.After-slice-known6 → tie.After-element-refusal
+element-refusal-of-slice-known6 p = element-refusal-of-slice-known4 (slice-known4-of-slice-known6 p)
+
 abbrev S : tie.Else1 → tie.Start
-S e = e .before .before .before .before .before .before .before .before .before .before .before
+S e = start-of-else1 e
 
 abbrev lists : tie.Else1 → List Numbers
 lists e = listSizes (length (S e .args .offsets .now)) (length (S e .args .values .now))
@@ -27,76 +57,43 @@ outs e = valueSizes (length (S e .args .out-values .now))
 passed : (e : tie.Else1) → Sized ((lists e ++ arguments e) ++ outs e) (length (S e .args .counts .now)) 16
 passed e = sized _ _ _ (sym (e .before .element-refusal .ensures) ∙ e .if1 .left)
 
-list : (e : tie.Else1) → let a = S e .args in ListFits (length (a .offsets .now)) (length (a .values .now)) (length (a .o .now)) (length (a .v .now))
-list e = list-fits _ _ (all-left (lists e) (arguments e) (all-left (lists e ++ arguments e) (outs e) (passed e .fit))) (S e .pre .0)
-
-index : (e : tie.Else1) → let a = S e .args in length (a .indexes .now) / 8 ≤ length (a .i .now)
-index e = value-fits _ (all-right (lists e) (arguments e) (all-left (lists e ++ arguments e) (outs e) (passed e .fit))) (S e .pre .1 .0)
-
-answer : (e : tie.Else1) → let a = S e .args in length (a .out-values .now) / 8 ≤ length (a .ov .now)
-answer e = value-fits _ (all-right (lists e ++ arguments e) (outs e) (passed e .fit)) (S e .pre .1 .1)
-
 element-refusal-requires : tie.Need-element-refusal-requires
 element-refusal-requires c κs = search needs
 
 returns : tie.Need-returns
 returns c = value-refused _ (size-refused _ _ refl (c .before .element-refusal .ensures) (c .if1 .taken))
 
-slice-relend-prefix-run : tie.Need-slice-relend-prefix-run
-slice-relend-prefix-run c = list (c .before .before .before) .offsets
-
 slice-aggregate-run : tie.Need-slice-aggregate-run
-slice-aggregate-run c = sym (length-take-le _ _ (list (c .before .before .before .before) .offsets))
-
-slice-relend-prefix-run-2 : tie.Need-slice-relend-prefix-run-2
-slice-relend-prefix-run-2 c = list (c .before .before .before .before) .values
-
-slice-aggregate-run-2 : tie.Need-slice-aggregate-run-2
-slice-aggregate-run-2 c = sym (length-take-le _ _ (list (c .before .before .before .before .before) .values))
-
-slice-relend-prefix-run-3 : tie.Need-slice-relend-prefix-run-3
-slice-relend-prefix-run-3 c = index (c .before .before .before .before .before)
-
-slice-aggregate-run-3 : tie.Need-slice-aggregate-run-3
-slice-aggregate-run-3 c = sym (length-take-le _ _ (index (c .before .before .before .before .before .before)))
-
-slice-relend-prefix-run-4 : tie.Need-slice-relend-prefix-run-4
-slice-relend-prefix-run-4 c = answer (c .before .before .before .before .before .before)
-
-slice-aggregate-run-4 : tie.Need-slice-aggregate-run-4
-slice-aggregate-run-4 c = sym (length-take-le _ _ (answer (c .before .before .before .before .before .before .before)))
+slice-aggregate-run c = search needs
 
 run-requires : tie.Need-run-requires
 run-requires c κs =
-    let e = c .before .before .before .before .before .before .before in
-    (record { offsets = length-take-le _ _ (list e .offsets); values = length-take-le _ _ (list e .values) }, (length-take-le _ _ (index e), (length-take-le _ _ (answer e), passed e .counts)))
+    let e = c .before .before in
+    let i = all-left (lists e ++ arguments e) (outs e) (passed e .fit) in
+    (list-fits _ _ (all-left (lists e) (arguments e) i), (value-fits _ (all-right (lists e) (arguments e) i), value-fits _ (all-right (lists e ++ arguments e) (outs e) (passed e .fit))))
+
+slice-aggregate-put-values : tie.Need-slice-aggregate-put-values
+slice-aggregate-put-values c = search needs
+
+put-values-requires : tie.Need-put-values-requires
+put-values-requires c κs =
+    let e = else1-of-put-values-arg2 c in
+    let r = run-of-put-values-arg2 c in
+    values-ready (r .run .ensures) (rw (r .run .kept .1 .1 .1 .1 .1 .1 .1 .0) (value-fits _ (all-right (lists e ++ arguments e) (outs e) (passed e .fit)))) refl (passed e .counts)
 
 same-length : tie.Need-same-length
-same-length c = search needs
+same-length c = c .before .before .before .before .put-values .kept .1 .1 .0
 
 same-length-2 : tie.Need-same-length-2
-same-length-2 c = search needs
+same-length-2 c = run-of-slice-known6 c .run .kept .1 .1 .1 .1 .1 .1 .1 .1 .0
 
 same-length-3 : tie.Need-same-length-3
-same-length-3 c = search needs
-
-same-length-4 : tie.Need-same-length-4
-same-length-4 c = search needs
-
-same-length-5 : tie.Need-same-length-5
-same-length-5 c = search needs
-
-same-length-6 : tie.Need-same-length-6
-same-length-6 c = search needs
-
-same-length-7 : tie.Need-same-length-7
-same-length-7 c = search needs
+same-length-3 c = c .before .before .before .before .put-values .kept .1 .1 .1 .0
 
 returns-2 : tie.Need-returns-2
 returns-2 c =
-    let r = c .before .before .before .before .before .before .before .before .before .before in
-    let e = r .before .before .before .before .before .before .before .before in
-    value-as (called _ _ refl (e .before .element-refusal .ensures) (e .if1 .left)) (r .run .ensures)
+    let e = else1-of-slice-known6 c in
+    value-as (called _ _ refl (element-refusal-of-slice-known6 c .element-refusal .ensures) (e .if1 .left)) (value-returns (run-of-slice-known6 c .run .ensures) (c .before .before .before .before .put-values .ensures))
 
 pub enter-spec : {M : Type 1} → statement M
 enter-spec =
@@ -104,20 +101,11 @@ enter-spec =
     (tie.spec
     element-refusal-requires
     returns
-    slice-relend-prefix-run
     slice-aggregate-run
-    slice-relend-prefix-run-2
-    slice-aggregate-run-2
-    slice-relend-prefix-run-3
-    slice-aggregate-run-3
-    slice-relend-prefix-run-4
-    slice-aggregate-run-4
     run-requires
+    slice-aggregate-put-values
+    put-values-requires
     same-length
     same-length-2
     same-length-3
-    same-length-4
-    same-length-5
-    same-length-6
-    same-length-7
     returns-2)

@@ -3,7 +3,7 @@ use borrow.Author.Needs.{needs}
 use mathlib.Core.Path.{sym}
 use native.Mathlib.Omega.{arith}
 use lib.Seq.{length-take-le}
-use Rattle.entry.proofs.AnswerLaws.{sent-refused, sent-made, counted}
+use Rattle.entry.proofs.AnswerLaws.{sent-refused, sent-made, counted, counted-bytes}
 use Rattle.entry.proofs.answers.put_list.Statement.{statement}
 use Rattle.entry.proofs.answers.put_list.Tie as tie
 
@@ -31,7 +31,7 @@ encode-i32-requires c κs =
     let a = c .before .before .before in
     let s = a .before .before .before .before .before in
     let k = counted (a .answer2 .given .1) (s .pre) in
-    rw (length-take-le _ _ (k .0)) (omega (arith, k .0, s .pre .offset-bytes))
+    rw (length-take-le _ _ (k .0)) (counted-bytes (a .answer2 .given .1) (s .pre) .0)
 
 slice-aggregate-encode-i64 : tie.Need-slice-aggregate-encode-i64
 slice-aggregate-encode-i64 c =
@@ -43,7 +43,7 @@ encode-i64-requires c κs =
     let a = c .before .before .before .before .before .before .before .before in
     let s = a .before .before .before .before .before in
     let k = counted (a .answer2 .given .1) (s .pre) in
-    rw (length-take-le _ _ (k .1)) (omega (arith, k .1, s .pre .value-bytes))
+    rw (length-take-le _ _ (k .1)) (counted-bytes (a .answer2 .given .1) (s .pre) .1)
 
 put-counts-requires : tie.Need-put-counts-requires
 put-counts-requires c κs = search needs

@@ -3,7 +3,7 @@ use borrow.Author.Needs.{needs}
 use mathlib.Core.Path.{sym}
 use native.Mathlib.Omega.{arith}
 use lib.Seq.{length-take-le}
-use Rattle.entry.proofs.AnswerLaws.{values-refused, values-made, counted-values}
+use Rattle.entry.proofs.AnswerLaws.{values-refused, values-made, counted-values, counted-value-bytes}
 use Rattle.entry.proofs.answers.put_values.Statement.{statement}
 use Rattle.entry.proofs.answers.put_values.Tie as tie
 
@@ -26,7 +26,7 @@ encode-i64-requires c κs =
     let a = c .before .before .before in
     let s = a .before .before .before .before in
     let k = counted-values (a .answer2 .given .1) (s .pre) in
-    rw (length-take-le _ _ k) (omega (arith, k, s .pre .value-bytes))
+    rw (length-take-le _ _ k) (counted-value-bytes (a .answer2 .given .1) (s .pre))
 
 put-value-counts-requires : tie.Need-put-value-counts-requires
 put-value-counts-requires c κs = search needs

@@ -3,7 +3,6 @@ use mathlib.Core.Bool.{true}
 use lib.IntN.{pos}
 use mir.Syntax.{w32, w64}
 use mir.Val.{SFits, toZ, ofZ}
-use borrow.Author.Needs.{needs}
 use borrow.Author.Tests.{not-true, not-false}
 use Rattle.model.specs.Column.{count}
 use Rattle.model.specs.Limits.{narrow}
@@ -39,7 +38,7 @@ module _ (c : tie.After-from-place) where
   read-place = read-back w32 _ (record { sfits = c .from-place .ok })
 
 fits-i32-requires : tie.Need-fits-i32-requires
-fits-i32-requires c κs = search needs
+fits-i32-requires c κs = search
 
 returns : tie.Need-returns
 returns c = from-unfit _ _ (rw (read-index (c .before .before)) at (sym (c .before .fits-i32 .ensures) ∙ not-true _ (c .if1 .taken)))

@@ -2,7 +2,6 @@ use mathlib.Core.Path.{_≡_, sym, _∙_}
 use mathlib.Core.Bool.{true}
 use mir.Syntax.{w32, w64}
 use mir.Val.{SFits, toZ, ofZ}
-use borrow.Author.Needs.{needs}
 use borrow.Author.Tests.{not-true, not-false}
 use Rattle.model.specs.Limits.{narrow}
 use Rattle.model.specs.Slice.{fits}
@@ -27,7 +26,7 @@ module _ (c : tie.Else1) where
   index-small = fits-signed _ index-fits
 
 fits-i32-requires : tie.Need-fits-i32-requires
-fits-i32-requires c κs = search needs
+fits-i32-requires c κs = search
 
 returns : tie.Need-returns
 returns c = to-unfit _ _ (rw (read-index (c .before .before)) at (sym (c .before .fits-i32 .ensures) ∙ not-true _ (c .if1 .taken)))

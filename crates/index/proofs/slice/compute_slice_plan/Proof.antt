@@ -2,7 +2,6 @@ use mathlib.Core.Path.{_≡_, _∙_}
 use Prim.Native.Nat.{_<_}
 use mir.Syntax.{w32, w64}
 use mir.Val.{toZ, ofZ}
-use borrow.Author.Needs.{needs}
 use Rattle.model.specs.Column.{count}
 use Rattle.model.specs.Limits.{narrow}
 use Rattle.model.specs.Slice.{fromBound, toBound}
@@ -32,13 +31,13 @@ returns : tie.Need-returns
 returns c = plan-empty-row _ _ _ _ (length-none _ (rw (read-len (c .before)) at (c .if1 .taken)))
 
 adjusted-from-index-requires : tie.Need-adjusted-from-index-requires
-adjusted-from-index-requires c κs = search needs
+adjusted-from-index-requires c κs = search
 
 adjusted-to-index-requires : tie.Need-adjusted-to-index-requires
-adjusted-to-index-requires c κs = search needs
+adjusted-to-index-requires c κs = search
 
 stride-of-requires : tie.Need-stride-of-requires
-stride-of-requires c κs = search needs
+stride-of-requires c κs = search
 
 plan-between-requires : tie.Need-plan-between-requires
 plan-between-requires c κs =

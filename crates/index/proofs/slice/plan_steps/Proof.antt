@@ -65,7 +65,7 @@ returns-2 : tie.Need-returns-2
 returns-2 c = stride-against _ _ _ (some (c .before .before)) (sym (direction (c .before)) ∙ c .if2 .taken)
 
 fits-i32-requires : tie.Need-fits-i32-requires
-fits-i32-requires c κs = search needs
+fits-i32-requires c κs = search
 
 returns-3 : tie.Need-returns-3
 returns-3 c = stride-unfit _ _ _ (some (c .before .before .before .before)) (not-against (c .before .before)) (sym (size (c .before)) ∙ not-true _ (c .if3 .taken))

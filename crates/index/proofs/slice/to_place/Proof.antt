@@ -2,7 +2,6 @@ use mathlib.Core.Path.{_≡_, sym, ap, _∙_}
 use lib.IntN.{pos, _-ℤ_}
 use mir.Syntax.{w32}
 use mir.Val.{SFits, toZ, ofZ}
-use borrow.Author.Needs.{needs}
 use Rattle.index.specs.Place.{bound}
 use Rattle.index.proofs.SignedLaws.{read-back, less-one-fits}
 use Rattle.index.proofs.SliceLaws.{some-positive, to-past, to-index}
@@ -29,7 +28,7 @@ returns : tie.Need-returns
 returns c = let s = c .before in rw (read-last s) (to-past _ _ (s .pre) (rw (read-last s, read-index s) at (c .if1 .taken)))
 
 index-place-requires : tie.Need-index-place-requires
-index-place-requires c κs = search needs
+index-place-requires c κs = search
 
 returns-2 : tie.Need-returns-2
 returns-2 c =

@@ -1,4 +1,3 @@
-use borrow.Author.Needs.{needs}
 use mathlib.Core.Path.{sym, _∙_}
 use native.Mathlib.Omega.{arith}
 use lib.ListN.{length}
@@ -9,8 +8,9 @@ use Rattle.model.specs.Form.{ValueRoom}
 use Rattle.model.proofs.OutcomeLaws.{gate-open, gate-shut}
 use Rattle.column.proofs.AnswerLaws.{value-refused}
 use Rattle.column.proofs.WalkLaws.{readable}
-use Rattle.lists.proofs.ValueLaws.{any-outcome}
-use Rattle.values.specs.Values.{Indexed}
+use Rattle.value_places.proofs.CallLaws.{any-outcome}
+use Rattle.value_places.specs.Values.{Indexed}
+use borrow.Author.Needs.{needs}
 use Rattle.lists.proofs.extract.general_array_any_value.Statement.{statement}
 use Rattle.lists.proofs.extract.general_array_any_value.Tie as tie
 
@@ -44,10 +44,10 @@ write-fitting-requires c κs =
     (readable (C (S f)) (omega arith) (omega arith) (sym (f .list-refusal .ensures) ∙ e .if1 .left), tt)
 
 same-length : tie.Need-same-length
-same-length c = search needs
+same-length c = search
 
 same-length-2 : tie.Need-same-length-2
-same-length-2 c = search needs
+same-length-2 c = search
 
 returns-2 : tie.Need-returns-2
 returns-2 c =

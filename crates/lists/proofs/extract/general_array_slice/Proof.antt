@@ -1,25 +1,25 @@
-use Rattle.lists.proofs.CallLaws.{slice-call}
+use Rattle.optional_ops.proofs.CallLaws.{slice-call}
 use borrow.Author.Needs.{needs}
 use Rattle.lists.proofs.extract.general_array_slice.Statement.{statement}
 use Rattle.lists.proofs.extract.general_array_slice.Tie as tie
 
 slice-by-requires : tie.Need-slice-by-requires
-slice-by-requires c κs = search needs
+slice-by-requires c κs = search
 
 run-requires : tie.Need-run-requires
 run-requires c κs = search needs
 
 same-length : tie.Need-same-length
-same-length c = search needs
+same-length c = search
 
 same-length-2 : tie.Need-same-length-2
-same-length-2 c = search needs
+same-length-2 c = search
 
 same-length-3 : tie.Need-same-length-3
-same-length-3 c = search needs
+same-length-3 c = search
 
 same-length-4 : tie.Need-same-length-4
-same-length-4 c = search needs
+same-length-4 c = search
 
 returns : tie.Need-returns
 returns c = rw (slice-call, ← c .before .before .before .before .before .before .before .before .before .before .before .slice-by .ensures) (c .before .before .before .before .before .before .run .ensures)

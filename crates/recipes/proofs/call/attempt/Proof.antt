@@ -1,20 +1,42 @@
-use mathlib.Core.Path.{_≡_, sym, _∙_}
-use mathlib.Core.List.{[], _∷_}
+use mathlib.Core.Path.{_≡_, refl, sym, ap, _∙_}
+use Prim.Native.Nat.{ℕ, _*_}
 use native.Mathlib.Omega.{arith}
 use lib.ListN.{length}
 use Rattle.model.specs.Bitmap.{from}
-use Rattle.model.specs.Column.{Column, column, Arguments, arguments, rowCount, refusal2ᵃ}
+use Rattle.model.specs.Column.{Column, column, Arguments, arguments, refusal2ᵃ}
 use Rattle.model.specs.Contract.{room}
-use Rattle.model.proofs.OutcomeLaws.{gate-open, gate-shut}
+use Rattle.model.specs.Form.{Room}
+use Rattle.column.specs.Put.{Readable}
 use Rattle.column.proofs.AnswerLaws.{list-refused}
 use Rattle.column.proofs.WalkLaws.{readable}
-use Rattle.sets.proofs.SetLaws.{both-formed}
+use Rattle.set_checks.proofs.RefusalLaws.{both-formed}
+use Rattle.step.specs.Step.{Beside, front}
+use Rattle.recipe_refusal.specs.Refused.{recipeRefusal}
+use Rattle.recipe_refusal.proofs.RefusalLaws.{Passed, passed}
 use Rattle.recipes.specs.Recipes.{recipe}
-use Rattle.recipes.proofs.CallLaws.{outcome-is}
-use Rattle.recipes.proofs.FitLaws.{Passed, passed, all-fit}
-use borrow.Author.Needs.{needs}
+use Rattle.recipes.proofs.CallLaws.{call-refused, call-copy, call-steps}
+use Rattle.recipes.proofs.FitLaws.{all-steps}
 use Rattle.recipes.proofs.call.attempt.Statement.{statement}
 use Rattle.recipes.proofs.call.attempt.Tie as tie
+
+-- ---- places: the start; a copy, before it and after it; the steps, before them and after them
+
+abbrev S : tie.After-refusal → tie.Start
+S c = let k = c .before .before .before .before .before .before .before in k .before .before .before .before .before .before
+
+abbrev none : tie.After-copy-arg4 → tie.Then2
+none c = c .before .before .before .before
+
+abbrev copied : tie.After-slice-known8 → tie.After-copy
+copied c = c .before .before .before .before .before .before
+
+abbrev counted : tie.After-steps-arg12 → tie.After-row-count
+counted c = let g = c .before .before .before .before .before .before in g .before .before .before .before .before .before
+
+abbrev went : tie.After-slice-known14 → tie.After-steps
+went c = let g = c .before .before .before .before .before .before .before .before .before in g .before .before .before .before .before .before .before .before .before
+
+-- ---- columns, and the lengths of the trays and the output
 
 abbrev C : tie.Start → Column
 C s = let a = s .args in column (a .offsets .now) (from (a .rstart) (a .rows .now)) (a .values .now) (from (a .estart) (a .elements .now))
@@ -25,75 +47,123 @@ D s = let a = s .args in column (a .roffsets .now) (from (a .r-rstart) (a .rrows
 abbrev A : tie.Start → Arguments
 A s = arguments (s .args .args .now) (from (s .args .start) (s .args .bits .now))
 
-abbrev S : tie.After-refusal → tie.Start
-S r = r .before .before .before .before .before .before .before .before .before .before .before .before .before
+abbrev One : tie.Start → Room
+One s = let a = s .args in room (length (a .one-offsets .now)) (length (a .one-rows .now)) (length (a .one-values .now)) (length (a .one-elements .now))
+
+abbrev Two : tie.Start → Room
+Two s = let a = s .args in room (length (a .two-offsets .now)) (length (a .two-rows .now)) (length (a .two-values .now)) (length (a .two-elements .now))
+
+abbrev Out : tie.Start → Room
+Out s = let a = s .args in room (length (a .out-offsets .now)) (length (a .out-rows .now)) (length (a .out-values .now)) (length (a .out-elements .now))
+
+-- ---- a recipe that nothing refuses
+
+none-refused : (e : tie.Else1) → let s = S (e .before) in recipeRefusal (recipe (s .args .numbers .now) (s .args .columns)) (C s) (D s) (A s) ≡ 0
+none-refused e = sym (e .before .refusal .ensures) ∙ e .if1 .left
 
 passes : (e : tie.Else1) → let s = S (e .before) in Passed (s .args .numbers .now) (s .args .columns) (C s) (D s) (A s)
-passes e = let s = S (e .before) in passed (s .args .numbers .now) (s .args .columns) (C s) (D s) (A s) (sym (e .before .refusal .ensures) ∙ e .if1 .left)
+passes e = let s = S (e .before) in passed (s .args .numbers .now) (s .args .columns) (C s) (D s) (A s) (none-refused e)
+
+reads : (e : tie.Else1) → Readable (C (S (e .before)))
+reads e = let s = S (e .before) in readable (C s) (omega (arith, s .pre .0)) (omega (arith, s .pre .1 .0)) (both-formed (C s) (D s) (passes e .lists) .0)
+
+besides : (r : tie.After-row-count) → let s = S (r .before .before .before) in Beside (r .row-count .result) (D s) (A s)
+unfolding refusal2ᵃ
+besides r =
+    let e = r .before .before in
+    let s = S (e .before) in
+    record {
+      second = readable (D s) (omega (arith, s .pre .1 .1 .0)) (omega (arith, s .pre .1 .1 .1 .0)) (both-formed (C s) (D s) (passes e .lists) .1);
+      rows = passes e .equal ∙ sym (r .row-count .ensures);
+      bits = record { small = s .pre .1 .1 .1 .1; long = passes e .long };
+    }
+
+-- ---- needs
 
 refusal-requires : tie.Need-refusal-requires
-refusal-requires c κs = search needs
+refusal-requires c κs = let k = c .before .before .before .before .before .before in k .before .before .before .before .before .before .pre
 
 returns : tie.Need-returns
-returns c =
-    let s = S (c .before) in
-    let a = s .args in
-    list-refused _ (outcome-is (recipe (a .numbers .now) (a .columns)) (C s) (D s) (A s) (room (length (a .one-offsets .now)) (length (a .one-rows .now)) (length (a .one-values .now)) (length (a .one-elements .now))) (room (length (a .two-offsets .now)) (length (a .two-rows .now)) (length (a .two-values .now)) (length (a .two-elements .now))) (room (length (a .out-offsets .now)) (length (a .out-rows .now)) (length (a .out-values .now)) (length (a .out-elements .now))) ∙ rw (← c .before .refusal .ensures) (gate-shut _ _ (c .if1 .taken)))
+returns c = let s = S (c .before) in let a = s .args in list-refused _ (call-refused (a .numbers .now) (a .columns) (C s) (D s) (A s) (One s) (Two s) (Out s) _ (c .before .refusal .ensures) (c .if1 .taken))
 
-row-count-requires : tie.Need-row-count-requires
-row-count-requires c κs = search needs
-
-take-steps-requires : tie.Need-take-steps-requires
-unfolding refusal2ᵃ
-take-steps-requires c κs =
-    let s = S (c .before .before .before .before .before .before .before .before .before .before .before .before .before .before) in
-    let a = s .args in
-    let p = passes (c .before .before .before .before .before .before .before .before .before .before .before .before .before) in
-    let n = c .before .before .before .before .before .before .before .before .before .before .before .before .row-count .ensures in
-    let b = both-formed (C s) (D s) (p .lists) in
-    (readable (C s) (omega (arith, s .pre .0)) (omega (arith, s .pre .1 .0)) (b .0), (sym n, (record { second = readable (D s) (omega (arith, s .pre .1 .1 .0)) (omega (arith, s .pre .1 .1 .1 .0)) (b .1); rows = p .equal ∙ sym n; bits = record { small = s .pre .1 .1 .1 .1; long = p .long } }, rw n (all-fit (a .numbers .now) (a .columns) (rowCount (C s .offsets)) (length (a .args .now)) (p .formed) (p .many)))))
+copy-requires : tie.Need-copy-requires
+copy-requires c κs = reads (none c .before)
 
 same-length : tie.Need-same-length
-same-length c = search needs
+same-length c = search
 
 same-length-2 : tie.Need-same-length-2
-same-length-2 c = search needs
+same-length-2 c = search
 
 same-length-3 : tie.Need-same-length-3
-same-length-3 c = search needs
+same-length-3 c = search
 
 same-length-4 : tie.Need-same-length-4
-same-length-4 c = search needs
-
-same-length-5 : tie.Need-same-length-5
-same-length-5 c = search needs
-
-same-length-6 : tie.Need-same-length-6
-same-length-6 c = search needs
-
-same-length-7 : tie.Need-same-length-7
-same-length-7 c = search needs
-
-same-length-8 : tie.Need-same-length-8
-same-length-8 c = search needs
-
-same-length-9 : tie.Need-same-length-9
-same-length-9 c = search needs
-
-same-length-10 : tie.Need-same-length-10
-same-length-10 c = search needs
-
-same-length-11 : tie.Need-same-length-11
-same-length-11 c = search needs
-
-same-length-12 : tie.Need-same-length-12
-same-length-12 c = search needs
+same-length-4 c = search
 
 returns-2 : tie.Need-returns-2
 returns-2 c =
-    let s = S (c .before .before .before .before .before .before .before .before .before .before .before .before .before .before .before .before .before .before .before .before .before .before .before .before .before .before .before .before .before .before .before .before .before) in
+    let w = copied c in
+    let t = none (w .before) in
+    let s = S (t .before .before) in
     let a = s .args in
-    rw (outcome-is (recipe (a .numbers .now) (a .columns)) (C s) (D s) (A s) (room (length (a .one-offsets .now)) (length (a .one-rows .now)) (length (a .one-values .now)) (length (a .one-elements .now))) (room (length (a .two-offsets .now)) (length (a .two-rows .now)) (length (a .two-values .now)) (length (a .two-elements .now))) (room (length (a .out-offsets .now)) (length (a .out-rows .now)) (length (a .out-values .now)) (length (a .out-elements .now))), gate-open _ _ (sym (c .before .before .before .before .before .before .before .before .before .before .before .before .before .before .before .before .before .before .before .before .before .before .before .before .before .before .before .before .before .before .before .before .before .refusal .ensures) ∙ c .before .before .before .before .before .before .before .before .before .before .before .before .before .before .before .before .before .before .before .before .before .before .before .before .before .before .before .before .before .before .before .before .if1 .left)) (c .before .before .before .before .before .before .before .before .before .before .before .before .before .before .before .before .before .before .take-steps .ensures)
+    rw (call-copy (a .numbers .now) (a .columns) (C s) (D s) (A s) (One s) (Two s) (Out s) (none-refused (t .before)) (t .if2 .taken)) (w .copy .ensures)
+
+row-count-requires : tie.Need-row-count-requires
+row-count-requires c κs = tt
+
+steps-requires : tie.Need-steps-requires
+steps-requires c κs =
+    let r = counted c in
+    let e = r .before .before in
+    let s = S (e .before) in
+    let a = s .args in
+    (all-steps (a .numbers .now) (a .columns) (r .row-count .result) (length (a .args .now)) (passes e .formed) (passes e .many ∙ ap (λ (n : ℕ). a .columns * n) (sym (r .row-count .ensures))) (r .before .if2 .left), (record { first = λ _. reads e; rows = λ _. sym (r .row-count .ensures); later = λ h. absurd (h refl) }, besides r))
+
+same-length-5 : tie.Need-same-length-5
+same-length-5 c = went c .steps .kept .1 .1 .1 .1 .1 .1 .1 .1 .1 .1 .1 .1 .1 .1 .1 .1 .1 .1 .1 .1 .1 .1 .1 .1 .0
+
+same-length-6 : tie.Need-same-length-6
+same-length-6 c = went c .steps .kept .1 .1 .1 .1 .1 .1 .1 .1 .1 .1 .1 .1 .1 .1 .1 .1 .1 .1 .1 .1 .1 .1 .1 .1 .1 .0
+
+same-length-7 : tie.Need-same-length-7
+same-length-7 c = went c .steps .kept .1 .1 .1 .1 .1 .1 .1 .1 .1 .1 .1 .1 .1 .1 .1 .1 .1 .1 .1 .1 .1 .1 .1 .1 .1 .1 .0
+
+same-length-8 : tie.Need-same-length-8
+same-length-8 c = went c .steps .kept .1 .1 .1 .1 .1 .1 .1 .1 .1 .1 .1 .1 .1 .1 .1 .1 .1 .1 .1 .1 .1 .1 .1 .1 .1 .1 .1 .0
+
+same-length-9 : tie.Need-same-length-9
+same-length-9 c = went c .steps .kept .1 .1 .1 .1 .1 .1 .1 .1 .1 .1 .1 .1 .1 .1 .1 .1 .1 .1 .1 .1 .0
+
+same-length-10 : tie.Need-same-length-10
+same-length-10 c = went c .steps .kept .1 .1 .1 .1 .1 .1 .1 .1 .1 .1 .1 .1 .1 .1 .1 .1 .1 .1 .1 .1 .1 .0
+
+same-length-11 : tie.Need-same-length-11
+same-length-11 c = went c .steps .kept .1 .1 .1 .1 .1 .1 .1 .1 .1 .1 .1 .1 .1 .1 .1 .1 .1 .1 .1 .1 .1 .1 .0
+
+same-length-12 : tie.Need-same-length-12
+same-length-12 c = went c .steps .kept .1 .1 .1 .1 .1 .1 .1 .1 .1 .1 .1 .1 .1 .1 .1 .1 .1 .1 .1 .1 .1 .1 .1 .0
+
+same-length-13 : tie.Need-same-length-13
+same-length-13 c = went c .steps .kept .1 .1 .1 .1 .1 .1 .1 .1 .1 .1 .1 .1 .1 .1 .1 .1 .1 .1 .1 .1 .1 .1 .1 .1 .1 .1 .1 .1 .0
+
+same-length-14 : tie.Need-same-length-14
+same-length-14 c = went c .steps .kept .1 .1 .1 .1 .1 .1 .1 .1 .1 .1 .1 .1 .1 .1 .1 .1 .1 .1 .1 .1 .1 .1 .1 .1 .1 .1 .1 .1 .1 .0
+
+same-length-15 : tie.Need-same-length-15
+same-length-15 c = went c .steps .kept .1 .1 .1 .1 .1 .1 .1 .1 .1 .1 .1 .1 .1 .1 .1 .1 .1 .1 .1 .1 .1 .1 .1 .1 .1 .1 .1 .1 .1 .1 .0
+
+same-length-16 : tie.Need-same-length-16
+same-length-16 c = went c .steps .kept .1 .1 .1 .1 .1 .1 .1 .1 .1 .1 .1 .1 .1 .1 .1 .1 .1 .1 .1 .1 .1 .1 .1 .1 .1 .1 .1 .1 .1 .1 .1 .0
+
+returns-3 : tie.Need-returns-3
+returns-3 c =
+    let w = went c in
+    let r = counted (w .before) in
+    let e = r .before .before in
+    let s = S (e .before) in
+    let a = s .args in
+    rw (call-steps (a .numbers .now) (a .columns) (C s) (D s) (A s) (One s) (Two s) (Out s) (none-refused e) (front (a .two-offsets .now) (a .two-rows .now) (a .two-values .now) (a .two-elements .now) (r .row-count .result) 0) (r .before .if2 .left)) (w .steps .ensures)
 
 pub attempt-spec : {M : Type 1} → statement M
 attempt-spec =
@@ -101,12 +171,14 @@ attempt-spec =
     (tie.spec
     refusal-requires
     returns
-    row-count-requires
-    take-steps-requires
+    copy-requires
     same-length
     same-length-2
     same-length-3
     same-length-4
+    returns-2
+    row-count-requires
+    steps-requires
     same-length-5
     same-length-6
     same-length-7
@@ -115,4 +187,8 @@ attempt-spec =
     same-length-10
     same-length-11
     same-length-12
-    returns-2)
+    same-length-13
+    same-length-14
+    same-length-15
+    same-length-16
+    returns-3)

@@ -1,7 +1,6 @@
 use mathlib.Core.Path.{_≡_, sym, _∙_}
 use Prim.Native.Nat.{_+_}
 use native.Mathlib.Omega.{arith}
-use borrow.Author.Needs.{needs}
 use lib.ListN.{length}
 use Rattle.column.proofs.OffsetLaws.{back64}
 use Rattle.model.specs.Bitmap.{from}
@@ -15,19 +14,19 @@ none-null : (c : tie.Else1) → length (c .before .before .args .elements .now) 
 none-null c = omega arith
 
 before-each-requires : tie.Need-before-each-requires
-before-each-requires c κs = search needs
+before-each-requires c κs = search
 
 returns : tie.Need-returns
-returns c = search needs
+returns c = search
 
 enum-told : tie.Need-enum-told
-enum-told c = search needs
+enum-told c = search
 
 enum-known-cell : tie.Need-enum-known-cell
-enum-known-cell c = search needs
+enum-known-cell c = search
 
 before-value-requires : tie.Need-before-value-requires
-before-value-requires c κs = search needs
+before-value-requires c κs = search
 
 returns-2 : tie.Need-returns-2
 unfolding elemOf

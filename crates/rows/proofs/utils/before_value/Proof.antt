@@ -11,7 +11,7 @@ use mir.Syntax.{w64}
 use mir.Val.{toZ}
 use Rattle.column.proofs.OffsetLaws.{back64}
 use Rattle.model.specs.Elements.{eqZ}
-use Rattle.pairs.proofs.ElementLaws.{eq-bits}
+use Rattle.set_elements.proofs.ElementLaws.{eq-bits}
 use Rattle.rows.proofs.utils.before_value.Statement.{statement}
 use Rattle.rows.proofs.utils.before_value.Tie as tie
 

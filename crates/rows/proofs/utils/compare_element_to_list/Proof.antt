@@ -9,13 +9,13 @@ use Rattle.rows.proofs.utils.compare_element_to_list.Statement.{stateme
 use Rattle.rows.proofs.utils.compare_element_to_list.Tie as tie
 
 is-valid-requires : tie.Need-is-valid-requires
-is-valid-requires c κs = search needs
+is-valid-requires c κs = search
 
 enum-told : tie.Need-enum-told
-enum-told c = search needs
+enum-told c = search
 
 enum-known-cell : tie.Need-enum-known-cell
-enum-known-cell c = search needs
+enum-known-cell c = search
 
 returns : tie.Need-returns
 unfolding elemOf
@@ -27,10 +27,10 @@ mul-same-value : tie.Need-mul-same-value
 mul-same-value c = search needs
 
 shared-slice-copy-out-same-value : tie.Need-shared-slice-copy-out-same-value
-shared-slice-copy-out-same-value c = search needs
+shared-slice-copy-out-same-value c = search
 
 same-value-requires : tie.Need-same-value-requires
-same-value-requires c κs = search needs
+same-value-requires c κs = search
 
 returns-2 : tie.Need-returns-2
 unfolding elemOf

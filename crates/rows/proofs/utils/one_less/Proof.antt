@@ -1,4 +1,3 @@
-use borrow.Author.Needs.{needs}
 use native.Mathlib.Omega.{arith}
 use Rattle.rows.proofs.utils.one_less.Statement.{statement}
 use Rattle.rows.proofs.utils.one_less.Tie as tie

@@ -9,16 +9,16 @@ mul-v : tie.Need-mul-v
 mul-v c = search needs
 
 slice-set-from-v : tie.Need-slice-set-from-v
-slice-set-from-v c = search needs
+slice-set-from-v c = search
 
 push-bit-requires : tie.Need-push-bit-requires
-push-bit-requires c κs = search needs
+push-bit-requires c κs = search
 
 same-length : tie.Need-same-length
 same-length c = search needs
 
 same-length-2 : tie.Need-same-length-2
-same-length-2 c = search needs
+same-length-2 c = search
 
 returns : tie.Need-returns
 unfolding elemOf valueOf isVal

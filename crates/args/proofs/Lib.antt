@@ -1,4 +1,0 @@
-pub mod TakenLaws
-pub mod RowLaws
-pub mod CallLaws
-pub mod LoopLaws

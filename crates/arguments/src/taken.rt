@@ -1,0 +1,158 @@
+// The arguments of a row, taken from the columns that the operation takes, and refusals 2 and 3 of those.
+use ops::ListOp;
+use ops::RowOp;
+use rows::Cell;
+ghost use Prim.Native.Nat.{_<_, _≤_};
+ghost use Rattle.arguments.specs.Taken.{Served, Serves, argumentsRefusal, cellOf, opAt, placeIn, shortIf, takenAt, wrongIf};
+ghost use Rattle.bitmap.specs.Push.{Covers};
+ghost use Rattle.model.specs.Inner.{nowArguments, nowBits, lentArgumentsFrom, lentBits, lentElem};
+ghost use Rattle.model.specs.Limits.{narrow};
+ghost use lib.Dec.{eqb};
+ghost use lib.ListN.{length};
+ghost use mathlib.Core.Bool.{_&&_, true};
+ghost use mathlib.Core.Path.{_≡_};
+
+// The argument at place i.
+fn cell_at(values: &[i64], bits: &[u8], start: usize, i: usize) -> Cell
+    requires { ⌜ Covers (nowBits bits start) (length (now values)) ⌝ }
+    requires { ⌜ i < length (now values) ⌝ }
+    ensures { λ c. ⌜ c ≡ cellOf (lentElem values bits start i) ⌝ }
+{
+    if bitmap::is_valid(bits, start, i, values.len()) {
+        return Cell::Value(values[i]);
+    }
+    Cell::Null
+}
+
+// Whether a column of len rows is a limit of one row, used for all.
+fn serves_all(limit: bool, len: usize) -> bool
+    ensures { λ b. ⌜ b ≡ limit && eqb len 1 ⌝ }
+{
+    if limit {
+        return len == 1;
+    }
+    false
+}
+
+// Where row r's argument stands among len.
+fn place_in(limit: bool, len: usize, r: usize) -> usize
+    ensures { λ i. ⌜ i ≡ placeIn limit len r ⌝ }
+{
+    if serves_all(limit, len) {
+        return 0;
+    }
+    r
+}
+
+// Row r's argument of n; a null where the column is not taken.
+pub fn taken_at(
+    on: bool,
+    limit: bool,
+    values: &[i64],
+    bits: &[u8],
+    start: usize,
+    n: usize,
+    r: usize,
+) -> Cell
+    requires { ⌜ (on ≡ true → Serves limit n (nowArguments values bits start)) ⌝ }
+    requires { ⌜ r < n ⌝ }
+    ensures { λ c. ⌜ c ≡ takenAt on limit (lentArgumentsFrom values bits start) r ⌝ }
+{
+    if !on {
+        return Cell::Null;
+    }
+    let i = place_in(limit, values.len(), r);
+    cell_at(values, bits, start, i)
+}
+
+// What the operation does to row r of n, which has len elements.
+#[rattlefmt::skip]
+pub fn op_at(
+    op: ListOp, rows: &[u8], rstart: usize, n: usize,
+    xs: &[i64], xbits: &[u8], xstart: usize,
+    ys: &[i64], ybits: &[u8], ystart: usize,
+    zs: &[i64], zbits: &[u8], zstart: usize,
+    r: usize, len: usize,
+) -> RowOp
+    requires rows { ⌜ Covers (nowBits rows rstart) n ⌝ }
+    requires served { ⌜ Served op n (nowArguments xs xbits xstart) (nowArguments ys ybits ystart) (nowArguments zs zbits zstart) ⌝ }
+    requires there { ⌜ r < n ⌝ }
+    requires small { ⌜ len ≤ narrow .offset ⌝ }
+    ensures { λ o. ⌜ o ≡ opAt op (lentBits rows rstart) (lentArgumentsFrom xs xbits xstart) (lentArgumentsFrom ys ybits ystart) (lentArgumentsFrom zs zbits zstart) r len ⌝ }
+{
+    let t = ops::takes(op);
+    let k = t.columns;
+    let limit = t.limit;
+    let x = taken_at(0 < k, false, xs, xbits, xstart, n, r);
+    let y = taken_at(1 < k, limit == 2, ys, ybits, ystart, n, r);
+    let z = taken_at(2 < k, limit == 3, zs, zbits, zstart, n, r);
+    let valid = bitmap::is_valid(rows, rstart, r, n);
+    ops::row_op(op, valid, len, x, y, z)
+}
+
+// Whether a column that is taken has too short a bitmap.
+fn is_short_if(on: bool, values: &[i64], bits: &[u8], start: usize) -> bool
+    requires { ⌜ start < 8 ⌝ }
+    ensures { λ b. ⌜ b ≡ shortIf on (lentArgumentsFrom values bits start) ⌝ }
+{
+    if !on {
+        return false;
+    }
+    bitmap::is_short(bits, start, values.len())
+}
+
+// Whether a column that is taken has another number of rows than n, and is no limit of one row.
+fn is_wrong_if(on: bool, limit: bool, n: usize, len: usize) -> bool
+    ensures { λ b. ⌜ b ≡ wrongIf on limit n len ⌝ }
+{
+    if !on {
+        return false;
+    }
+    if serves_all(limit, len) {
+        return false;
+    }
+    len != n
+}
+
+// 2 of any column that is taken, else 3 of any, else 0.
+pub fn arguments_refusal(
+    op: ListOp,
+    n: usize,
+    xs: &[i64],
+    xbits: &[u8],
+    xstart: usize,
+    ys: &[i64],
+    ybits: &[u8],
+    ystart: usize,
+    zs: &[i64],
+    zbits: &[u8],
+    zstart: usize,
+) -> u8
+    requires { ⌜ xstart < 8 ⌝ }
+    requires { ⌜ ystart < 8 ⌝ }
+    requires { ⌜ zstart < 8 ⌝ }
+    ensures { λ k. ⌜ k ≡ argumentsRefusal op n (lentArgumentsFrom xs xbits xstart) (lentArgumentsFrom ys ybits ystart) (lentArgumentsFrom zs zbits zstart) ⌝ }
+{
+    let t = ops::takes(op);
+    let k = t.columns;
+    let limit = t.limit;
+    if is_short_if(0 < k, xs, xbits, xstart) {
+        return 2;
+    }
+    if is_short_if(1 < k, ys, ybits, ystart) {
+        return 2;
+    }
+    if is_short_if(2 < k, zs, zbits, zstart) {
+        return 2;
+    }
+    if is_wrong_if(0 < k, false, n, xs.len()) {
+        return 3;
+    }
+    if is_wrong_if(1 < k, limit == 2, n, ys.len()) {
+        return 3;
+    }
+    if is_wrong_if(2 < k, limit == 3, n, zs.len()) {
+        return 3;
+    }
+    0
+}

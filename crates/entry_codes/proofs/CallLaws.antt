@@ -1,0 +1,81 @@
+-- Laws of the operations by their codes.
+use mathlib.Core.Path.{_≡_}
+use Prim.Native.Nat.{ℕ}
+use borrow.Author.Tests.{ne-eqb}
+use Rattle.model.specs.Basics.{absent, given}
+use Rattle.model.specs.Limits.{narrow}
+use Rattle.model.specs.Column.{Column, Arguments}
+use Rattle.model.specs.Rows.{unary, setOp, onLent}
+use Rattle.model.specs.Outcome.{listOutcome}
+use Rattle.model.specs.declared.Unary.{Unary}
+use Rattle.model.specs.declared.SetOp.{SetOp}
+use Rattle.ops.specs.Ops.{callOf}
+use Rattle.ops.specs.declared.ListOp.{ListOp}
+use Rattle.codes.specs.Codes.{operationOf}
+use Rattle.codes.specs.declared.Operation.{Operation}
+use Rattle.codes.specs.declared.Operation.the-variants as S
+use Rattle.entry_codes.specs.declared.Plain.{Plain}
+use Rattle.entry_codes.specs.declared.Plain.the-variants as P
+use Rattle.entry_codes.specs.declared.Taking.{Taking}
+use Rattle.entry_codes.specs.declared.Taking.the-variants as T
+use Rattle.entry_codes.specs.Calls.{plainLent, takingLent, plainOf, plainIn, unaryOf, unaryCall, setIn, setOf, setCall, takingOf, takingIn, withOf, withCall}
+
+-- r is what the code found: the operation, or none
+module _ (op : ℕ) {r : Plain} (c : Column) (e : plainLent r ≡ unaryOf op) where
+  pub no-code : r ≡ P.None → unaryCall op c ≡ absent
+  unfolding unaryCall onLent plainLent
+  no-code h = rw (← e, h)
+
+  pub code : {u : Unary} → r ≡ P.Of u → unaryCall op c ≡ given (listOutcome narrow (unary u c))
+  unfolding unaryCall onLent plainLent
+  code h = rw (← e, h)
+
+module _ (op : ℕ) {r : Taking} (c : Column) (x y z : Arguments) (e : takingLent r ≡ withOf op) where
+  pub no-with-code : r ≡ T.None → withCall op c x y z ≡ absent
+  unfolding withCall onLent takingLent
+  no-with-code h = rw (← e, h)
+
+  pub with-code : {k : ListOp} → r ≡ T.Of k → withCall op c x y z ≡ given (listOutcome narrow (callOf k c x y z))
+  unfolding withCall onLent takingLent
+  with-code h = rw (← e, h)
+
+module _ (op : ℕ) {r : Operation} (c d : Column) (e : r ≡ operationOf op) where
+  pub one-code : {k : ListOp} → r ≡ S.One k → setCall op c d ≡ absent
+  unfolding setCall onLent setOf setIn
+  one-code h = rw (← e, h)
+
+  pub no-set-code : r ≡ S.None → setCall op c d ≡ absent
+  unfolding setCall onLent setOf setIn
+  no-set-code h = rw (← e, h)
+
+  pub set-code : {k : SetOp} → r ≡ S.Two k → setCall op c d ≡ given (listOutcome narrow (setOp k c d))
+  unfolding setCall onLent setOf setIn
+  set-code h = rw (← e, h)
+
+-- ---- the code's own mapping; o is what the table names
+
+module _ (code : ℕ) {o : Operation} (e : o ≡ operationOf code) where
+  pub plain-one : {k : ListOp} → o ≡ S.One k → plainOf k ≡ unaryOf code
+  unfolding unaryOf plainIn
+  plain-one q = rw (← e, q)
+
+  pub plain-two : {k : SetOp} → o ≡ S.Two k → absent ≡ unaryOf code
+  unfolding unaryOf plainIn
+  plain-two q = rw (← e, q)
+
+  pub plain-none : o ≡ S.None → absent ≡ unaryOf code
+  unfolding unaryOf plainIn
+  plain-none q = rw (← e, q)
+
+  module _ (n : code ≡ 11 → ⊥) where
+    pub taking-one : {k : ListOp} → o ≡ S.One k → takingOf k ≡ withOf code
+    unfolding withOf takingIn
+    taking-one q = rw (ne-eqb code 11 n, ← e, q)
+
+    pub taking-two : {k : SetOp} → o ≡ S.Two k → absent ≡ withOf code
+    unfolding withOf takingIn
+    taking-two q = rw (ne-eqb code 11 n, ← e, q)
+
+    pub taking-none : o ≡ S.None → absent ≡ withOf code
+    unfolding withOf takingIn
+    taking-none q = rw (ne-eqb code 11 n, ← e, q)

@@ -1,0 +1,52 @@
+-- What an operation makes of a list and its argument columns, by the list's rows.
+use Prim.Native.Nat.{ℕ}
+use mathlib.Core.List.{List}
+use lib.ListN.{length}
+use Rattle.model.specs.Basics.{pick, tab}
+use Rattle.model.specs.Bitmap.{Bits}
+use Rattle.model.specs.Column.{Elem, Row, Column, Arguments, elemAt, offsetAt, lengthAt, rowCount}
+use Rattle.model.specs.Form.{flat}
+use Rattle.model.specs.Outcome.{made, gate}
+use Rattle.model.specs.Refusals.{refusalOf, firstOf}
+use Rattle.model.specs.Rows.{Made, rowMade}
+use Rattle.ops.specs.Ops.{isResize, opMade}
+use Rattle.ops.specs.declared.ListOp.{ListOp}
+use Rattle.ops.specs.declared.RowOp.{RowOp}
+use Rattle.ops.specs.declared.RowOp.the-variants as R
+use Rattle.arguments.specs.Taken.{opAt}
+use Rattle.sums.specs.Sums.{measureOf, resizeMeasure}
+use Rattle.sums.specs.declared.Measure.{Measure}
+
+-- the row that lies from a to b, and what is made of it
+unfoldable pub madeFrom : ListOp → Bits → Arguments → Arguments → Arguments → (ℕ → Elem) → ℕ → ℕ → ℕ → Made
+madeFrom op rb x y z E r a len = opMade (opAt op rb x y z r len) (tab E a len)
+
+unfoldable pub madeAt : ListOp → Column → Arguments → Arguments → Arguments → ℕ → Made
+madeAt op c x y z r = madeFrom op (c .rows) x y z (elemAt (c .values) (c .elements)) r (offsetAt (c .offsets) r) (lengthAt c r)
+
+abbrev pub rowMadeAt : ListOp → Column → Arguments → Arguments → Arguments → ℕ → Row
+rowMadeAt op c x y z r = rowMade (madeAt op c x y z r)
+
+abbrev pub refusalAt : ListOp → Column → Arguments → Arguments → Arguments → ℕ → ℕ
+refusalAt op c x y z r = refusalOf (madeAt op c x y z r)
+
+unfoldable pub callRows : ListOp → Column → Arguments → Arguments → Arguments → List Row
+callRows op c x y z = tab (rowMadeAt op c x y z) 0 (rowCount (c .offsets))
+
+-- a row's refusal; 0 is none
+unfoldable pub opRefusal : RowOp → ℕ
+opRefusal R.Null = 0
+opRefusal (R.Refused k) = k
+opRefusal (R.Plain u) = 0
+opRefusal R.Empty = 0
+opRefusal (R.Steps a s n) = 0
+opRefusal (R.Resized k f) = 0
+opRefusal (R.Replaced f t k) = 0
+opRefusal (R.Removed f k) = 0
+
+-- by the first row that refuses
+unfoldable pub rowsMeasure : ListOp → Column → Arguments → Arguments → Arguments → Measure
+rowsMeasure op c x y z = measureOf (gate (firstOf (tab (refusalAt op c x y z) 0 (rowCount (c .offsets)))) (made (length (flat (callRows op c x y z)))))
+
+unfoldable pub callMeasure : ListOp → Column → Arguments → Arguments → Arguments → Measure
+callMeasure op c x y z = pick (isResize op) (resizeMeasure (c .rows) x (rowCount (c .offsets))) (rowsMeasure op c x y z)

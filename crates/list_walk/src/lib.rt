@@ -1,0 +1,220 @@
+// The operations on one list with up to three argument columns: one walk measures the rows, a second writes. An inner crate: its
+// callers meet what it asks.
+mod totals;
+
+use arguments::taken;
+use column::offsets;
+use model::ListAnswer;
+use ops::ListOp;
+use ops::RowOp;
+use sums::Measure;
+ghost use Prim.Native.Nat.{_<_, _≤_};
+ghost use Rattle.list_walk.specs.Made.{callRows};
+ghost use Rattle.arguments.specs.Taken.{Served};
+ghost use Rattle.column.specs.Outputs.{Fills, ReadableElems, RoomForRow, RoomIn, WritesRow};
+ghost use Rattle.column.specs.Put.{Readable};
+ghost use Rattle.model.specs.Column.{rowCount, rowsOf, shownBy};
+ghost use Rattle.model.specs.Contract.{ListAnswers};
+ghost use Rattle.model.specs.Form.{flat};
+ghost use Rattle.model.specs.Inner.{nowColumn, nowArguments, nowElems, lentArgumentsFrom, lentElems, lentFrom};
+ghost use Rattle.model.specs.Limits.{narrow};
+ghost use Rattle.model.specs.Outcome.{afterThree, fitted, listOutcome};
+ghost use Rattle.model.specs.Rows.{rowMade};
+ghost use Rattle.ops.specs.Ops.{callOf, opMade};
+ghost use Rattle.row_ops.specs.Doable.{Doable};
+ghost use lib.ListN.{length};
+ghost use mathlib.Core.Path.{_≡_};
+
+// Writes the row that is made of the len elements from element a on as row r, but for its offset; gives the number of elements then
+// written.
+fn put_row(
+    op: RowOp,
+    values: &[i64],
+    elements: &[u8],
+    estart: usize,
+    a: usize,
+    len: usize,
+    r: usize,
+    out_rows: &mut [u8],
+    out_values: &mut [i64],
+    out_elements: &mut [u8],
+    at: usize,
+) -> usize
+    requires column { ⌜ ReadableElems values elements estart a len ⌝ }
+    requires doable { ⌜ Doable op len ⌝ }
+    requires room { ⌜ RoomForRow (rowMade (opMade op (nowElems values elements estart a len))) r at «out_rows» «out_values» «out_elements» ⌝ }
+    ensures { λ k. ⌜ WritesRow (rowMade (opMade op (lentElems values elements estart a len))) r at «out_rows» «out_values» «out_elements» k ⌝ }
+{
+    let null = ops::is_null(op);
+    let next = row_ops::write(
+        op,
+        values,
+        elements,
+        estart,
+        a,
+        len,
+        out_values,
+        out_elements,
+        at,
+    );
+    bitmap::push_bit(out_rows, r, !null);
+    next
+}
+
+// Writes the rows that the operation makes, in result form.
+#[rattlefmt::skip]
+fn write_rows(
+    op: ListOp,
+    offsets: &[i32], rows: &[u8], rstart: usize, values: &[i64], elements: &[u8], estart: usize,
+    xs: &[i64], xbits: &[u8], xstart: usize,
+    ys: &[i64], ybits: &[u8], ystart: usize,
+    zs: &[i64], zbits: &[u8], zstart: usize,
+    out_offsets: &mut [i32], out_rows: &mut [u8], out_values: &mut [i64], out_elements: &mut [u8],
+)
+    requires column { ⌜ Readable (nowColumn offsets rows rstart values elements estart) ⌝ }
+    requires arguments { ⌜ Served op (rowCount (now offsets)) (nowArguments xs xbits xstart) (nowArguments ys ybits ystart) (nowArguments zs zbits zstart) ⌝ }
+    requires small { ⌜ length (flat (callRows op (nowColumn offsets rows rstart values elements estart) (nowArguments xs xbits xstart) (nowArguments ys ybits ystart) (nowArguments zs zbits zstart))) ≤ narrow .offset ⌝ }
+    requires room { ⌜ RoomIn (rowCount (now offsets)) (length (flat (callRows op (nowColumn offsets rows rstart values elements estart) (nowArguments xs xbits xstart) (nowArguments ys ybits ystart) (nowArguments zs zbits zstart)))) «out_offsets» «out_rows» «out_values» «out_elements» ⌝ }
+    ensures { λ _. ⌜ Fills (callRows op (lentFrom offsets rows rstart values elements estart) (lentArgumentsFrom xs xbits xstart) (lentArgumentsFrom ys ybits ystart) (lentArgumentsFrom zs zbits zstart)) «out_offsets» «out_rows» «out_values» «out_elements» ⌝ }
+{
+    let n = offsets::row_count(offsets);
+    offsets::put_offset(out_offsets, 0, 0);
+    let mut r: usize = 0;
+    let mut at: usize = 0;
+    let mut left = n;
+    while 0 < left {
+        let a = offsets::offset_at(offsets, r);
+        let b = offsets::offset_at(offsets, r + 1);
+        let len = b - a;
+        let o = taken::op_at(
+            op, rows, rstart, n,
+            xs, xbits, xstart,
+            ys, ybits, ystart,
+            zs, zbits, zstart,
+            r, len,
+        );
+        at = put_row(
+            o, values, elements, estart,
+            a, len, r, out_rows, out_values, out_elements,
+            at,
+        );
+        offsets::put_offset(out_offsets, r + 1, at);
+        r += 1;
+        left -= 1;
+    }
+}
+
+// Writes the m elements that the operation makes, or gives 9.
+#[rattlefmt::skip]
+fn write_fitting(
+    op: ListOp,
+    offsets: &[i32], rows: &[u8], rstart: usize, values: &[i64], elements: &[u8], estart: usize,
+    xs: &[i64], xbits: &[u8], xstart: usize,
+    ys: &[i64], ybits: &[u8], ystart: usize,
+    zs: &[i64], zbits: &[u8], zstart: usize,
+    m: usize,
+    out_offsets: &mut [i32], out_rows: &mut [u8], out_values: &mut [i64], out_elements: &mut [u8],
+) -> ListAnswer
+    requires column { ⌜ Readable (nowColumn offsets rows rstart values elements estart) ⌝ }
+    requires arguments { ⌜ Served op (rowCount (now offsets)) (nowArguments xs xbits xstart) (nowArguments ys ybits ystart) (nowArguments zs zbits zstart) ⌝ }
+    requires made { ⌜ m ≡ length (flat (callRows op (nowColumn offsets rows rstart values elements estart) (nowArguments xs xbits xstart) (nowArguments ys ybits ystart) (nowArguments zs zbits zstart))) ⌝ }
+    requires small { ⌜ m ≤ narrow .offset ⌝ }
+    ensures { λ k. ⌜ ListAnswers (fitted (callRows op (lentFrom offsets rows rstart values elements estart) (lentArgumentsFrom xs xbits xstart) (lentArgumentsFrom ys ybits ystart) (lentArgumentsFrom zs zbits zstart))) k «out_offsets» «out_rows» «out_values» «out_elements» ⌝ }
+{
+    let n = offsets::row_count(offsets);
+    if !checks::has_room(
+        n,
+        m,
+        out_offsets.len(),
+        out_rows.len(),
+        out_values.len(),
+        out_elements.len(),
+    ) {
+        return ListAnswer::Refused(9);
+    }
+    write_rows(
+        op,
+        offsets, rows, rstart, values, elements, estart,
+        xs, xbits, xstart,
+        ys, ybits, ystart,
+        zs, zbits, zstart,
+        out_offsets, out_rows, out_values, out_elements,
+    );
+    answers::list_answer(out_rows, n, out_elements, m)
+}
+
+// Writes what the operation makes of columns that refusals 1, 2 and 3 do not apply to.
+#[rattlefmt::skip]
+pub fn after_three(
+    op: ListOp,
+    offsets: &[i32], rows: &[u8], rstart: usize, values: &[i64], elements: &[u8], estart: usize,
+    xs: &[i64], xbits: &[u8], xstart: usize,
+    ys: &[i64], ybits: &[u8], ystart: usize,
+    zs: &[i64], zbits: &[u8], zstart: usize,
+    out_offsets: &mut [i32], out_rows: &mut [u8], out_values: &mut [i64], out_elements: &mut [u8],
+) -> ListAnswer
+    requires column { ⌜ Readable (nowColumn offsets rows rstart values elements estart) ⌝ }
+    requires arguments { ⌜ Served op (rowCount (now offsets)) (nowArguments xs xbits xstart) (nowArguments ys ybits ystart) (nowArguments zs zbits zstart) ⌝ }
+    ensures { λ k. ⌜ ListAnswers (afterThree narrow (callOf op (rowsOf (lentFrom offsets rows rstart values elements estart)) (shownBy (lentArgumentsFrom xs xbits xstart)) (shownBy (lentArgumentsFrom ys ybits ystart)) (shownBy (lentArgumentsFrom zs zbits zstart)))) k «out_offsets» «out_rows» «out_values» «out_elements» ⌝ }
+{
+    let total = totals::total(
+        op,
+        offsets, rows, rstart, values, elements, estart,
+        xs, xbits, xstart,
+        ys, ybits, ystart,
+        zs, zbits, zstart,
+    );
+    match total {
+        Measure::Refused(k) => ListAnswer::Refused(k),
+        Measure::Sum(m) => write_fitting(
+            op,
+            offsets, rows, rstart, values, elements, estart,
+            xs, xbits, xstart,
+            ys, ybits, ystart,
+            zs, zbits, zstart,
+            m,
+            out_offsets, out_rows, out_values, out_elements,
+        ),
+    }
+}
+
+// Checks the columns and the outputs, and writes what the operation makes.
+#[rattlefmt::skip]
+pub fn run(
+    op: ListOp,
+    offsets: &[i32], rows: &[u8], rstart: usize, values: &[i64], elements: &[u8], estart: usize,
+    xs: &[i64], xbits: &[u8], xstart: usize,
+    ys: &[i64], ybits: &[u8], ystart: usize,
+    zs: &[i64], zbits: &[u8], zstart: usize,
+    out_offsets: &mut [i32], out_rows: &mut [u8], out_values: &mut [i64], out_elements: &mut [u8],
+) -> ListAnswer
+    requires { ⌜ rstart < 8 ⌝ }
+    requires { ⌜ estart < 8 ⌝ }
+    requires { ⌜ xstart < 8 ⌝ }
+    requires { ⌜ ystart < 8 ⌝ }
+    requires { ⌜ zstart < 8 ⌝ }
+    ensures { λ k. ⌜ ListAnswers (listOutcome narrow (callOf op (lentFrom offsets rows rstart values elements estart) (lentArgumentsFrom xs xbits xstart) (lentArgumentsFrom ys ybits ystart) (lentArgumentsFrom zs zbits zstart))) k «out_offsets» «out_rows» «out_values» «out_elements» ⌝ }
+{
+    let k = checks::list_refusal(offsets, rows, rstart, values, elements, estart);
+    if k != 0 {
+        return ListAnswer::Refused(k);
+    }
+    let j = taken::arguments_refusal(
+        op,
+        offsets::row_count(offsets),
+        xs, xbits, xstart,
+        ys, ybits, ystart,
+        zs, zbits, zstart,
+    );
+    if j != 0 {
+        return ListAnswer::Refused(j);
+    }
+    after_three(
+        op,
+        offsets, rows, rstart, values, elements, estart,
+        xs, xbits, xstart,
+        ys, ybits, ystart,
+        zs, zbits, zstart,
+        out_offsets, out_rows, out_values, out_elements,
+    )
+}

@@ -1,0 +1,40 @@
+use borrow.Author.Needs.{needs}
+use Rattle.lists.proofs.repeat.general_list_repeat.Statement.{statement}
+use Rattle.lists.proofs.repeat.general_list_repeat.Tie as tie
+
+run-requires : tie.Need-run-requires
+run-requires c κs = search needs
+
+same-length : tie.Need-same-length
+same-length c = search
+
+same-length-2 : tie.Need-same-length-2
+same-length-2 c = search
+
+same-length-3 : tie.Need-same-length-3
+same-length-3 c = search
+
+same-length-4 : tie.Need-same-length-4
+same-length-4 c = search
+
+same-length-5 : tie.Need-same-length-5
+same-length-5 c = search
+
+same-length-6 : tie.Need-same-length-6
+same-length-6 c = search
+
+returns : tie.Need-returns
+returns c = c .before .before .before .before .before .before .before .before .before .run .ensures
+
+pub general-list-repeat-spec : {M : Type 1} → statement M
+general-list-repeat-spec =
+    tie.close
+    (tie.spec
+    run-requires
+    same-length
+    same-length-2
+    same-length-3
+    same-length-4
+    same-length-5
+    same-length-6
+    returns)

@@ -1,4 +1,0 @@
-pub mod ElementLaws
-pub mod PairLaws
-pub mod PartLaws
-pub mod SetLaws

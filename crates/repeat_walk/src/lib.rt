@@ -1,0 +1,223 @@
+// List-repeat: the walk that writes, after the sums are taken. An inner crate: its callers meet what it asks.
+// After repeat.rs of datafusion-functions-nested 55.2.0, Apache License 2.0, Apache Software Foundation; changed, see NOTICE.
+use column::offsets;
+use model::RepeatAnswer;
+use repeat_sums::Sums;
+use rows::utils;
+ghost use Prim.Native.Nat.{_+_, _<_, _≤_};
+ghost use Rattle.bitmap.specs.Push.{Covers};
+ghost use Rattle.column.specs.Outputs.{ReadableRow};
+ghost use Rattle.column.specs.Put.{Readable, outs, putRows};
+ghost use Rattle.column.specs.Rows.{rowFrom};
+ghost use Rattle.model.specs.Bitmap.{bytesFor};
+ghost use Rattle.model.specs.Column.{rowCount};
+ghost use Rattle.model.specs.Contract.{RepeatAnswers, repeatRoom};
+ghost use Rattle.model.specs.Form.{flat, inner};
+ghost use Rattle.model.specs.Inner.{nowColumn, nowArguments, nowBits, nowElem, lentArgumentsFrom, lentBits, lentElem, lentFrom};
+ghost use Rattle.model.specs.Limits.{narrow};
+ghost use Rattle.model.specs.Outcome.{fittedRepeat, repeatOutcome};
+ghost use Rattle.repeat_walk.specs.Outers.{FillsOuters, RoomForOuters, RoomForRows};
+ghost use Rattle.repeat_walk.specs.Repeats.{fitsCounts, repeatAnswerFrom, repeatRows};
+ghost use lib.ListN.{length, replicate};
+ghost use mathlib.Core.Path.{_≡_};
+
+// Writes row r of n, which lies from a to b, so many times, after first rows and place elements; gives the number of elements then
+// written.
+#[rattlefmt::skip]
+fn put_copies(
+    rows: &[u8], rstart: usize, n: usize, values: &[i64], elements: &[u8], estart: usize,
+    r: usize, a: usize, b: usize,
+    times: usize,
+    inner_offsets: &mut [i32], inner_rows: &mut [u8],
+    out_values: &mut [i64], out_elements: &mut [u8],
+    first: usize, place: usize,
+) -> usize
+    requires row { ⌜ ReadableRow rows rstart n values elements estart r a b ⌝ }
+    requires room { ⌜ RoomForRows (replicate times (rowFrom (nowBits rows rstart) (nowElem values elements estart) r a b)) first place «inner_offsets» «inner_rows» «out_values» «out_elements» ⌝ }
+    ensures { λ k. ⌜ outs (now («inner_offsets» .exit)) (now («inner_rows» .exit)) (now («out_values» .exit)) (now («out_elements» .exit)) (first + times) k ≡ putRows (outs (now («inner_offsets» .entry)) (now («inner_rows» .entry)) (now («out_values» .entry)) (now («out_elements» .entry)) first place) (replicate times (rowFrom (lentBits rows rstart) (lentElem values elements estart) r a b)) ⌝ }
+{
+    let valid = bitmap::is_valid(rows, rstart, r, n);
+    let len = column::rows::row_len(rows, rstart, n, r, a, b);
+    let mut i = first;
+    let mut at = place;
+    let mut left = times;
+    while 0 < left {
+        at = utils::write_forward(
+            values, elements, estart,
+            a, len, out_values, out_elements,
+            at,
+        );
+        bitmap::push_bit(inner_rows, i, valid);
+        offsets::put_offset(inner_offsets, i + 1, at);
+        i += 1;
+        left -= 1;
+    }
+    at
+}
+
+// Writes the outer rows and their inner rows, in result form.
+#[rattlefmt::skip]
+fn write_repeats(
+    offsets: &[i32], rows: &[u8], rstart: usize, values: &[i64], elements: &[u8], estart: usize,
+    counts: &[i64], count_bits: &[u8], cstart: usize,
+    out_offsets: &mut [i32], out_rows: &mut [u8],
+    inner_offsets: &mut [i32], inner_rows: &mut [u8],
+    out_values: &mut [i64], out_elements: &mut [u8],
+)
+    requires list { ⌜ Readable (nowColumn offsets rows rstart values elements estart) ⌝ }
+    requires bits { ⌜ Covers (nowBits «count_bits» cstart) (rowCount (now offsets)) ⌝ }
+    requires equal { ⌜ length (now counts) ≡ rowCount (now offsets) ⌝ }
+    requires room { ⌜ RoomForOuters (repeatRows (nowColumn offsets rows rstart values elements estart) (nowArguments counts «count_bits» cstart)) «out_offsets» «out_rows» «inner_offsets» «inner_rows» «out_values» «out_elements» ⌝ }
+    ensures { λ _. ⌜ FillsOuters (repeatRows (lentFrom offsets rows rstart values elements estart) (lentArgumentsFrom counts «count_bits» cstart)) «out_offsets» «out_rows» «inner_offsets» «inner_rows» «out_values» «out_elements» ⌝ }
+{
+    let n = offsets::row_count(offsets);
+    offsets::put_offset(out_offsets, 0, 0);
+    offsets::put_offset(inner_offsets, 0, 0);
+    let mut r: usize = 0;
+    let mut i: usize = 0;
+    let mut at: usize = 0;
+    let mut left = n;
+    while 0 < left {
+        let times = repeat_sums::repeat_count(counts, count_bits, cstart, n, r);
+        let a = offsets::offset_at(offsets, r);
+        let b = offsets::offset_at(offsets, r + 1);
+        at = put_copies(
+            rows, rstart, n, values, elements, estart,
+            r, a, b,
+            times,
+            inner_offsets, inner_rows,
+            out_values, out_elements,
+            i, at,
+        );
+        i += times;
+        repeat_sums::put_outer(count_bits, cstart, n, r, i, out_offsets, out_rows);
+        r += 1;
+        left -= 1;
+    }
+}
+
+// Whether the result form of n outer rows, so many lists and m elements fits outputs of these lengths.
+fn has_room(
+    n: usize,
+    lists: usize,
+    m: usize,
+    lo: usize,
+    lr: usize,
+    li: usize,
+    lj: usize,
+    lv: usize,
+    le: usize,
+) -> bool
+    ensures { λ t. ⌜ t ≡ fitsCounts n lists m (repeatRoom lo lr li lj lv le) ⌝ }
+{
+    if lo <= n {
+        return false;
+    }
+    if lr < bitmap::bytes_for(n) {
+        return false;
+    }
+    checks::has_room(lists, m, li, lj, lv, le)
+}
+
+// The answer for n outer rows, so many lists and m elements, its nulls counted in the bitmaps written.
+fn repeat_answer(
+    out_rows: &[u8],
+    n: usize,
+    inner_rows: &[u8],
+    lists: usize,
+    out_elements: &[u8],
+    m: usize,
+) -> RepeatAnswer
+    requires { ⌜ bytesFor n ≤ length (now «out_rows») ⌝ }
+    requires { ⌜ bytesFor lists ≤ length (now «inner_rows») ⌝ }
+    requires { ⌜ bytesFor m ≤ length (now «out_elements») ⌝ }
+    ensures { λ a. ⌜ a ≡ repeatAnswerFrom (now («out_rows» .entry)) n (now («inner_rows» .entry)) lists (now («out_elements» .entry)) m ⌝ }
+{
+    let valid_rows = bitmap::count_set(out_rows, n);
+    let valid_lists = bitmap::count_set(inner_rows, lists);
+    let valid_elements = bitmap::count_set(out_elements, m);
+    let null_rows = n - valid_rows;
+    let null_inner_rows = lists - valid_lists;
+    let null_elements = m - valid_elements;
+    RepeatAnswer::Counts {
+        rows: n,
+        elements: m,
+        null_rows,
+        null_elements,
+        inner_rows: lists,
+        null_inner_rows,
+    }
+}
+
+// Refusal 9, or what list-repeat makes: so many lists of m elements.
+#[rattlefmt::skip]
+fn fill(
+    offsets: &[i32], rows: &[u8], rstart: usize, values: &[i64], elements: &[u8], estart: usize,
+    counts: &[i64], count_bits: &[u8], cstart: usize, lists: usize, m: usize,
+    out_offsets: &mut [i32], out_rows: &mut [u8],
+    inner_offsets: &mut [i32], inner_rows: &mut [u8],
+    out_values: &mut [i64], out_elements: &mut [u8],
+) -> RepeatAnswer
+    requires list { ⌜ Readable (nowColumn offsets rows rstart values elements estart) ⌝ }
+    requires bits { ⌜ Covers (nowBits «count_bits» cstart) (rowCount (now offsets)) ⌝ }
+    requires equal { ⌜ length (now counts) ≡ rowCount (now offsets) ⌝ }
+    requires lists { ⌜ lists ≡ length (inner (repeatRows (nowColumn offsets rows rstart values elements estart) (nowArguments counts «count_bits» cstart))) ⌝ }
+    requires elements { ⌜ m ≡ length (flat (inner (repeatRows (nowColumn offsets rows rstart values elements estart) (nowArguments counts «count_bits» cstart)))) ⌝ }
+    requires few { ⌜ lists ≤ narrow .outer ⌝ }
+    requires small { ⌜ m ≤ narrow .repeated ⌝ }
+    ensures { λ k. ⌜ RepeatAnswers (fittedRepeat (repeatRows (lentFrom offsets rows rstart values elements estart) (lentArgumentsFrom counts «count_bits» cstart))) k «out_offsets» «out_rows» «inner_offsets» «inner_rows» «out_values» «out_elements» ⌝ }
+{
+    let n = offsets::row_count(offsets);
+    if !has_room(
+        n, lists, m,
+        out_offsets.len(), out_rows.len(),
+        inner_offsets.len(), inner_rows.len(),
+        out_values.len(), out_elements.len(),
+    ) {
+        return RepeatAnswer::Refused(9);
+    }
+    write_repeats(
+        offsets, rows, rstart, values, elements, estart,
+        counts, count_bits, cstart,
+        out_offsets, out_rows,
+        inner_offsets, inner_rows,
+        out_values, out_elements,
+    );
+    repeat_answer(out_rows, n, inner_rows, lists, out_elements, m)
+}
+
+// Checks the columns and the outputs, and writes what list-repeat makes.
+#[rattlefmt::skip]
+pub fn run(
+    offsets: &[i32], rows: &[u8], rstart: usize, values: &[i64], elements: &[u8], estart: usize,
+    counts: &[i64], count_bits: &[u8], cstart: usize,
+    out_offsets: &mut [i32], out_rows: &mut [u8],
+    inner_offsets: &mut [i32], inner_rows: &mut [u8],
+    out_values: &mut [i64], out_elements: &mut [u8],
+) -> RepeatAnswer
+    requires { ⌜ rstart < 8 ⌝ }
+    requires { ⌜ estart < 8 ⌝ }
+    requires { ⌜ cstart < 8 ⌝ }
+    ensures { λ k. ⌜ RepeatAnswers (repeatOutcome narrow (lentFrom offsets rows rstart values elements estart) (lentArgumentsFrom counts «count_bits» cstart)) k «out_offsets» «out_rows» «inner_offsets» «inner_rows» «out_values» «out_elements» ⌝ }
+{
+    let k = checks::list_refusal(offsets, rows, rstart, values, elements, estart);
+    if k != 0 {
+        return RepeatAnswer::Refused(k);
+    }
+    if bitmap::is_short(count_bits, cstart, counts.len()) {
+        return RepeatAnswer::Refused(2);
+    }
+    if counts.len() != offsets::row_count(offsets) {
+        return RepeatAnswer::Refused(3);
+    }
+    match repeat_sums::sum_repeats(offsets, rows, rstart, counts, count_bits, cstart) {
+        Sums::TooMany => RepeatAnswer::Refused(8),
+        Sums::Of { lists, values: m } => fill(
+            offsets, rows, rstart, values, elements, estart,
+            counts, count_bits, cstart, lists, m,
+            out_offsets, out_rows,
+            inner_offsets, inner_rows,
+            out_values, out_elements,
+        ),
+    }
+}

@@ -1,0 +1,94 @@
+// What the operations on two lists check: refusals 1, 2, 3 and 8, and which rows are valid in both. An inner crate: its callers meet
+// what it asks.
+// After set_ops.rs of datafusion-functions-nested 55.2.0, Apache License 2.0, Apache Software Foundation; changed, see NOTICE.
+use column::offsets;
+use model::SetOp;
+ghost use Prim.Native.Nat.{_<_};
+ghost use Rattle.bitmap.specs.Push.{Covers};
+ghost use Rattle.model.specs.Bitmap.{validAt};
+ghost use Rattle.model.specs.Column.{rowCount};
+ghost use Rattle.model.specs.Inner.{lentBits, lentFrom, nowBits};
+ghost use Rattle.model.specs.Limits.{narrow};
+ghost use Rattle.model.specs.Outcome.{columnsRefusal};
+ghost use Rattle.model.specs.Refusals.{unionRefusal};
+ghost use lib.Dec.{eqb};
+ghost use mathlib.Core.Bool.{_&&_};
+ghost use mathlib.Core.List.{[], _∷_};
+ghost use mathlib.Core.Path.{_≡_};
+
+// 1 of either list, else 2 of either, else 0.
+pub fn lists_refusal(
+    loffsets: &[i32],
+    lrows: &[u8],
+    l_rstart: usize,
+    lvalues: &[i64],
+    lelements: &[u8],
+    l_estart: usize,
+    roffsets: &[i32],
+    rrows: &[u8],
+    r_rstart: usize,
+    rvalues: &[i64],
+    relements: &[u8],
+    r_estart: usize,
+) -> u8
+    requires { ⌜ «l_rstart» < 8 ⌝ }
+    requires { ⌜ «l_estart» < 8 ⌝ }
+    requires { ⌜ «r_rstart» < 8 ⌝ }
+    requires { ⌜ «r_estart» < 8 ⌝ }
+    ensures { λ k. ⌜ k ≡ columnsRefusal (lentFrom loffsets lrows «l_rstart» lvalues lelements «l_estart» ∷ lentFrom roffsets rrows «r_rstart» rvalues relements «r_estart» ∷ []) [] ⌝ }
+{
+    let left = checks::list_refusal(loffsets, lrows, l_rstart, lvalues, lelements, l_estart);
+    if left == 1 {
+        return 1;
+    }
+    let right = checks::list_refusal(roffsets, rrows, r_rstart, rvalues, relements, r_estart);
+    if right == 1 {
+        return 1;
+    }
+    if left != 0 {
+        return left;
+    }
+    right
+}
+
+// Whether both lists have as many rows: 3 where not.
+pub fn same_row_count(loffsets: &[i32], roffsets: &[i32]) -> bool
+    ensures { λ t. ⌜ t ≡ eqb (rowCount (now (roffsets .entry))) (rowCount (now (loffsets .entry))) ⌝ }
+{
+    offsets::row_count(roffsets) == offsets::row_count(loffsets)
+}
+
+// Whether row r of n is valid in both lists.
+pub fn are_valid(
+    lrows: &[u8],
+    l_rstart: usize,
+    rrows: &[u8],
+    r_rstart: usize,
+    n: usize,
+    r: usize,
+) -> bool
+    requires left { ⌜ Covers (nowBits lrows «l_rstart») n ⌝ }
+    requires right { ⌜ Covers (nowBits rrows «r_rstart») n ⌝ }
+    requires there { ⌜ r < n ⌝ }
+    ensures { λ v. ⌜ v ≡ validAt (lentBits lrows «l_rstart») r && validAt (lentBits rrows «r_rstart») r ⌝ }
+{
+    if bitmap::is_valid(lrows, l_rstart, r, n) {
+        return bitmap::is_valid(rrows, r_rstart, r, n);
+    }
+    false
+}
+
+// 8 where a union has more than 2147483647 elements.
+pub fn union_refusal(op: SetOp, m: usize) -> u8
+    ensures { λ k. ⌜ k ≡ unionRefusal narrow op m ⌝ }
+{
+    match op {
+        SetOp::Union => {
+            if 2147483647 < m {
+                return 8;
+            }
+            0
+        }
+        SetOp::Intersect => 0,
+    }
+}

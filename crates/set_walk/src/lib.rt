@@ -1,0 +1,216 @@
+// The operations on two lists: one walk measures the pairs of rows, a second writes. An inner crate: its callers meet what it asks.
+// After set_ops.rs of datafusion-functions-nested 55.2.0, Apache License 2.0, Apache Software Foundation; changed, see NOTICE.
+use column::offsets;
+use model::ListAnswer;
+use model::SetOp;
+use set_rows::set_ops;
+ghost use Prim.Native.Nat.{_<_, _≤_};
+ghost use Rattle.column.specs.Outputs.{Fills, ReadableRow, RoomForRow, RoomIn, WritesRow};
+ghost use Rattle.column.specs.Put.{Readable};
+ghost use Rattle.column.specs.Rows.{rowFrom};
+ghost use Rattle.model.specs.Column.{rowCount, rowsOf};
+ghost use Rattle.model.specs.Contract.{ListAnswers};
+ghost use Rattle.model.specs.Elements.{setElems};
+ghost use Rattle.model.specs.Form.{elemsOf, flat};
+ghost use Rattle.model.specs.Inner.{nowColumn, nowBits, nowElem, lentBits, lentElem, lentFrom};
+ghost use Rattle.model.specs.Limits.{narrow};
+ghost use Rattle.model.specs.Outcome.{afterThree, listOutcome};
+ghost use Rattle.model.specs.Rows.{onRows, setOp};
+ghost use Rattle.set_walk.specs.Pairs.{boundOf, pairRows};
+ghost use lib.ListN.{length};
+ghost use mathlib.Core.Path.{_≡_};
+
+// The number of elements that the operation makes of the rows r, which lie from a to b and from c to d.
+#[rattlefmt::skip]
+fn measure_pair<'a>(
+    op: SetOp, lrows: &[u8], l_rstart: usize, lvalues: &'a [i64], lelements: &[u8], l_estart: usize,
+    a: usize, b: usize, rrows: &[u8], r_rstart: usize, rvalues: &'a [i64], relements: &[u8], r_estart: usize,
+    c: usize, d: usize, n: usize, r: usize,
+) -> usize
+    requires left { ⌜ ReadableRow lrows «l_rstart» n lvalues lelements «l_estart» r a b ⌝ }
+    requires right { ⌜ ReadableRow rrows «r_rstart» n rvalues relements «r_estart» r c d ⌝ }
+    requires small { ⌜ b ≤ narrow .offset ⌝ }
+    requires low { ⌜ d ≤ narrow .offset ⌝ }
+    ensures { λ k. ⌜ k ≡ length (elemsOf (onRows (setElems op) (rowFrom (lentBits lrows «l_rstart») (lentElem lvalues lelements «l_estart») r a b) (rowFrom (lentBits rrows «r_rstart») (lentElem rvalues relements «r_estart») r c d))) ⌝ }
+{
+    if !set_checks::are_valid(lrows, l_rstart, rrows, r_rstart, n, r) {
+        return 0;
+    }
+    set_ops::measure_set(
+        op, lvalues, lelements, l_estart,
+        a, b - a, rvalues, relements, r_estart,
+        c, d - c,
+    )
+}
+
+// Writes the row that the operation makes of the rows r, but for its offset; gives the number of elements then written.
+#[rattlefmt::skip]
+fn put_pair<'a>(
+    op: SetOp, lrows: &[u8], l_rstart: usize, lvalues: &'a [i64], lelements: &[u8], l_estart: usize,
+    a: usize, b: usize, rrows: &[u8], r_rstart: usize, rvalues: &'a [i64], relements: &[u8], r_estart: usize,
+    c: usize, d: usize, n: usize, r: usize, out_rows: &mut [u8], out_values: &mut [i64], out_elements: &mut [u8],
+    at: usize,
+) -> usize
+    requires left { ⌜ ReadableRow lrows «l_rstart» n lvalues lelements «l_estart» r a b ⌝ }
+    requires right { ⌜ ReadableRow rrows «r_rstart» n rvalues relements «r_estart» r c d ⌝ }
+    requires room { ⌜ RoomForRow (onRows (setElems op) (rowFrom (nowBits lrows «l_rstart») (nowElem lvalues lelements «l_estart») r a b) (rowFrom (nowBits rrows «r_rstart») (nowElem rvalues relements «r_estart») r c d)) r at «out_rows» «out_values» «out_elements» ⌝ }
+    ensures { λ k. ⌜ WritesRow (onRows (setElems op) (rowFrom (lentBits lrows «l_rstart») (lentElem lvalues lelements «l_estart») r a b) (rowFrom (lentBits rrows «r_rstart») (lentElem rvalues relements «r_estart») r c d)) r at «out_rows» «out_values» «out_elements» k ⌝ }
+{
+    if !set_checks::are_valid(lrows, l_rstart, rrows, r_rstart, n, r) {
+        bitmap::push_bit(out_rows, r, false);
+        return at;
+    }
+    let next = set_ops::write_set(
+        op, lvalues, lelements, l_estart,
+        a, b - a, rvalues, relements, r_estart,
+        c, d - c, out_values, out_elements,
+        at,
+    );
+    bitmap::push_bit(out_rows, r, true);
+    next
+}
+
+// The number of elements that the operation makes.
+#[rattlefmt::skip]
+fn measure_pairs<'a>(
+    op: SetOp,
+    loffsets: &[i32], lrows: &[u8], l_rstart: usize, lvalues: &'a [i64], lelements: &[u8], l_estart: usize,
+    roffsets: &[i32], rrows: &[u8], r_rstart: usize, rvalues: &'a [i64], relements: &[u8], r_estart: usize,
+) -> usize
+    requires left { ⌜ Readable (nowColumn loffsets lrows «l_rstart» lvalues lelements «l_estart») ⌝ }
+    requires right { ⌜ Readable (nowColumn roffsets rrows «r_rstart» rvalues relements «r_estart») ⌝ }
+    requires equal { ⌜ rowCount (now roffsets) ≡ rowCount (now loffsets) ⌝ }
+    ensures { λ m. ⌜ m ≡ length (flat (pairRows op (lentFrom loffsets lrows «l_rstart» lvalues lelements «l_estart») (lentFrom roffsets rrows «r_rstart» rvalues relements «r_estart»))) ⌝ }
+    ensures { λ m. ⌜ m ≤ boundOf op (narrow .offset) (narrow .offset) ⌝ }
+{
+    let n = offsets::row_count(loffsets);
+    let mut found: usize = 0;
+    let mut r: usize = 0;
+    let mut left = n;
+    while 0 < left {
+        let a = offsets::offset_at(loffsets, r);
+        let b = offsets::offset_at(loffsets, r + 1);
+        let c = offsets::offset_at(roffsets, r);
+        let d = offsets::offset_at(roffsets, r + 1);
+        let len = measure_pair(
+            op, lrows, l_rstart, lvalues, lelements, l_estart,
+            a, b, rrows, r_rstart, rvalues, relements, r_estart,
+            c, d, n, r,
+        );
+        found += len;
+        r += 1;
+        left -= 1;
+    }
+    found
+}
+
+// Writes the rows that the operation makes, in result form.
+#[rattlefmt::skip]
+fn write_pairs<'a>(
+    op: SetOp,
+    loffsets: &[i32], lrows: &[u8], l_rstart: usize, lvalues: &'a [i64], lelements: &[u8], l_estart: usize,
+    roffsets: &[i32], rrows: &[u8], r_rstart: usize, rvalues: &'a [i64], relements: &[u8], r_estart: usize,
+    out_offsets: &mut [i32], out_rows: &mut [u8], out_values: &mut [i64], out_elements: &mut [u8],
+)
+    requires left { ⌜ Readable (nowColumn loffsets lrows «l_rstart» lvalues lelements «l_estart») ⌝ }
+    requires right { ⌜ Readable (nowColumn roffsets rrows «r_rstart» rvalues relements «r_estart») ⌝ }
+    requires equal { ⌜ rowCount (now roffsets) ≡ rowCount (now loffsets) ⌝ }
+    requires small { ⌜ length (flat (pairRows op (nowColumn loffsets lrows «l_rstart» lvalues lelements «l_estart») (nowColumn roffsets rrows «r_rstart» rvalues relements «r_estart»))) ≤ narrow .offset ⌝ }
+    requires room { ⌜ RoomIn (rowCount (now loffsets)) (length (flat (pairRows op (nowColumn loffsets lrows «l_rstart» lvalues lelements «l_estart») (nowColumn roffsets rrows «r_rstart» rvalues relements «r_estart»)))) «out_offsets» «out_rows» «out_values» «out_elements» ⌝ }
+    ensures { λ _. ⌜ Fills (pairRows op (lentFrom loffsets lrows «l_rstart» lvalues lelements «l_estart») (lentFrom roffsets rrows «r_rstart» rvalues relements «r_estart»)) «out_offsets» «out_rows» «out_values» «out_elements» ⌝ }
+{
+    let n = offsets::row_count(loffsets);
+    offsets::put_offset(out_offsets, 0, 0);
+    let mut r: usize = 0;
+    let mut at: usize = 0;
+    let mut left = n;
+    while 0 < left {
+        let a = offsets::offset_at(loffsets, r);
+        let b = offsets::offset_at(loffsets, r + 1);
+        let c = offsets::offset_at(roffsets, r);
+        let d = offsets::offset_at(roffsets, r + 1);
+        at = put_pair(
+            op, lrows, l_rstart, lvalues, lelements, l_estart,
+            a, b, rrows, r_rstart, rvalues, relements, r_estart,
+            c, d, n, r, out_rows, out_values, out_elements,
+            at,
+        );
+        offsets::put_offset(out_offsets, r + 1, at);
+        r += 1;
+        left -= 1;
+    }
+}
+
+// Writes what the operation makes of columns that refusals 1, 2 and 3 do not apply to.
+#[rattlefmt::skip]
+pub fn after_three<'a>(
+    op: SetOp,
+    loffsets: &[i32], lrows: &[u8], l_rstart: usize, lvalues: &'a [i64], lelements: &[u8], l_estart: usize,
+    roffsets: &[i32], rrows: &[u8], r_rstart: usize, rvalues: &'a [i64], relements: &[u8], r_estart: usize,
+    out_offsets: &mut [i32], out_rows: &mut [u8], out_values: &mut [i64], out_elements: &mut [u8],
+) -> ListAnswer
+    requires left { ⌜ Readable (nowColumn loffsets lrows «l_rstart» lvalues lelements «l_estart») ⌝ }
+    requires right { ⌜ Readable (nowColumn roffsets rrows «r_rstart» rvalues relements «r_estart») ⌝ }
+    requires equal { ⌜ rowCount (now roffsets) ≡ rowCount (now loffsets) ⌝ }
+    ensures { λ k. ⌜ ListAnswers (afterThree narrow (setOp op (rowsOf (lentFrom loffsets lrows «l_rstart» lvalues lelements «l_estart»)) (rowsOf (lentFrom roffsets rrows «r_rstart» rvalues relements «r_estart»)))) k «out_offsets» «out_rows» «out_values» «out_elements» ⌝ }
+{
+    let n = offsets::row_count(loffsets);
+    let m = measure_pairs(
+        op,
+        loffsets, lrows, l_rstart, lvalues, lelements, l_estart,
+        roffsets, rrows, r_rstart, rvalues, relements, r_estart,
+    );
+    let long = set_checks::union_refusal(op, m);
+    if long != 0 {
+        return ListAnswer::Refused(long);
+    }
+    if !checks::has_room(
+        n,
+        m,
+        out_offsets.len(),
+        out_rows.len(),
+        out_values.len(),
+        out_elements.len(),
+    ) {
+        return ListAnswer::Refused(9);
+    }
+    write_pairs(
+        op,
+        loffsets, lrows, l_rstart, lvalues, lelements, l_estart,
+        roffsets, rrows, r_rstart, rvalues, relements, r_estart,
+        out_offsets, out_rows, out_values, out_elements,
+    );
+    answers::list_answer(out_rows, n, out_elements, m)
+}
+
+// Checks the columns and the outputs, and writes what the operation makes.
+#[rattlefmt::skip]
+pub fn run<'a>(
+    op: SetOp,
+    loffsets: &[i32], lrows: &[u8], l_rstart: usize, lvalues: &'a [i64], lelements: &[u8], l_estart: usize,
+    roffsets: &[i32], rrows: &[u8], r_rstart: usize, rvalues: &'a [i64], relements: &[u8], r_estart: usize,
+    out_offsets: &mut [i32], out_rows: &mut [u8], out_values: &mut [i64], out_elements: &mut [u8],
+) -> ListAnswer
+    requires { ⌜ «l_rstart» < 8 ⌝ }
+    requires { ⌜ «l_estart» < 8 ⌝ }
+    requires { ⌜ «r_rstart» < 8 ⌝ }
+    requires { ⌜ «r_estart» < 8 ⌝ }
+    ensures { λ k. ⌜ ListAnswers (listOutcome narrow (setOp op (lentFrom loffsets lrows «l_rstart» lvalues lelements «l_estart») (lentFrom roffsets rrows «r_rstart» rvalues relements «r_estart»))) k «out_offsets» «out_rows» «out_values» «out_elements» ⌝ }
+{
+    let k = set_checks::lists_refusal(
+        loffsets, lrows, l_rstart, lvalues, lelements, l_estart,
+        roffsets, rrows, r_rstart, rvalues, relements, r_estart,
+    );
+    if k != 0 {
+        return ListAnswer::Refused(k);
+    }
+    if !set_checks::same_row_count(loffsets, roffsets) {
+        return ListAnswer::Refused(3);
+    }
+    after_three(
+        op,
+        loffsets, lrows, l_rstart, lvalues, lelements, l_estart,
+        roffsets, rrows, r_rstart, rvalues, relements, r_estart,
+        out_offsets, out_rows, out_values, out_elements,
+    )
+}

@@ -1,0 +1,53 @@
+-- Laws of one step: the call that it makes, the columns that it uses, and the rows that it takes.
+use Prim.Native.Nat.{ℕ}
+use mathlib.Core.Path.{_≡_, _∙_}
+use mathlib.Core.List.{List}
+use borrow.Author.Tests.{eq-eqb, ne-eqb}
+use lib.ListN.{length}
+use Rattle.model.specs.Column.{Elem, Row, Column, rowsOf}
+use Rattle.model.specs.Recipe.{Step, columnOf, stepCall}
+use Rattle.model.specs.Recipe as recipe
+use Rattle.model.specs.Rows.{setOp}
+use Rattle.model.specs.declared.SetOp.{SetOp}
+use Rattle.ops.specs.Ops.{callOf}
+use Rattle.ops.specs.declared.ListOp.{ListOp}
+use Rattle.codes.specs.Codes.{operations, operationOf}
+use Rattle.one_list.specs.Uses.{Uses}
+use Rattle.step.specs.Step.{opCall, opUses, rowsTaken}
+use Rattle.codes.specs.declared.Operation.{Operation}
+use Rattle.codes.specs.declared.Operation.the-variants as S
+use Rattle.model.proofs.TabLaws.{getD-map}
+
+-- ---- the call of a step
+
+pub call-is : (code : ℕ) (ws rs : List Row) (a b c : List Elem) → recipe.codeCall code ws rs a b c ≡ opCall (operationOf code) ws rs a b c
+unfolding recipe.codeCall operationOf opCall callOf
+call-is code ws rs a b c = getD-map (λ o. opCall o ws rs a b c) operations code S.None
+
+module _ (s : Step) (ws rs : List Row) (es : List Elem) where
+  pub step-one : (op : ListOp) (n : ℕ) → operationOf (s .code) ≡ S.One op → length rs ≡ n → stepCall s ws rs es ≡ callOf op ws (columnOf es n (s .first)) (columnOf es n (s .second)) (columnOf es n (s .third))
+  unfolding opCall
+  step-one op n h e = call-is (s .code) ws rs _ _ _ ∙ rw (h, e)
+
+  pub step-two : (op : SetOp) → operationOf (s .code) ≡ S.Two op → stepCall s ws rs es ≡ setOp op ws rs
+  unfolding opCall
+  step-two op h = call-is (s .code) ws rs _ _ _ ∙ rw h
+
+-- the columns that a step uses, by what it does
+pub uses-one : (s : Step) (n len : ℕ) (o : Operation) (op : ListOp) → o ≡ operationOf (s .code) → o ≡ S.One op → opUses (operationOf (s .code)) s n len → Uses op n (s .first) (s .second) (s .third) len
+unfolding opUses
+uses-one s n len o op e q h = rw (← e, q) at h
+
+pub uses-none : (s : Step) (n len : ℕ) (o : Operation) → o ≡ operationOf (s .code) → o ≡ S.None → opUses (operationOf (s .code)) s n len → ⊥
+unfolding opUses
+uses-none s n len o e q h = rw (← e, q) at h
+
+-- ---- the rows that a step takes
+
+pub taken-first : (k : ℕ) (c t : Column) → k ≡ 0 → rowsTaken k c t ≡ rowsOf c
+unfolding rowsTaken
+taken-first k c t e = rw (eq-eqb k 0 e)
+
+pub taken-later : (k : ℕ) (c t : Column) → (k ≡ 0 → ⊥) → rowsTaken k c t ≡ rowsOf t
+unfolding rowsTaken
+taken-later k c t h = rw (ne-eqb k 0 h)

@@ -1,0 +1,2 @@
+pub mod StrideLaws
+pub mod PlanLaws

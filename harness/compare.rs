@@ -165,6 +165,9 @@ impl<'a> Checker<'a> {
                 self.report(other, &["the second of these".to_string()]);
             } else if first.inputs != other.inputs {
                 met.iter().for_each(|subject| self.covered(other, SHARED, subject.clone()));
+                for subject in coverage::offsets_apart(first, other, answer.number) {
+                    self.covered(other, SHARED, subject);
+                }
             }
         }
     }
@@ -197,6 +200,9 @@ impl<'a> Checker<'a> {
     fn record_coverage(&mut self, case: &Case, expected: &Expected) {
         self.covered(case, "calls", "");
         self.covered(case, "answer", expected.number.to_string());
+        for subject in coverage::no_offsets_met(case, expected.number) {
+            self.covered(case, "no offsets", subject);
+        }
         if case.entry.is_recipe() {
             return self.record_recipe(case, expected);
         }

@@ -6,7 +6,7 @@
 //! written out by hand with what they become, so that it also checks the model: a row that becomes
 //! something else leaves a demand unmet.
 
-use crate::entry::{Case, Entry, Expected, Input, SliceKind};
+use crate::entry::{Case, Content, Entry, Expected, Input, SliceKind};
 use crate::generate::{Column, Harm};
 use crate::library::Library;
 use crate::model::{
@@ -57,13 +57,16 @@ pub const ROW_COUNTS: [(usize, &str); 10] = [
 ];
 
 pub fn row_count(input: &Input) -> Option<&'static str> {
-    let rows = input.lists[0].offsets.len() - 1;
+    let rows = input.lists[0].row_count();
     ROW_COUNTS.iter().find(|(count, _)| *count == rows).map(|(_, name)| *name)
 }
 
 // Layouts.
 
-pub const LIST_LAYOUTS: [&str; 13] = [
+pub const LIST_LAYOUTS: [&str; 16] = [
+    "no offsets",
+    "no offsets beside values",
+    "no offsets beside an element bitmap",
     "first offset 0",
     "first offset above 0",
     "null row over values",
@@ -114,7 +117,7 @@ fn layout_name(column: Column, entry: Entry, name: &str) -> String {
 }
 
 fn untaken_layouts(input: &Input) -> impl Iterator<Item = &'static str> + use<'_> {
-    let rows = input.lists[0].offsets.len() - 1;
+    let rows = input.lists[0].row_count();
     input.arguments[input.taken().len()..].iter().flat_map(move |one| {
         let short = is_too_short(&one.bits, one.values.len());
         let holds = [
@@ -127,17 +130,22 @@ fn untaken_layouts(input: &Input) -> impl Iterator<Item = &'static str> + use<'_
 }
 
 pub fn list_layouts(list: &ListColumn) -> Vec<&'static str> {
-    let rows = list.offsets.len() - 1;
-    let (first, last) = (list.offsets[0], list.offsets[rows]);
+    let rows = list.row_count();
+    let none = list.offsets.is_empty();
+    let first = list.offsets.first().copied().unwrap_or(0);
+    let last = list.offsets.last().copied().unwrap_or(0);
     let places = |row: usize| list.offsets[row] as usize..list.offsets[row + 1] as usize;
     let hides = |place: usize| !is_valid(&list.elements, place) && list.values[place] != 0;
     let holds = [
-        first == 0,
+        none,
+        none && !list.values.is_empty(),
+        none && !list.values.is_empty() && !list.elements.is_empty(),
+        !none && first == 0,
         first > 0,
         (0..rows).any(|row| !is_valid(&list.rows, row) && !places(row).is_empty()),
         list.offsets.windows(2).any(|pair| pair[0] == pair[1]),
-        last as usize == list.values.len(),
-        (last as usize) < list.values.len(),
+        !none && last as usize == list.values.len(),
+        !none && (last as usize) < list.values.len(),
         (0..rows).any(|row| is_valid(&list.rows, row) && places(row).any(hides)),
         has_spare_bit(&list.rows, rows) || has_spare_bit(&list.elements, list.values.len()),
         is_exact(&list.rows, rows),
@@ -177,6 +185,65 @@ fn is_exact(bitmap: &[u8], positions: usize) -> bool {
 
 fn is_longer(bitmap: &[u8], positions: usize) -> bool {
     bitmap.len() > bitmap_bytes(positions)
+}
+
+// No offsets.
+
+/// The lists that have no offsets, where the entry itself does not answer.
+fn without_offsets(case: &Case) -> Vec<Column> {
+    let offsets = |at: usize| &case.inputs[usize::from(case.entry.is_recipe()) + 4 * at];
+    let none = (0..case.entry.lists()).filter(|at| offsets(*at).is_empty());
+    none.map(Column::List).collect()
+}
+
+/// The answers that lists without offsets are given, and whether all of them are without.
+pub fn no_offsets_met(case: &Case, number: u32) -> Vec<String> {
+    let none = without_offsets(case);
+    let mut met: Vec<String> =
+        none.iter().map(|column| no_offsets(*column, case.entry, number)).collect();
+    if none.len() == 2 {
+        met.push(format!("both lists: {number}"));
+    }
+    met
+}
+
+fn no_offsets(column: Column, entry: Entry, number: u32) -> String {
+    format!("{}: {number}", column.name(entry))
+}
+
+/// The lists of which one call has no offsets and the other has, by the answer that they share.
+pub fn offsets_apart(one: &Case, other: &Case, number: u32) -> Vec<String> {
+    let (none, other_none) = (without_offsets(one), without_offsets(other));
+    let lists = (0..one.entry.lists()).map(Column::List);
+    let apart = lists.filter(|column| none.contains(column) != other_none.contains(column));
+    apart.map(|column| shared_no_offsets(column, one.entry, number)).collect()
+}
+
+fn shared_no_offsets(column: Column, entry: Entry, number: u32) -> String {
+    format!("no offsets in {}", no_offsets(column, entry, number))
+}
+
+/// What lists without offsets must be answered, alone and in pairs: 9 where a result has an offset,
+/// 3 where there are other columns, and 10 in recipes.
+pub fn demanded_no_offsets(entry: Entry) -> Vec<(&'static str, String)> {
+    let mut numbers = vec![0, 2];
+    numbers.extend((Column::all(entry).len() > 1).then_some(3));
+    numbers.extend((entry.outputs()[0].content == Content::Offsets).then_some(9));
+    numbers.extend(entry.is_recipe().then_some(10));
+    let mut all = Vec::new();
+    for column in (0..entry.lists()).map(Column::List) {
+        for number in &numbers {
+            all.push(("no offsets", no_offsets(column, entry, *number)));
+            if *number != 2 {
+                all.push((SHARED, shared_no_offsets(column, entry, *number)));
+            }
+        }
+        if entry.lists() == 2 {
+            all.push(("no offsets", no_offsets(column, entry, 1)));
+            all.push(("no offsets", "both lists: 0".to_string()));
+        }
+    }
+    all
 }
 
 // Outputs and sizes.
@@ -616,7 +683,7 @@ pub fn limits_met(input: &Input, number: u32) -> Vec<&'static str> {
         return Vec::new();
     }
     let column = &input.taken()[input.taken().len() - 1];
-    limit_columns_met(input.lists[0].offsets.len() - 1, &model::shown_arguments(column), number)
+    limit_columns_met(input.lists[0].row_count(), &model::shown_arguments(column), number)
 }
 
 // Answers that layouts of the same rows share.
@@ -626,9 +693,9 @@ pub const SHARED: &str = "pair of layouts";
 
 /// The columns whose length does not go with the rows of the first list.
 fn unequal_columns(input: &Input) -> Vec<Column> {
-    let rows = input.lists[0].offsets.len() - 1;
+    let rows = input.lists[0].row_count();
     let is_unequal = |column: &Column| match *column {
-        Column::List(at) => input.lists[at].offsets.len() - 1 != rows,
+        Column::List(at) => input.lists[at].row_count() != rows,
         Column::Argument(at) => {
             let values = input.arguments[at].values.len();
             match input.entry {
@@ -975,6 +1042,7 @@ fn demanded(entry: Entry) -> Vec<(&'static str, String)> {
     }
     add("ragged", vec!["counts".to_string()]);
     add("row", owned(&demanded_of_rows(entry.known_operation())));
+    all.extend(demanded_no_offsets(entry));
     all
 }
 

@@ -1,7 +1,7 @@
 //! The names of the deliberately wrong versions of the library, which mock.rs, mock_rows.rs and
 //! mock_recipe.rs ask for.
 
-use crate::entry::Entry;
+use crate::entry::{Content, Entry};
 use std::sync::OnceLock;
 
 /// The wrong versions, each with the operation whose groups must report it; where none is named,
@@ -171,6 +171,9 @@ pub fn print() {
     }
     for entry in Entry::all().chain([Entry::Recipe(0)]) {
         EVERYWHERE.iter().for_each(|name| println!("{name} {}", entry.name()));
+        if entry.outputs()[0].content == Content::Offsets {
+            println!("{NO_SLOT} {}", entry.name());
+        }
     }
 }
 
@@ -199,11 +202,17 @@ const EVERYWHERE: &[&str] = &[
     "refusal-clears-outputs",
     "ragged-output-accepted",
     "at-size-refused",
+    "no-offsets-refused",
+    "no-offsets-bitmap-not-tested",
+    "no-offsets-are-one-row",
     NULL_ROWS,
 ];
 
 /// The validity of rows is not looked at.
 pub const NULL_ROWS: &str = "null-rows-shown";
+
+/// A result of no rows needs no slot where the list has no offsets; of a value answer, none ever.
+const NO_SLOT: &str = "no-slot-where-no-offsets";
 
 /// What a column shows, and refusals of columns.
 const COLUMN_DEFECTS: &[&str] = &[
@@ -215,7 +224,6 @@ const COLUMN_DEFECTS: &[&str] = &[
     "empty-bitmap-all-null",
     "last-row-forgotten-at-4096",
     "element-validity-ignored",
-    "no-offsets-accepted",
     "negative-first-accepted",
     "last-fall-missed",
     "fall-at-null-row-missed",
@@ -237,6 +245,10 @@ const COLUMN_DEFECTS: &[&str] = &[
 
 /// The second list.
 const RIGHT_DEFECTS: &[&str] = &[
+    "right-no-offsets-refused",
+    "right-no-offsets-bitmap-not-tested",
+    "right-no-offsets-are-one-row",
+    "right-no-offsets-suit-any-rows",
     "right-offsets-not-tested",
     "right-bitmaps-not-tested",
     "right-rows-not-counted",
@@ -445,6 +457,10 @@ const RECIPE_COLUMN_DEFECTS: &[&str] = &[
     "recipe-second-list-not-tested",
     "recipe-second-list-tested-where-used",
     "recipe-second-rows-not-counted",
+    "right-no-offsets-refused",
+    "right-no-offsets-bitmap-not-tested",
+    "right-no-offsets-are-one-row",
+    "right-no-offsets-suit-any-rows",
     "argument-bitmap-not-tested",
     "2-before-1",
     "3-before-2",
@@ -580,7 +596,9 @@ pub fn defect() -> &'static str {
 }
 
 fn is_known(name: &str) -> bool {
-    EVERYWHERE.contains(&name) || DEFECTS.iter().any(|(_, names)| names.contains(&name))
+    name == NO_SLOT
+        || EVERYWHERE.contains(&name)
+        || DEFECTS.iter().any(|(_, names)| names.contains(&name))
 }
 
 pub fn is(name: &str) -> bool {

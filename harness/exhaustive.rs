@@ -69,9 +69,9 @@ fn value_lists(entry: Entry, count: usize) -> Vec<Vec<i64>> {
     }
 }
 
-/// The most values for this many rows, which bounds the number of columns.
-fn most_values(entry: Entry, rows: usize) -> usize {
-    let fewer = entry.known_operation() == Operation::Distinct && rows == 3 || has_others(entry);
+/// The most values for this many offsets, which bounds the number of columns.
+fn most_values(entry: Entry, slots: usize) -> usize {
+    let fewer = entry.known_operation() == Operation::Distinct && slots == 4 || has_others(entry);
     if fewer {
         3
     } else {
@@ -115,11 +115,11 @@ fn check_beside(
     check_input(checker, &input, rng);
 }
 
-/// Every well-formed column of at most three rows and three or four values, as each list.
+/// Every well-formed column of at most four offsets and three or four values, as each list.
 pub fn short_columns(checker: &mut Checker, entry: Entry, rng: &mut Rng, _calls: u64) {
-    for rows in 0..=3 {
-        for count in 0..=most_values(entry, rows) {
-            for offsets in rising_offsets(rows + 1, count) {
+    for slots in 0..=4 {
+        for count in 0..=most_values(entry, slots) {
+            for offsets in rising_offsets(slots, count) {
                 for values in value_lists(entry, count) {
                     let list =
                         ListColumn { offsets: offsets.clone(), values, ..Default::default() };
@@ -131,7 +131,7 @@ pub fn short_columns(checker: &mut Checker, entry: Entry, rng: &mut Rng, _calls:
 }
 
 fn check_every_bitmap(checker: &mut Checker, entry: Entry, mut list: ListColumn, rng: &mut Rng) {
-    for rows in bitmaps(list.offsets.len() - 1) {
+    for rows in bitmaps(list.row_count()) {
         list.rows = rows;
         for elements in bitmaps(list.values.len()) {
             list.elements = elements;

@@ -95,9 +95,11 @@ pub struct Layout {
     pub more_bitmap_bytes: usize,
     /// No bitmap where all is valid.
     pub absent_bitmaps: bool,
+    /// No offsets where there are no rows.
+    pub no_offsets: bool,
 }
 
-/// Each way alone, then all of them, without and with absent bitmaps.
+/// Each way alone, then all of them, without and with absent bitmaps and with no offsets.
 pub fn layouts() -> Vec<Layout> {
     let plain = Layout::default();
     let all = Layout {
@@ -108,6 +110,7 @@ pub fn layouts() -> Vec<Layout> {
         spare_bits: true,
         more_bitmap_bytes: 2,
         absent_bitmaps: false,
+        no_offsets: false,
     };
     vec![
         plain,
@@ -121,8 +124,10 @@ pub fn layouts() -> Vec<Layout> {
         Layout { more_bitmap_bytes: 1, ..plain },
         Layout { more_bitmap_bytes: 700, spare_bits: true, ..plain },
         Layout { absent_bitmaps: true, ..plain },
+        Layout { no_offsets: true, ..plain },
         all,
         Layout { absent_bitmaps: true, ..all },
+        Layout { no_offsets: true, ..all },
     ]
 }
 
@@ -135,6 +140,7 @@ pub fn random_layout(rng: &mut Rng) -> Layout {
         spare_bits: rng.chance(1, 2),
         more_bitmap_bytes: rng.pick(&[0, 0, 1, 5]),
         absent_bitmaps: rng.chance(1, 2),
+        no_offsets: rng.chance(1, 2),
     }
 }
 
@@ -193,6 +199,9 @@ pub fn lay_out(rows: &[Row], layout: Layout, rng: &mut Rng) -> ListColumn {
         offsets.push(places.values.len() as i32);
     }
     places.push_hidden(hide(layout.behind), rng);
+    if rows.is_empty() && layout.no_offsets {
+        offsets.clear();
+    }
 
     let valid_rows: Vec<bool> = rows.iter().map(Option::is_some).collect();
     let all_elements_valid = rows.iter().flatten().flatten().all(Option::is_some);
@@ -586,7 +595,6 @@ impl Role {
 
 #[derive(Clone, Copy, PartialEq, Debug)]
 pub enum Damage {
-    NoOffsets,
     NegativeFirst,
     FallingAtFirst,
     FallingInside,
@@ -601,6 +609,7 @@ pub enum Damage {
     OneRowFewer,
     OneRowMore,
     NoRows,
+    NoOffsets,
     ArgumentBitsShort,
     ArgumentBitsEmpty,
     ArgumentOneFewer,
@@ -610,7 +619,6 @@ pub enum Damage {
 
 /// Each damage with its name and the refusal that it alone brings; an emptied bitmap brings none.
 const DAMAGES: [(Damage, &str, Option<u32>); 20] = [
-    (Damage::NoOffsets, "no offsets", Some(1)),
     (Damage::NegativeFirst, "first offset negative", Some(1)),
     (Damage::FallingAtFirst, "offsets falling at the first row", Some(1)),
     (Damage::FallingInside, "offsets falling inside", Some(1)),
@@ -625,6 +633,7 @@ const DAMAGES: [(Damage, &str, Option<u32>); 20] = [
     (Damage::OneRowFewer, "one row fewer", Some(3)),
     (Damage::OneRowMore, "one row more", Some(3)),
     (Damage::NoRows, "no rows", Some(3)),
+    (Damage::NoOffsets, "no offsets", Some(3)),
     (Damage::ArgumentBitsShort, "bitmap one byte short", Some(2)),
     (Damage::ArgumentBitsEmpty, "bitmap emptied", None),
     (Damage::ArgumentOneFewer, "one value fewer", Some(3)),
@@ -685,8 +694,12 @@ impl Harm {
     pub fn is_possible(self, input: &Input) -> bool {
         match self.column {
             Column::List(at) => {
-                let rows = input.lists[at].offsets.len().max(1) - 1;
-                rows > 8 || matches!(self.damage, Damage::NoOffsets | Damage::NegativeFirst)
+                let list = &input.lists[at];
+                match self.damage {
+                    Damage::NegativeFirst => !list.offsets.is_empty(),
+                    Damage::ElementBitsShort => true,
+                    _ => list.row_count() > 8,
+                }
             }
             Column::Argument(at) => {
                 self.damage != Damage::ArgumentBitsShort || input.arguments[at].values.len() > 8
@@ -705,10 +718,9 @@ impl Harm {
 
 impl Damage {
     fn apply_to_list(self, list: &mut ListColumn, rng: &mut Rng) {
-        let rows = list.offsets.len() - 1;
-        let last = list.offsets[rows];
+        let rows = list.row_count();
+        let last = list.offsets.last().copied().unwrap_or(0);
         match self {
-            Damage::NoOffsets => list.offsets.clear(),
             Damage::NegativeFirst => list.offsets[0] = rng.pick(&[-1, -2, i32::MIN]),
             Damage::FallingAtFirst => fall_at(list, 1),
             Damage::FallingInside => fall_at(list, 2 + rng.below(rows - 2)),
@@ -731,6 +743,7 @@ impl Damage {
                 list.rows.push(0xff);
             }
             Damage::NoRows => list.offsets.truncate(1),
+            Damage::NoOffsets => list.offsets.clear(),
             _ => unreachable!("damage of an argument column"),
         }
     }
@@ -825,7 +838,7 @@ pub fn needed_slots(input: &Input) -> Vec<usize> {
         return model::slots_needed(&made).iter().map(|slots| *slots as usize).collect();
     }
     let list = &input.lists[0];
-    let rows = list.offsets.len().max(1) as u64 - 1;
+    let rows = list.row_count() as u64;
     let counts = [rows, list.values.len() as u64, 0, 0, rows, 0];
     input.entry.written_slots(&counts[..input.entry.outputs().len()])
 }

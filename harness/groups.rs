@@ -8,6 +8,7 @@ use crate::exhaustive::{every_argument, every_limit_length, every_sum};
 use crate::exhaustive::{short_columns, short_offsets};
 use crate::generate::*;
 use crate::model::{Operation, Role, Row, Shown};
+use crate::no_offsets;
 use crate::pairs;
 use crate::recipe_groups;
 use crate::rng::Rng;
@@ -26,7 +27,7 @@ pub struct Group {
 
 /// The groups that each operation has, if it is one for which they are meant; those that take long
 /// come last.
-const FOR_EACH: [(&str, Applies, Run, u64); 13] = [
+const FOR_EACH: [(&str, Applies, Run, u64); 14] = [
     ("random columns", always, random_columns, 6),
     ("layouts of the same rows", always, pairs::same_rows, 6),
     ("damaged columns", always, damaged_columns, 4),
@@ -38,6 +39,7 @@ const FOR_EACH: [(&str, Applies, Run, u64); 13] = [
     ("boundary arguments, exhaustive", has_others, every_argument, 0),
     ("sums, exhaustive", has_sums, every_sum, 0),
     ("limit columns, exhaustive", has_limit, every_limit_length, 0),
+    ("no offsets, exhaustive", always, no_offsets::every_form, 0),
     ("short columns, exhaustive", always, short_columns, 0),
     ("short offsets, exhaustive", always, short_offsets, 0),
 ];

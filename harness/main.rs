@@ -1,5 +1,5 @@
 //! The test harness: calls the port through its C entries and compares every call with an
-//! independent reading of document 01.
+//! independent reading of document 01 and of the notes of document 02 that change it.
 //!
 //!     harness                        the gate's amount
 //!     harness --calls N --seed S     N random calls beside the exhaustive ones
@@ -22,7 +22,8 @@
 //! groups in recipe_groups.rs and recipe_lengths.rs, what these must reach in recipe_coverage.rs,
 //! and their wrong versions in mock_recipe.rs; `--operation recipe` runs their groups.
 //!
-//! Pairs of layouts that show the same rows are in pairs.rs, for operations and for recipes.
+//! Pairs of layouts that show the same rows are in pairs.rs, for operations and for recipes; columns
+//! with no offsets are in no_offsets.rs.
 
 mod bench;
 mod compare;
@@ -43,6 +44,7 @@ mod mock_recipe;
 #[cfg(mock)]
 mod mock_rows;
 mod model;
+mod no_offsets;
 mod pairs;
 mod plain;
 mod port;

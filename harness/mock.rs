@@ -305,10 +305,18 @@ impl<'a> Column<'a> {
         self.is_right && is(name)
     }
 
-    fn row_count(&self) -> usize {
+    /// Whether it has no offsets, and is wrong there in every list or in the right one.
+    fn has_none_with(&self, name: &str, right_name: &str) -> bool {
+        self.offsets.is_empty() && (is(name) || self.is_right_with(right_name))
+    }
+
+    pub fn row_count(&self) -> usize {
         let rows = self.offsets.len().max(1) - 1;
         if rows == 4096 && is("last-row-forgotten-at-4096") {
             return 4095;
+        }
+        if self.has_none_with("no-offsets-are-one-row", "right-no-offsets-are-one-row") {
+            return 1;
         }
         rows
     }
@@ -325,7 +333,7 @@ impl<'a> Column<'a> {
             return false;
         }
         let (Some(first), Some(last)) = (self.offsets.first(), self.offsets.last()) else {
-            return !is("no-offsets-accepted");
+            return self.has_none_with("no-offsets-refused", "right-no-offsets-refused");
         };
         let most = match defect() {
             "last-beyond-by-one-accepted" => self.values.len() as i64 + 1,
@@ -341,8 +349,10 @@ impl<'a> Column<'a> {
         let rows = self.row_count() + usize::from(is("row-bitmap-for-one-more-row"));
         let last = self.offsets.last().map_or(0, |last| *last as usize);
         let values = if is("element-bitmap-to-last-offset") { last } else { self.values.len() };
+        let untested = "no-offsets-bitmap-not-tested";
+        let right_untested = "right-no-offsets-bitmap-not-tested";
         let short = too_short(self.rows, rows) && !is("row-bitmap-not-tested")
-            || too_short(self.elements, values);
+            || too_short(self.elements, values) && !self.has_none_with(untested, right_untested);
         short && !self.is_right_with("right-bitmaps-not-tested")
     }
 
@@ -454,6 +464,7 @@ impl Call<'_> {
         let from_0 = self.lists[0].offsets.first() == Some(&0);
         self.lists.iter().any(|list| match defect() {
             "right-rows-not-counted" => false,
+            "right-no-offsets-suit-any-rows" if list.offsets.is_empty() => false,
             "right-rows-not-counted-from-offset-0" if from_0 => false,
             "right-more-rows-accepted" => list.row_count() < rows,
             "right-fewer-rows-accepted" => list.row_count() > rows,
@@ -944,9 +955,10 @@ impl<'a> Output<'a> {
         }
     }
 
-    fn rows_fit(&self, rows: usize) -> bool {
+    fn rows_fit(&self, call: &Call, rows: usize) -> bool {
         let more = usize::from(is("exact-room-refused"));
-        let no_rows = rows == 0 && is("no-offset-for-no-rows");
+        let no_offsets = call.lists[0].offsets.is_empty() && is("no-slot-where-no-offsets");
+        let no_rows = rows == 0 && is("no-offset-for-no-rows") || no_offsets;
         (self.offsets.len() / 4 >= rows + 1 + more || no_rows)
             && (self.rows.len() >= rows.div_ceil(8) || is("short-row-bitmap-accepted"))
     }
@@ -977,7 +989,7 @@ impl<'a> Output<'a> {
 
     pub fn write_lists(&mut self, call: &Call, rows: &[MadeRow]) -> u32 {
         let items: Vec<Item> = rows.iter().flat_map(|row| row.items.iter().copied()).collect();
-        if !self.rows_fit(rows.len()) || !self.elements_fit(call, items.len()) {
+        if !self.rows_fit(call, rows.len()) || !self.elements_fit(call, items.len()) {
             return 9;
         }
         put_offsets(self.offsets, rows.iter().map(|row| row.items.len()));
@@ -1000,7 +1012,7 @@ impl<'a> Output<'a> {
     fn write_nested(&mut self, call: &Call, rows: &[(bool, Vec<MadeRow>)]) -> u32 {
         let inner: Vec<&MadeRow> = rows.iter().flat_map(|(_, lists)| lists).collect();
         let items: Vec<Item> = inner.iter().flat_map(|row| row.items.iter().copied()).collect();
-        if !self.rows_fit(rows.len())
+        if !self.rows_fit(call, rows.len())
             || !self.inner_rows_fit(inner.len())
             || !self.elements_fit(call, items.len())
         {

@@ -228,7 +228,8 @@ impl<'a> Run<'a> {
             && !is("argument-bitmap-not-tested");
         let unequal_lists = lists.iter().any(|list| match defect() {
             "recipe-second-rows-not-counted" => false,
-            _ => list.offsets.len() != lists[0].offsets.len(),
+            "right-no-offsets-suit-any-rows" if list.offsets.is_empty() => false,
+            _ => list.row_count() != lists[0].row_count(),
         });
         let unequal_arguments = match defect() {
             "recipe-argument-length-not-tested" => false,

@@ -1,6 +1,6 @@
-//! An independent reading of document 01, row by row: which rows a column shows, when a call is
-//! refused, what each row becomes, and the form of the result. Plain and slow on purpose; sums are
-//! taken in 128 bits.
+//! An independent reading of document 01 and of the notes that change it, row by row: which rows a
+//! column shows, when a call is refused, what each row becomes, and the form of the result. Plain
+//! and slow on purpose; sums are taken in 128 bits.
 //!
 //! An operation is added by a variant of `Operation`, its columns and refusals, an arm of `make`
 //! or of the row functions, and the function that says what one row becomes.
@@ -89,6 +89,17 @@ pub struct ListColumn {
     pub elements: Vec<u8>,
 }
 
+impl ListColumn {
+    /// One fewer than the offsets; a column with no offsets at all has no rows.
+    pub fn row_count(&self) -> usize {
+        if self.offsets.is_empty() {
+            0
+        } else {
+            self.offsets.len() - 1
+        }
+    }
+}
+
 /// An argument column as it is lent.
 #[derive(Clone, Debug, Default)]
 pub struct ArgumentColumn {
@@ -152,7 +163,7 @@ pub fn bitmap_bytes(positions: usize) -> usize {
 
 /// The rows that a well-formed list column shows.
 pub fn shown_rows(column: &ListColumn) -> Vec<Row> {
-    (0..column.offsets.len() - 1).map(|row| shown_row(column, row)).collect()
+    (0..column.row_count()).map(|row| shown_row(column, row)).collect()
 }
 
 fn shown_row(column: &ListColumn, row: usize) -> Row {
@@ -186,11 +197,12 @@ pub fn shown(lists: &[ListColumn], arguments: &[ArgumentColumn]) -> Shown {
 
 // Refusals 1, 2, 3, which every operation gives first.
 
-/// Condition of 1: offsets empty, first negative, any falling, or last beyond the values.
+/// Condition of 1: first negative, any falling, or last beyond the values; no offsets are none of
+/// these.
 fn has_bad_offsets(column: &ListColumn) -> bool {
     let offsets = &column.offsets;
     let (Some(&first), Some(&last)) = (offsets.first(), offsets.last()) else {
-        return true;
+        return false;
     };
     let falling = offsets.windows(2).any(|pair| pair[1] < pair[0]);
     first < 0 || falling || i64::from(last) > column.values.len() as i64
@@ -203,7 +215,7 @@ pub fn is_too_short(bitmap: &[u8], positions: usize) -> bool {
 
 /// Condition of 2 for a list: the rows, and all the values lent.
 fn has_short_bitmap(column: &ListColumn) -> bool {
-    is_too_short(&column.rows, column.offsets.len() - 1)
+    is_too_short(&column.rows, column.row_count())
         || is_too_short(&column.elements, column.values.len())
 }
 
@@ -236,8 +248,8 @@ pub fn column_refusal(
     if short_list || short_argument {
         return Some(2);
     }
-    let rows = lists[0].offsets.len() - 1;
-    let unequal_list = lists.iter().any(|one| one.offsets.len() - 1 != rows);
+    let rows = lists[0].row_count();
+    let unequal_list = lists.iter().any(|one| one.row_count() != rows);
     let mut arguments = roles.iter().zip(arguments);
     if unequal_list || arguments.any(|(role, one)| !suits(*role, one.values.len(), rows)) {
         return Some(3);
@@ -776,8 +788,8 @@ pub fn recipe_column_refusal(recipe: &Recipe) -> Option<Refusal> {
     if lists.iter().any(has_short_bitmap) || short_arguments {
         return Some(2);
     }
-    let rows = lists[0].offsets.len() - 1;
-    let unequal = lists[1].offsets.len() - 1 != rows;
+    let rows = lists[0].row_count();
+    let unequal = lists[1].row_count() != rows;
     if unequal || arguments.values.len() as u128 != u128::from(recipe.columns) * rows as u128 {
         return Some(3);
     }

@@ -117,7 +117,7 @@ impl<'a, O: Offset, V: Value> Column<'a, O, V> {
     }
 
     fn row_count(&self) -> usize {
-        self.offsets.len() - 1
+        self.offsets.len().saturating_sub(1)
     }
 
     fn bad_offsets(&self) -> bool {
@@ -129,7 +129,7 @@ impl<'a, O: Offset, V: Value> Column<'a, O, V> {
             }
             previous = offset;
         }
-        self.offsets.is_empty() || previous as usize > self.values.len()
+        previous as usize > self.values.len()
     }
 
     fn short_bitmap(&self) -> bool {
@@ -1068,7 +1068,7 @@ impl<'a, O: Offset, V: Value> RecipeColumns<'a, O, V> {
 
     /// The rows that the step before left in a tray.
     fn in_tray<'b>(&self, tray: &'b Lists<O, V>) -> Column<'b, O, V> {
-        let offsets = &tray.offsets[..self.list.offsets.len()];
+        let offsets = &tray.offsets[..=self.list.row_count()];
         Column { offsets, rows: tray.rows, values: tray.values, elements: tray.elements }
     }
 }

@@ -296,7 +296,7 @@ pub fn recipe_slots(input: &Input) -> Vec<usize> {
     let recipe = input.recipe().expect("the call of a recipe");
     if model::refusal_before_steps(&recipe).is_some() {
         let list = &input.lists[0];
-        let rows = list.offsets.len().max(1) as u64 - 1;
+        let rows = list.row_count() as u64;
         let copy = input.entry.written_slots(&[rows, list.values.len() as u64, 0, 0]);
         return [copy.clone(), copy.clone(), copy].concat();
     }

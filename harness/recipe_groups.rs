@@ -8,6 +8,7 @@ use crate::groups::{check_answer, check_first, counts_of_every_length, damage_so
 use crate::groups::{grow, make_ragged, over_size, ragged_slice, random_slice};
 use crate::groups::{ragged_end, slice_over_size, Holding, NumberSlice, Run};
 use crate::model::{self, Element, RecipeShown, Row, CODES};
+use crate::no_offsets;
 use crate::pairs;
 use crate::recipe_generate::*;
 use crate::recipe_lengths;
@@ -15,7 +16,7 @@ use crate::rng::Rng;
 use crate::worked;
 
 /// Each group with its part of the random calls; those that take long come last.
-pub const ALL: [(&str, Run, u64); 15] = [
+pub const ALL: [(&str, Run, u64); 16] = [
     ("random recipes", random_recipes, 14),
     ("layouts of the same rows", pairs::same_rows, 10),
     ("refused steps", refused_steps, 8),
@@ -28,6 +29,7 @@ pub const ALL: [(&str, Run, u64); 15] = [
     ("random bytes", random_bytes, 6),
     ("worked cases", worked::recipes, 0),
     ("trays and output of every length, exhaustive", recipe_lengths::every_slice, 0),
+    ("no offsets, exhaustive", no_offsets::every_form_of_recipes, 0),
     ("row counts and argument lengths, exhaustive", every_length, 0),
     ("short recipes, exhaustive", short_recipes, 0),
     ("codes one after another, exhaustive", every_pair, 0),
@@ -161,7 +163,7 @@ fn spoil_column_count(input: &mut Input, rng: &mut Rng) {
 
 /// Lends values for all columns, unless these are too many.
 fn suit_arguments(input: &mut Input) {
-    let rows = input.lists[0].offsets.len() - 1;
+    let rows = input.lists[0].row_count();
     let values = columns_of(input) as usize * rows;
     let arguments = &mut input.arguments[0];
     if arguments.values.len() < values && values <= MOST_ARGUMENTS {

@@ -444,6 +444,9 @@ fn laid_out_cases() -> Vec<Worked> {
     let short = || list(&[0, 1], &[], &[0; 9], &[0xff]);
     let falling = || list(&[1, 0], &[], &[7], &[]);
     let seven = || list(&[0, 1], &[], &[7], &[]);
+    let none = || list(&[], &[], &[], &[]);
+    let none_beside = |bits: &[u8]| list(&[], &[], &[8; 9], bits);
+    let no_values = || argument(&[], &[]);
     let nine = |bits: &[u8]| argument(&[1; 9], bits);
     vec![
         worked("no rows at 3", Reverse, vec![behind()], vec![], ""),
@@ -451,6 +454,52 @@ fn laid_out_cases() -> Vec<Worked> {
         worked("no rows at 3", Union, vec![behind(), behind()], vec![], ""),
         worked("no rows at 3", Intersect, vec![behind(), list(&[0], &[], &[], &[])], vec![], ""),
         worked("no rows at 3", ListRepeat, vec![behind()], vec![argument(&[], &[])], ""),
+        worked("no offsets", Reverse, vec![none()], vec![], ""),
+        worked("no offsets", Distinct, vec![none_beside(&[])], vec![], ""),
+        worked("no offsets", PopFront, vec![none_beside(&[0, 0])], vec![], ""),
+        worked("no offsets", AnyValue, vec![none_beside(&[1, 1, 1])], vec![], ""),
+        worked("no offsets", Element, vec![list(&[], &[0], &[8], &[1])], vec![no_values()], ""),
+        worked("no offsets", Union, vec![none(), none()], vec![], ""),
+        worked("no offsets beside one", Union, vec![none_beside(&[]), behind()], vec![], ""),
+        worked("one offset beside none", Intersect, vec![behind(), none()], vec![], ""),
+        worked("no offsets", ListRepeat, vec![none_beside(&[])], vec![no_values()], ""),
+        worked(
+            "no offsets, one byte for nine",
+            PopBack,
+            vec![none_beside(&[1])],
+            vec![],
+            "refusal 2",
+        ),
+        worked(
+            "2 of no offsets before 3",
+            Union,
+            vec![seven(), none_beside(&[1])],
+            vec![],
+            "refusal 2",
+        ),
+        worked(
+            "1 beside no offsets",
+            Intersect,
+            vec![none_beside(&[1]), falling()],
+            vec![],
+            "refusal 1",
+        ),
+        worked("no offsets beside a row", Union, vec![none(), seven()], vec![], "refusal 3"),
+        worked("a row beside no offsets", Union, vec![seven(), none()], vec![], "refusal 3"),
+        worked(
+            "no offsets beside an index",
+            Element,
+            vec![none()],
+            vec![argument(&[1], &[])],
+            "refusal 3",
+        ),
+        worked(
+            "no offsets, one limit",
+            Remove,
+            vec![none()],
+            vec![no_values(), argument(&[1], &[])],
+            "",
+        ),
         worked("hidden 5", Reverse, vec![list(&[0, 1], &[], &[5], &[0xfe])], vec![], "[-]"),
         worked(
             "null first row",
@@ -703,8 +752,21 @@ fn laid_out_recipes() -> Vec<Worked> {
     let falling = || list(&[1, 0], &[], &[7], &[]);
     let short = || list(&[0, 1], &[], &[0; 9], &[0xff]);
     let none = || argument(&[], &[]);
+    let no_offsets = || list(&[], &[1], &[8; 9], &[1, 1]);
+    let one_offset = || list(&[1], &[], &[8; 9], &[]);
+    let no_rows = || vec![no_offsets(), one_offset()];
+    let rows_beside = || vec![no_offsets(), seven()];
+    let one_by_two = || vec![one_offset(), no_offsets()];
+    let one_byte = || vec![one_offset(), list(&[], &[], &[8; 9], &[1])];
     let five = &[0, 0, 0, 0, 0];
     vec![
+        recipe("no offsets, no steps", 0, &[], no_rows(), none(), ""),
+        recipe("no offsets, union", 8, &UNION, no_rows(), none(), ""),
+        recipe("one offset, then none", 1, &[UNION, REVERSE].concat(), one_by_two(), none(), ""),
+        recipe("10 of no offsets", 0, five, no_rows(), none(), "refusal 10"),
+        recipe("2 of no offsets", 0, &[], one_byte(), none(), "refusal 2"),
+        recipe("3 beside no offsets", 0, &REVERSE, rows_beside(), none(), "refusal 3"),
+        recipe("3, a value beside no offsets", 1, &[], no_rows(), argument(&[1], &[]), "refusal 3"),
         recipe("five numbers", 0, five, vec![seven(), seven()], none(), "refusal 10"),
         recipe("10 before 1", 0, five, vec![falling(), seven()], none(), "refusal 10"),
         recipe("10 before 1", 9, &[], vec![seven(), falling()], none(), "refusal 10"),

@@ -17,16 +17,6 @@ use lib.Seq.{drop-cons}
 use Rattle.model.specs.Column.{count, falls, badOffsets, offsetAt}
 use Rattle.model.proofs.BoolLaws.{or-none}
 
-pub bad-nil : (l : List ℤ) (n : ℕ) → length l ≡ 0 → badOffsets l n ≡ true
-unfolding badOffsets
-bad-nil [] n h = refl
-bad-nil (x ∷ l) n h = let z : ⊥ = omega arith in absurd z
-
-pub bad-cons : (l : List ℤ) (n : ℕ) → (length l ≡ 0 → ⊥) → badOffsets l n ≡ ltZ (getD l 0 (pos 0)) (pos 0) || falls (getD l 0 (pos 0)) (drop 1 l) n
-unfolding badOffsets
-bad-cons [] n h = absurd (h refl)
-bad-cons (x ∷ l) n h = refl
-
 pub falls-step : (l : List ℤ) (n i : ℕ) → i + 1 < length l → falls (getD l i (pos 0)) (drop (i + 1) l) n ≡ ltZ (getD l (i + 1) (pos 0)) (getD l i (pos 0)) || falls (getD l (i + 1) (pos 0)) (drop (i + 1 + 1) l) n
 unfolding falls
 falls-step l n i h = rw (drop-cons l (i + 1) (pos 0) h, add-one (i + 1))
@@ -40,10 +30,10 @@ pub falls-last : (l : List ℤ) (n i : ℕ) → length l ≤ i + 1 → ltb n (of
 unfolding falls
 falls-last l n i h = rw (drop-of-length-le l h) (count-beyond n (getD l i (pos 0)))
 
-pub bad-falls : (l : List ℤ) (n : ℕ) → (length l ≡ 0 → ⊥) → falls (pos 0) (drop 0 l) n ≡ badOffsets l n
+pub bad-falls : (l : List ℤ) (n : ℕ) → falls (pos 0) (drop 0 l) n ≡ badOffsets l n
 unfolding badOffsets falls
-bad-falls [] n h = absurd (h refl)
-bad-falls (x ∷ l) n h = refl
+bad-falls [] n = le-ltb n 0 (omega arith)
+bad-falls (x ∷ l) n = refl
 
 not-below : (v : ℕ) (o : ℤ) → ltZ o (pos v) ≡ false → o ≡ pos (count o)
 unfolding count
@@ -100,11 +90,6 @@ pub top : (l : List ℤ) (n i : ℕ) → badOffsets l n ≡ false → i < length
 unfolding badOffsets
 top [] n i h k = omega arith
 top (o ∷ os) n i h k = falls-top o os n i (or-none (ltZ o (pos 0)) (falls o os n) h .1) k
-
-pub some-offset : (l : List ℤ) (n : ℕ) → badOffsets l n ≡ false → 0 < length l
-unfolding badOffsets
-some-offset [] n h = absurd (subst T h tt)
-some-offset (o ∷ os) n h = omega arith
 
 -- ---- a signed number, read back from its bits
 

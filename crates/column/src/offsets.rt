@@ -51,13 +51,10 @@ fn below(offsets: &[i32], i: usize, v: usize) -> bool
     (x as usize) < v
 }
 
-// Refusal 1: offsets empty, first negative, any falling, or last beyond the n values.
+// Refusal 1: first offset negative, any falling, or last beyond the n values.
 pub fn are_bad(offsets: &[i32], n: usize) -> bool
     ensures { λ r. ⌜ r ≡ badOffsets (now (offsets .entry)) n ⌝ }
 {
-    if offsets.len() == 0 {
-        return true;
-    }
     let mut last: usize = 0;
     let mut i: usize = 0;
     while i < offsets.len() {

@@ -2,15 +2,16 @@
 -- columns are laid out and whatever all bytes not shown hold .. each is exactly what demand 2's definitions give from those equal
 -- things alone."
 use mathlib.Core.Path.{_≡_, refl}
+use lib.ListN.{length}
 use Rattle.model.specs.Basics.{Lent}
 use Rattle.model.specs.Limits.{Limits}
-use Rattle.model.specs.Column.{Column, Arguments, rowsOf, shownBy}
+use Rattle.model.specs.Column.{Column, Arguments, rowsOf, shownBy, EqualRows}
 use Rattle.model.specs.Rows.{ListCall, onLent, onCall}
 use Rattle.model.specs.Outcome.{listOutcome, anyValueOutcome, elementOutcome, repeatOutcome}
 use Rattle.model.specs.Recipe.{recipeShown, recipeOutcome}
 use Rattle.model.specs.Call.{Call, list, anyValue, element, listRepeat, recipe, End, shown, listsOf, argumentsOf, end, endShown, Formed, SameLent, sameAbsent, sameGiven, SameCall, sameUnary, sameSetOp, sameSlice, sameResize, sameReplace, sameRemove, Alike, alikeList, alikeAnyValue, alikeElement, alikeListRepeat, alikeRecipe}
 use Rattle.model.specs.Run.{Run}
-use Rattle.model.proofs.ColumnLaws.{same-rows, same-arguments}
+use Rattle.model.proofs.ColumnLaws.{same-rows, same-arguments, no-units}
 use Rattle.model.proofs.OutcomeLaws.{formed-columns, gate-open}
 use Rattle.model.proofs.RunLaws.{run-ends}
 
@@ -62,3 +63,8 @@ agreement L q q′ f f′ a = record { shares = cc (from-shown L q f, from-shown
 -- the claim over runs of the code: a run is what the contract of a public function says of its answer and slices
 pub runs-agree : (L : Limits) {q q′ : Call Column Arguments} {e e′ : End} → Run L q e → Run L q′ e′ → Formed q → Formed q′ → Alike q q′ → Agree L q q′ e e′
 runs-agree L {q} {q′} r r′ f f′ a = rw (run-ends L r, run-ends L r′) (agreement L q q′ f f′ a)
+
+-- "It shows the same rows as a zero-row column with one offset, for two runs too.": any call that takes a list at some place (K, in
+-- which lists that show equal rows make alike calls), with no offsets there or one
+pub no-units-agree : (L : Limits) (K : Column → Call Column Arguments) → ((c d : Column) → EqualRows c d → Alike (K c) (K d)) → (c d : Column) → length (c .offsets) ≡ 0 → length (d .offsets) ≡ 1 → (e e′ : End) → Run L (K c) e → Run L (K d) e′ → Formed (K c) → Formed (K d) → Agree L (K c) (K d) e e′
+no-units-agree L K same c d g h e e′ r r′ f f′ = runs-agree L r r′ f f′ (same c d (no-units c d g h))

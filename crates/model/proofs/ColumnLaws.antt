@@ -4,11 +4,14 @@
 use Prim.Native.Nat.{ℕ, _<_}
 use mathlib.Core.Path.{_≡_, refl, ap, _∙_}
 use mathlib.Core.Bool.{Bool, true, false}
+use mathlib.Core.List.{List, [], _∷_}
 use native.Mathlib.Nat.{zero-add}
+use native.Mathlib.Omega.{arith}
 use lib.ListN.{length}
+use lib.IntN.{ℤ}
 use Rattle.model.specs.Basics.{pick, tab}
 use Rattle.model.specs.Bitmap.{validAt}
-use Rattle.model.specs.Column.{Elem, nul, val, Row, nullRow, listRow, Column, Arguments, rowCount, lengthAt, elemAt, rowAt, rowsOf, shownBy, EqualRows, EqualArguments}
+use Rattle.model.specs.Column.{Elem, nul, val, Row, nullRow, listRow, Column, Arguments, rowCount, lengthAt, elemAt, rowAt, rowsOf, shownBy, badOffsets, refusal1, EqualRows, EqualArguments}
 use Rattle.model.specs.Rows.{rowOf, argumentOf}
 use Rattle.model.proofs.TabLaws.{tab-ext, length-tab, getD-tab}
 
@@ -34,6 +37,32 @@ same-arguments {a} {b} e =
     rw (← (e .many))
     (tab-ext (elemAt (a .values) (a .bits)) (elemAt (b .values) (b .bits)) 0 0 (length (a .values))
     (λ i l. simp zero-add (pick-same (validAt (a .bits) i) (validAt (b .bits) i) _ _ nul (e .nulls i l) (λ v. ap val (e .values i l v)))))
+
+-- a column shows the same rows as itself
+pub equal-rows : (c : Column) → EqualRows c c
+equal-rows c = record { many = refl; nulls = λ r l. refl; lengths = λ r l v. refl; places = λ r i l v h. refl }
+
+-- a column with no offsets at all "shows the same rows as a zero-row column with one offset"
+pub no-units : (c d : Column) → length (c .offsets) ≡ 0 → length (d .offsets) ≡ 1 → EqualRows c d
+no-units c d g h =
+    record {
+      many = omega arith;
+      nulls = λ r l. absurd (none r l);
+      lengths = λ r l v. absurd (none r l);
+      places = λ r i l v k. absurd (none r l);
+    }
+  where
+    none : (r : ℕ) → r < rowCount (c .offsets) → ⊥
+    none r l = omega arith
+
+-- and it is not refused by 1, whatever values lie beside it
+pub no-units-good : (c : Column) → length (c .offsets) ≡ 0 → refusal1 c ≡ false
+unfolding badOffsets
+no-units-good c h = none (c .offsets) h
+  where
+    none : (o : List ℤ) → length o ≡ 0 → badOffsets o (length (c .values)) ≡ false
+    none [] e = refl
+    none (x ∷ o) e = let z : ⊥ = omega arith in absurd z
 
 -- ---- what is shown at a place
 

@@ -47,7 +47,7 @@ unfoldable pub count : ℤ → ℕ
 count (pos n) = n
 count (negsuc n) = 0
 
--- offset r as a count; one that is not there counts as 0 (it is refused before)
+-- offset r as a count; one that is not there counts as 0 (no row reads it)
 abbrev pub offsetAt : List ℤ → ℕ → ℕ
 offsetAt o r = count (getD o r (pos 0))
 
@@ -80,9 +80,10 @@ unfoldable pub falls : ℤ → List ℤ → ℕ → Bool
 falls o [] n = ltZ (pos n) o
 falls o (p ∷ ps) n = ltZ p o || falls p ps n
 
--- "1 (offsets empty, first negative, any falling, or last beyond the values)"
+-- "1 (offsets empty, first negative, any falling, or last beyond the values)"; of offsets empty document 02 says: "From now on that is a
+-- column of zero rows, and refusal 1 loses this condition."
 unfoldable pub badOffsets : List ℤ → ℕ → Bool
-badOffsets [] n = true
+badOffsets [] n = false
 badOffsets (o ∷ os) n = ltZ o (pos 0) || falls o os n
 
 abbrev pub refusal1 : Column → Bool

@@ -4,7 +4,7 @@ use native.Mathlib.Omega.{arith}
 use lib.ListN.{length, drop}
 use lib.IntN.{pos}
 use Rattle.model.specs.Column.{falls, badOffsets}
-use Rattle.column.proofs.OffsetLaws.{bad-nil, bad-falls, falls-now, falls-on, falls-end}
+use Rattle.column.proofs.OffsetLaws.{bad-falls, falls-now, falls-on, falls-end}
 use Rattle.column.proofs.offsets.are_bad.Statement.{statement}
 use Rattle.column.proofs.offsets.are_bad.Tie as tie
 
@@ -14,21 +14,18 @@ Inv-loop offsets n last₀ i₀ last i = falls (pos last) (drop i offsets) n ≡
 abbrev μ-loop : tie.MeasureT-loop
 μ-loop offsets n last₀ i₀ last i = length offsets - i
 
-returns : tie.Need-returns Inv-loop μ-loop
-returns c = sym (bad-nil _ _ (c .if1 .taken))
-
 loop-holds : tie.Need-loop-holds Inv-loop μ-loop
-loop-holds c = bad-falls (c .before .args .offsets .now) (c .before .args .n) (c .if1 .left)
+loop-holds c = bad-falls (c .args .offsets .now) (c .args .n)
 
 below-requires : tie.Need-below-requires Inv-loop μ-loop
 below-requires c κs = omega arith
 
-returns-2 : tie.Need-returns-2 Inv-loop μ-loop
-returns-2 c =
+returns : tie.Need-returns Inv-loop μ-loop
+returns c =
     let i = c .before .before in
     let l = i .before in
-    let a = l .before .before .args in
-    falls-now (a .offsets .now) (a .n) (l .loop .last) (l .loop .i) _ (i .loop-test .taken) (l .loop .inv) (sym (c .before .below .ensures) ∙ c .if2 .taken)
+    let a = l .before .args in
+    falls-now (a .offsets .now) (a .n) (l .loop .last) (l .loop .i) _ (i .loop-test .taken) (l .loop .inv) (sym (c .before .below .ensures) ∙ c .if1 .taken)
 
 offset-at-requires : tie.Need-offset-at-requires Inv-loop μ-loop
 offset-at-requires c κs = omega (arith, c .before .before)
@@ -44,13 +41,13 @@ loop-again c =
     let b = c .before .before in
     let i = b .before in
     let l = i .before in
-    let a = l .before .before .args in
-    rw (c .offset-at .ensures .0) (falls-on (a .offsets .now) (a .n) (l .loop .last) (l .loop .i) _ (i .loop-test .taken) (l .loop .inv) (sym (b .below .ensures) ∙ c .before .if2 .left))
+    let a = l .before .args in
+    rw (c .offset-at .ensures .0) (falls-on (a .offsets .now) (a .n) (l .loop .last) (l .loop .i) _ (i .loop-test .taken) (l .loop .inv) (sym (b .below .ensures) ∙ c .before .if1 .left))
 
-returns-3 : tie.Need-returns-3 Inv-loop μ-loop
-returns-3 c =
+returns-2 : tie.Need-returns-2 Inv-loop μ-loop
+returns-2 c =
     let l = c .before in
-    let a = l .before .before .args in
+    let a = l .before .args in
     falls-end (a .offsets .now) (a .n) (l .loop .last) (l .loop .i) _ (c .loop-test .left) (l .loop .inv)
 
 pub are-bad-spec : {M : Type 1} → statement M
@@ -59,12 +56,11 @@ are-bad-spec =
     (tie.spec
     Inv-loop
     μ-loop
-    returns
     loop-holds
     below-requires
-    returns-2
+    returns
     offset-at-requires
     add-i
     loop-less
     loop-again
-    returns-3)
+    returns-2)

@@ -1,10 +1,12 @@
 //! One call against the model: the answer, every byte written, every byte kept, and the bytes
-//! around each lent slice. A case that differs is printed whole.
+//! around each lent slice. Nulls of a result are compared by bitmap; beside that, each of its null
+//! slots must hold the one number that it has to. A case that differs is printed whole.
 
 use crate::coverage::{self, Coverage, SHARED};
 use crate::entry::{decode_i32, decode_i64, decode_tally, decode_u32};
 use crate::entry::{Case, Content, Expected, Input, SliceKind, TALLY, TALLY_BYTES};
 use crate::library::Library;
+use crate::model::{is_valid, UNDER_NULL};
 use crate::recipe_coverage;
 use std::borrow::Cow;
 use std::ops::Range;
@@ -63,7 +65,11 @@ impl Arena {
 
     /// Writes bytes at the front of one slice.
     fn write(&mut self, slice: usize, bytes: &[u8]) {
-        let start = self.spans[slice].start;
+        self.write_at(slice, 0, bytes);
+    }
+
+    fn write_at(&mut self, slice: usize, at: usize, bytes: &[u8]) {
+        let start = self.spans[slice].start + at;
         self.bytes[start..start + bytes.len()].copy_from_slice(bytes);
     }
 }
@@ -132,7 +138,8 @@ impl<'a> Checker<'a> {
             wanted.write(slice, bytes);
         }
         wanted.write(case.outputs.len(), &expected.counts);
-        let mut faults = Vec::new();
+        let mut faults = null_slot_faults(case, &expected, &after);
+        leave_nulls(case, &expected, &mut wanted, &after);
         if number != expected.number {
             faults.push(format!("answered {number}, expected {}", expected.number));
         }
@@ -223,7 +230,16 @@ impl<'a> Checker<'a> {
         }
     }
 
+    fn record_null_slots(&mut self, case: &Case, expected: &Expected) {
+        for subject in coverage::null_slots_met(case, expected) {
+            self.covered(case, "result slots", subject);
+        }
+    }
+
     fn record_recipe(&mut self, case: &Case, expected: &Expected) {
+        if expected.number == 0 {
+            self.record_null_slots(case, expected);
+        }
         for (kind, subject) in recipe_coverage::met(case, expected) {
             self.covered(case, kind, subject);
         }
@@ -239,6 +255,7 @@ impl<'a> Checker<'a> {
         for subject in coverage::output_lengths(case, expected) {
             self.covered(case, "outputs", subject);
         }
+        self.record_null_slots(case, expected);
         for subject in coverage::slices_at_size(case) {
             self.covered(case, "at size", subject);
         }
@@ -250,6 +267,35 @@ fn call(library: &Library, case: &Case, inputs: &mut Arena, outputs: &mut Arena)
     let mut slices = outputs.slices_mut();
     let (counts, outputs) = slices.split_last_mut().expect("counts are always lent");
     library.call(case.entry, &inputs.slices(), outputs, counts)
+}
+
+/// The slots of the values that an accepted call writes.
+fn value_slots(case: &Case, expected: &Expected) -> Range<usize> {
+    let (values, _) = case.entry.value_slices();
+    0..if expected.number == 0 { expected.written[values].len() / 8 } else { 0 }
+}
+
+/// Takes the null slots of the result as they are, for nulls are compared by bitmap.
+fn leave_nulls(case: &Case, expected: &Expected, wanted: &mut Arena, after: &Arena) {
+    let (values, bits) = case.entry.value_slices();
+    let slices = after.slices();
+    for slot in value_slots(case, expected) {
+        if !is_valid(&expected.written[bits], slot) {
+            wanted.write_at(values, 8 * slot, &slices[values][8 * slot..][..8]);
+        }
+    }
+}
+
+/// The slots that the library's own bitmap calls null, and that hold another number.
+fn null_slot_faults(case: &Case, expected: &Expected, after: &Arena) -> Vec<String> {
+    let (values, bits) = case.entry.value_slices();
+    let slices = after.slices();
+    let value = |slot: usize| decode_i64(&slices[values][8 * slot..][..8])[0];
+    let is_fault = |slot: &usize| !is_valid(slices[bits], *slot) && value(*slot) != UNDER_NULL;
+    let slot = value_slots(case, expected).find(is_fault);
+    let fault =
+        slot.map(|slot| format!("null slot {slot} holds {}, not {UNDER_NULL}", value(slot)));
+    fault.into_iter().collect()
 }
 
 fn observed(case: &Case, number: u32, after: &Arena) -> Observed {

@@ -6,12 +6,12 @@
 //! written out by hand with what they become, so that it also checks the model: a row that becomes
 //! something else leaves a demand unmet.
 
-use crate::entry::{Case, Content, Entry, Expected, Input, SliceKind};
+use crate::entry::{decode_i64, Case, Content, Entry, Expected, Input, SliceKind};
 use crate::generate::{Column, Harm};
 use crate::library::Library;
 use crate::model::{
     self, bitmap_bytes, is_too_short, is_valid, ArgumentColumn, Element, ListColumn, Made,
-    Operation, Role, Row, Shown,
+    Operation, Role, Row, Shown, UNDER_NULL,
 };
 use crate::recipe_coverage;
 use std::borrow::Cow;
@@ -63,7 +63,7 @@ pub fn row_count(input: &Input) -> Option<&'static str> {
 
 // Layouts.
 
-pub const LIST_LAYOUTS: [&str; 16] = [
+pub const LIST_LAYOUTS: [&str; 19] = [
     "no offsets",
     "no offsets beside values",
     "no offsets beside an element bitmap",
@@ -73,7 +73,10 @@ pub const LIST_LAYOUTS: [&str; 16] = [
     "equal offsets",
     "last offset at the end of the values",
     "values behind the last offset",
-    "number under a null element",
+    "0 under a null element",
+    "-9223372036854775808 under a null element",
+    "another number under a null element",
+    "valid -9223372036854775808 beside a null",
     "spare bit set",
     "row bitmap just long enough",
     "element bitmap just long enough",
@@ -82,8 +85,9 @@ pub const LIST_LAYOUTS: [&str; 16] = [
     "absent element bitmap",
 ];
 
-pub const ARGUMENT_LAYOUTS: [&str; 7] = [
+pub const ARGUMENT_LAYOUTS: [&str; 8] = [
     "0 under a null",
+    "-9223372036854775808 under a null",
     "negative number under a null",
     "number beyond 32 bits under a null",
     "spare bit set",
@@ -135,7 +139,16 @@ pub fn list_layouts(list: &ListColumn) -> Vec<&'static str> {
     let first = list.offsets.first().copied().unwrap_or(0);
     let last = list.offsets.last().copied().unwrap_or(0);
     let places = |row: usize| list.offsets[row] as usize..list.offsets[row + 1] as usize;
-    let hides = |place: usize| !is_valid(&list.elements, place) && list.values[place] != 0;
+    let shown = || (0..rows).filter(|row| is_valid(&list.rows, *row)).flat_map(places);
+    let hides = |is: &dyn Fn(i64) -> bool| {
+        shown().any(|place| !is_valid(&list.elements, place) && is(list.values[place]))
+    };
+    let is_valid_at = |place: usize| is_valid(&list.elements, place);
+    let has_both = |row: usize| {
+        is_valid(&list.rows, row)
+            && places(row).any(|place| !is_valid_at(place))
+            && places(row).any(|place| is_valid_at(place) && list.values[place] == UNDER_NULL)
+    };
     let holds = [
         none,
         none && !list.values.is_empty(),
@@ -146,7 +159,10 @@ pub fn list_layouts(list: &ListColumn) -> Vec<&'static str> {
         list.offsets.windows(2).any(|pair| pair[0] == pair[1]),
         !none && last as usize == list.values.len(),
         !none && (last as usize) < list.values.len(),
-        (0..rows).any(|row| is_valid(&list.rows, row) && places(row).any(hides)),
+        hides(&|number| number == 0),
+        hides(&|number| number == UNDER_NULL),
+        hides(&|number| number != 0 && number != UNDER_NULL),
+        (0..rows).any(has_both),
         has_spare_bit(&list.rows, rows) || has_spare_bit(&list.elements, list.values.len()),
         is_exact(&list.rows, rows),
         is_exact(&list.elements, list.values.len()),
@@ -164,8 +180,9 @@ pub fn argument_layouts(argument: &ArgumentColumn) -> Vec<&'static str> {
     };
     let holds = [
         hides(&|number| number == 0),
-        hides(&|number| number < 0),
-        hides(&|number| i32::try_from(number).is_err()),
+        hides(&|number| number == UNDER_NULL),
+        hides(&|number| number < 0 && number != UNDER_NULL),
+        hides(&|number| i32::try_from(number).is_err() && number != UNDER_NULL),
         has_spare_bit(&argument.bits, rows),
         is_exact(&argument.bits, rows),
         is_longer(&argument.bits, rows),
@@ -247,6 +264,25 @@ pub fn demanded_no_offsets(entry: Entry) -> Vec<(&'static str, String)> {
 }
 
 // Outputs and sizes.
+
+const NULL_SLOTS: [&str; 2] = ["null slot", "valid -9223372036854775808"];
+
+/// Null slots in a result that is expected, and valid ones that hold the same number.
+pub fn null_slots_met(case: &Case, expected: &Expected) -> Vec<&'static str> {
+    let (values, bits) = case.entry.value_slices();
+    let values = decode_i64(&expected.written[values]);
+    let is_valid_slot = |slot: usize| is_valid(&expected.written[bits], slot);
+    let mut slots = 0..values.len();
+    let holds = [
+        slots.clone().any(|slot| !is_valid_slot(slot)),
+        slots.any(|slot| is_valid_slot(slot) && values[slot] == UNDER_NULL),
+    ];
+    chosen(NULL_SLOTS, holds)
+}
+
+pub fn demanded_null_slots() -> Vec<(&'static str, String)> {
+    NULL_SLOTS.map(|name| ("result slots", name.to_string())).to_vec()
+}
 
 const OUTPUT_LENGTHS: [&str; 3] = ["exactly long enough", "longer", "counts longer"];
 
@@ -368,10 +404,16 @@ fn argument_names(
     arguments: &[Element],
 ) -> Vec<&'static str> {
     let Some(number) = argument else {
-        return vec!["null"];
+        let beside_smallest = row.contains(&Some(UNDER_NULL)) && !row.contains(&None);
+        return chosen(["null", "null over smallest alone"], [true, beside_smallest]);
     };
     match role {
-        Role::Fill | Role::Old | Role::New => vec!["given"],
+        Role::Fill | Role::Old | Role::New => {
+            let beside_nulls = row.contains(&None) && !row.contains(&Some(UNDER_NULL));
+            let names = ["given", "smallest", "smallest over nulls alone"];
+            let is_smallest = number == UNDER_NULL;
+            chosen(names, [true, is_smallest, is_smallest && beside_nulls])
+        }
         Role::Limit => {
             let matches = row.iter().filter(|element| **element == arguments[0]).count() as i64;
             limit_names(matches, number)
@@ -478,7 +520,7 @@ fn bounds_name(length: i64, from: i64, to: i64) -> &'static str {
 
 // Pairs of rows.
 
-const PAIRS: [&str; 19] = [
+const PAIRS: [&str; 21] = [
     "left longer",
     "right longer",
     "equal lengths",
@@ -495,6 +537,8 @@ const PAIRS: [&str; 19] = [
     "null in both",
     "null in the left only",
     "null in the right only",
+    "smallest in the left, null in the right",
+    "null in the left, smallest in the right",
     "left longer, right in another order",
     "right longer, left in another order",
     "equal lengths, another order",
@@ -523,6 +567,8 @@ fn pair_met(left: &Row, right: &Row) -> Vec<&'static str> {
     };
     let (by_left, by_right) = (common(left, right), common(right, left));
     let (nulls_left, nulls_right) = (left.contains(&None), right.contains(&None));
+    let smallest = Some(UNDER_NULL);
+    let (smallest_left, smallest_right) = (left.contains(&smallest), right.contains(&smallest));
     let twice =
         |row: &[Element]| row.iter().filter(|one| by_left.first() == Some(*one)).count() > 1;
     let holds = [
@@ -542,6 +588,8 @@ fn pair_met(left: &Row, right: &Row) -> Vec<&'static str> {
         nulls_left && nulls_right,
         nulls_left && !nulls_right,
         nulls_right && !nulls_left,
+        smallest_left && !nulls_left && nulls_right && !smallest_right,
+        nulls_left && !smallest_left && smallest_right && !nulls_right,
         left.len() > right.len() && by_left != by_right,
         right.len() > left.len() && by_left != by_right,
         left.len() == right.len() && by_left != by_right,
@@ -875,6 +923,7 @@ const FILLS: &[&str] = &[
     "fill given: longer",
     "fill given: shorter",
     "fill given: same",
+    "fill smallest: longer",
     "fill null beside a null: longer",
     "fill null beside a null: shorter",
     "fill null beside a null: same",
@@ -884,6 +933,10 @@ const FILLS: &[&str] = &[
 const REPLACEMENTS: &[&str] = &[
     "old given: changed",
     "old given: same",
+    "old smallest: changed",
+    "old smallest over nulls alone: same",
+    "old null over smallest alone: same",
+    "new smallest: changed",
     "old null: changed",
     "old null: same",
     "old null of an empty row: empty",
@@ -906,6 +959,8 @@ const REMOVALS: &[&str] = &[
     "old given: shorter",
     "old given: same",
     "old given: empty",
+    "old smallest: shorter",
+    "old smallest over nulls alone: same",
     "old null beside a null: null",
     "old null of a null row: null",
     "limit null beside a null: null",
@@ -1043,6 +1098,7 @@ fn demanded(entry: Entry) -> Vec<(&'static str, String)> {
     add("ragged", vec!["counts".to_string()]);
     add("row", owned(&demanded_of_rows(entry.known_operation())));
     all.extend(demanded_no_offsets(entry));
+    all.extend(demanded_null_slots());
     all
 }
 

@@ -16,6 +16,7 @@ const DEFECTS: &[(&str, &[&str])] = &[
         &[
             "distinct-compares-hidden-numbers",
             "distinct-null-equals-0",
+            "distinct-null-equals-smallest",
             "distinct-over-all-rows",
             "distinct-keeps-last",
             "distinct-drops-nulls",
@@ -24,7 +25,7 @@ const DEFECTS: &[(&str, &[&str])] = &[
     ),
     ("pop front", &["pops-swapped", "pop-keeps-single-element", "pop-of-empty-is-null"]),
     ("pop back", &["pops-swapped", "pop-keeps-single-element", "pop-of-empty-is-null"]),
-    ("any-value", &["any-value-takes-first", "any-value-skips-0"]),
+    ("any-value", &["any-value-takes-first", "any-value-skips-0", "any-value-skips-smallest"]),
     (
         "element",
         &[
@@ -54,6 +55,7 @@ const DEFECTS: &[(&str, &[&str])] = &[
             "union-right-repeats-kept",
             "union-drops-nulls",
             "union-null-equals-0",
+            "union-null-equals-smallest",
             "union-compares-hidden-numbers",
         ],
     ),
@@ -67,6 +69,7 @@ const DEFECTS: &[(&str, &[&str])] = &[
             "intersect-longer-by-distinct",
             "intersect-repeats-kept",
             "intersect-nulls-not-common",
+            "intersect-null-equals-smallest",
             "intersect-null-row-is-empty",
             "intersect-null-right-keeps-left",
             "intersect-compares-hidden-numbers",
@@ -205,6 +208,8 @@ const EVERYWHERE: &[&str] = &[
     "no-offsets-refused",
     "no-offsets-bitmap-not-tested",
     "no-offsets-are-one-row",
+    "null-slot-holds-0",
+    "valid-smallest-becomes-null",
     NULL_ROWS,
 ];
 
@@ -378,6 +383,7 @@ const LIMIT_DEFECTS: &[&str] = &[
     "matches-one-more",
     "matches-hidden-numbers",
     "matches-null-as-0",
+    "matches-null-as-smallest",
     "limit-0-is-all",
     "limit-negative-is-all",
     "limit-negative-gives-null",
@@ -401,6 +407,7 @@ const RECIPE_STEP_DEFECTS: &[&str] = &[
     "recipe-9-before-row-refusals",
     "recipe-null-row-values-counted-when-carried",
     "recipe-nulls-valid-when-carried",
+    "recipe-smallest-is-null-when-carried",
     "recipe-null-rows-valid-when-carried",
     "recipe-no-steps-as-they-lie",
     "recipe-no-steps-without-9",
@@ -475,6 +482,7 @@ const TRAY_DEFECTS: &[&str] = &[
     "recipe-tray-two-not-zeroed",
     "recipe-tray-bits-not-zeroed",
     "recipe-tray-tail-not-zeroed",
+    "recipe-trays-cleared-to-smallest",
     "recipe-trays-exchanged",
     "recipe-room-of-the-other-tray-tested",
     "recipe-room-of-tray-two-tested",
@@ -507,6 +515,12 @@ const TALLY_DEFECTS: &[&str] = &[
 const OPERATION_DEFECTS_IN_RECIPES: &[&str] = &[
     "reverse-of-two-unchanged",
     "distinct-keeps-last",
+    "distinct-null-equals-smallest",
+    "union-null-equals-smallest",
+    "intersect-null-equals-smallest",
+    "matches-null-as-smallest",
+    "null-slot-past-the-first-byte-holds-0",
+    "null-elements-counted-by-number",
     "pops-swapped",
     "pop-keeps-single-element",
     "to-minus-1-excluded",
@@ -542,6 +556,8 @@ const OPERATION_DEFECTS_IN_RECIPES: &[&str] = &[
 /// Result form and room.
 const RESULT_DEFECTS: &[&str] = &[
     "number-under-null-kept",
+    "null-slot-past-the-first-byte-holds-0",
+    "null-elements-counted-by-number",
     "null-slot-keeps-content",
     "spare-bits-kept",
     "spare-bits-set",

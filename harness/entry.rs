@@ -279,6 +279,12 @@ impl Entry {
         }
     }
 
+    /// The outputs that hold the values of the result and their bitmap.
+    pub fn value_slices(self) -> (usize, usize) {
+        let end = self.results().end;
+        (end - 2, end - 1)
+    }
+
     /// The bytes of the counts that an accepted call writes: as many counts as result slices.
     pub fn count_bytes(self) -> usize {
         8 * self.results().len()

@@ -5,11 +5,11 @@ use crate::compare::Checker;
 use crate::entry::{Entry, Input};
 use crate::generate::{accepted_columns, random_rows, small_shape, RowShape};
 use crate::generate::{boundaries, input_of, lend, random_beside, random_layouts, Room};
-use crate::model::{shown_rows, Element, ListColumn, Operation, Role, Row, Shown};
+use crate::model::{shown_rows, Element, ListColumn, Operation, Role, Row, Shown, UNDER_NULL};
 use crate::rng::Rng;
 
-/// Different values, among them 0 and the extremes.
-const VALUES: [i64; 4] = [7, 0, i64::MIN, i64::MAX];
+/// Different values, among them 0 and the extremes; first what null slots of results hold.
+const VALUES: [i64; 4] = [UNDER_NULL, 7, 0, i64::MAX];
 
 /// Every word of this length over the letters.
 fn words<T: Copy>(letters: &[T], length: usize) -> Vec<Vec<T>> {
@@ -174,15 +174,16 @@ pub fn short_offsets(checker: &mut Checker, entry: Entry, rng: &mut Rng, _calls:
 
 // Arguments beside one row.
 
-/// Every row of at most this many elements over null, 0 and 7, and the null row.
+/// Every row of at most this many elements over null, 0 and the number of null slots, and the null
+/// row.
 fn short_rows(longest: usize) -> Vec<Row> {
-    let rows = (0..=longest).flat_map(|length| words(&[None, Some(0), Some(7)], length));
+    let rows = (0..=longest).flat_map(|length| words(&[None, Some(0), Some(UNDER_NULL)], length));
     rows.map(Some).chain([None]).collect()
 }
 
 /// Rows of every length to four, whose elements differ, and the null row.
 fn rows_of_each_length() -> Vec<Row> {
-    let elements = [Some(7), None, Some(0), Some(i64::MIN)];
+    let elements = [Some(UNDER_NULL), None, Some(0), Some(7)];
     (0..=4).map(|length| Some(elements[..length].to_vec())).chain([None]).collect()
 }
 
@@ -318,7 +319,8 @@ fn check_counts(
     let rows = random_rows(RowShape { count, longest: 2, null_rows, ..small_shape(rng) }, rng);
     let mut arguments = vec![counts];
     if entry.roles().len() == 2 {
-        arguments.push((0..count).map(|_| rng.pick(&[None, Some(0), Some(7)])).collect());
+        let fills = [None, Some(0), Some(UNDER_NULL)];
+        arguments.push((0..count).map(|_| rng.pick(&fills)).collect());
     }
     check_shown(checker, entry, &Shown { lists: vec![rows], arguments }, rng);
 }

@@ -3,7 +3,7 @@
 
 use crate::entry::{Case, Entry, Input, MOST_INNER_ROWS, MOST_VALUES};
 use crate::model::{self, bitmap_bytes, ArgumentColumn, Element, ListColumn, Made};
-use crate::model::{Operation, Role, Row, Shown};
+use crate::model::{Operation, Role, Row, Shown, UNDER_NULL};
 use crate::recipe_generate::{lend_recipe, random_recipe, recipe_input};
 use crate::rng::Rng;
 
@@ -23,10 +23,12 @@ pub struct RowShape {
     pub null_elements: usize,
 }
 
+/// Often the number that null slots of results hold, as a level of its own.
 fn random_value(rng: &mut Rng) -> i64 {
-    match rng.below(4) {
+    match rng.below(8) {
         0 => rng.pick(&EXTREMES),
-        1 | 2 => rng.between(-1, 3),
+        1 | 2 => UNDER_NULL,
+        3 | 4 | 5 => rng.between(-1, 3),
         _ => rng.next() as i64,
     }
 }
@@ -87,7 +89,7 @@ pub struct Layout {
     pub behind: usize,
     /// At most this many values under a null row, and at least one if it is not 0.
     pub under_null_rows: usize,
-    /// Numbers other than 0 under null elements and null arguments.
+    /// Any numbers under null elements and null arguments.
     pub numbers_under_nulls: bool,
     /// Ones behind the last position of a bitmap.
     pub spare_bits: bool,
@@ -160,7 +162,11 @@ impl Places {
     }
 
     fn push_shown(&mut self, element: Element, layout: Layout, rng: &mut Rng) {
-        let hidden = if layout.numbers_under_nulls { random_value(rng) | 1 } else { 0 };
+        let hidden = match layout.numbers_under_nulls {
+            true if rng.chance(1, 4) => 0,
+            true => random_value(rng) | 1,
+            false => UNDER_NULL,
+        };
         self.values.push(element.unwrap_or(hidden));
         self.valid.push(element.is_some());
     }
@@ -290,7 +296,7 @@ fn random_argument(role: Role, row: &[Element], rng: &mut Rng) -> i64 {
         Role::Fill | Role::New => random_value(rng),
         Role::Old => match rng.below(length as usize + 1) {
             0 => random_value(rng),
-            place => row[place - 1].unwrap_or(0),
+            place => row[place - 1].unwrap_or(rng.pick(&[0, UNDER_NULL])),
         },
         Role::Limit => rng.between(-1, length + 1),
         Role::Times => rng.between(-1, 3),

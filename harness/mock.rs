@@ -261,6 +261,12 @@ impl Item {
             "distinct-null-equals-0" | "union-null-equals-0" | "matches-null-as-0" => {
                 self.given().unwrap_or(0) == other.given().unwrap_or(0)
             }
+            "distinct-null-equals-smallest"
+            | "union-null-equals-smallest"
+            | "intersect-null-equals-smallest"
+            | "matches-null-as-smallest" => {
+                self.given().unwrap_or(i64::MIN) == other.given().unwrap_or(i64::MIN)
+            }
             "matches-hidden-numbers" => self.number == other.number,
             _ => self.given() == other.given(),
         }
@@ -635,6 +641,7 @@ impl Call<'_> {
         let found = match defect() {
             "any-value-takes-first" => items.first(),
             "any-value-skips-0" => valid.find(|item| item.number != 0),
+            "any-value-skips-smallest" => valid.find(|item| item.number != i64::MIN),
             _ => valid.next(),
         };
         found.copied().filter(|_| self.lists[0].is_valid(row))
@@ -882,9 +889,17 @@ fn put_item(slice: &mut [u8], at: usize, item: Item) {
         Some(value) => value,
         None if is("number-under-null-kept") => item.number,
         None if is("null-slot-keeps-content") => return,
-        None => 0,
+        None if is("null-slot-holds-0") => 0,
+        None if is("null-slot-past-the-first-byte-holds-0") && at >= 8 => 0,
+        None => i64::MIN,
     };
     put(slice, 8 * at, &value.to_le_bytes());
+}
+
+/// Which elements are written as valid.
+fn validity(items: &[Item]) -> Vec<bool> {
+    let is_lost = |item: &Item| item.number == i64::MIN && is("valid-smallest-becomes-null");
+    items.iter().map(|item| item.valid && !is_lost(item)).collect()
 }
 
 fn nulls(valid: &[bool]) -> u64 {
@@ -980,10 +995,15 @@ impl<'a> Output<'a> {
         for (at, item) in items.iter().enumerate() {
             put_item(self.values, at, *item);
         }
-        let valid: Vec<bool> = items.iter().map(|item| item.valid).collect();
+        let valid = validity(items);
         put_bits(self.elements, &valid, call.lists[0].elements.is_empty());
         self.clear_tail(items.len());
-        let nulls = if is("null-elements-not-counted") { 0 } else { nulls(&valid) };
+        let smallest = items.iter().filter(|item| !item.valid || item.number == i64::MIN).count();
+        let nulls = match defect() {
+            "null-elements-not-counted" => 0,
+            "null-elements-counted-by-number" => smallest as u64,
+            _ => nulls(&valid),
+        };
         (items.len() as u64, nulls)
     }
 
@@ -1073,7 +1093,7 @@ impl<'a> Output<'a> {
         for (at, item) in items.iter().enumerate() {
             put_item(self.values, at, *item);
         }
-        let valid: Vec<bool> = items.iter().map(|item| item.valid).collect();
+        let valid = validity(items);
         put_bits(self.rows, &valid, false);
         self.clear_tail(items.len());
         self.write_counts(&[items.len() as u64, nulls(&valid)]);

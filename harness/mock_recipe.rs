@@ -91,6 +91,9 @@ fn clear(trays: &mut [&mut [u8]], number: u32, own: bool, written: [bool; 2], of
         if !kept {
             slice[..from].fill(0);
         }
+        if is("recipe-trays-cleared-to-smallest") && at % 4 == 2 {
+            slice.chunks_exact_mut(8).for_each(|slot| slot.copy_from_slice(&SMALLEST));
+        }
     }
 }
 
@@ -476,6 +479,14 @@ impl<'a> Run<'a> {
         if is("recipe-null-rows-valid-when-carried") {
             carried[1].clear();
         }
+        if is("recipe-smallest-is-null-when-carried") {
+            let [_, _, values, bits] = &mut carried;
+            for (slot, _) in
+                values.chunks_exact(8).enumerate().filter(|(_, slot)| *slot == SMALLEST)
+            {
+                bits[slot / 8] &= !(1 << (slot % 8));
+            }
+        }
         carried
     }
 
@@ -539,6 +550,9 @@ impl<'a> Run<'a> {
 
 /// No operation: the row as it is.
 const COPY: u32 = 2000;
+
+/// What null slots of results hold.
+const SMALLEST: [u8; 8] = i64::MIN.to_le_bytes();
 
 /// Slices in which every result has room.
 fn large_slices() -> Copied {

@@ -142,6 +142,9 @@ pub struct ResultForm {
 /// The most elements of a list answer, and the most lists inside one.
 const MOST_ELEMENTS: u128 = 2147483647;
 
+/// What a null slot of a result holds; a valid element may hold it too.
+pub const UNDER_NULL: i64 = -9223372036854775808;
+
 /// The largest running sum of resize's counts.
 const MOST_RUNNING_SUM: u128 = 18446744073709551615;
 
@@ -602,9 +605,9 @@ fn laid_out<T: Clone>(rows: &[Option<Vec<T>>]) -> ([Slots; 2], Vec<T>) {
     ([Slots::Offsets(offsets), Slots::Bits(bits)], items)
 }
 
-/// 0 under nulls.
+/// One number under all nulls.
 fn elements_laid_out(elements: &[Element]) -> [Slots; 2] {
-    let values = elements.iter().map(|element| element.unwrap_or(0)).collect();
+    let values = elements.iter().map(|element| element.unwrap_or(UNDER_NULL)).collect();
     [Slots::Values(values), Slots::Bits(bitmap_of(elements.iter().map(Option::is_some)))]
 }
 

@@ -47,8 +47,10 @@ pub trait Offset: Copy {
     fn number(self) -> i32;
 }
 
-/// A value as a column holds it; the default is 0.
-pub trait Value: Copy + Default + Eq + Hash {
+/// A value as a column holds it, and what a null slot of a result holds.
+pub trait Value: Copy + Eq + Hash {
+    const NULL: Self;
+
     fn number(self) -> i64;
 }
 
@@ -73,12 +75,16 @@ impl Offset for i32 {
 }
 
 impl Value for Bytes8 {
+    const NULL: Self = i64::MIN.to_le_bytes();
+
     fn number(self) -> i64 {
         i64::from_le_bytes(self)
     }
 }
 
 impl Value for i64 {
+    const NULL: Self = i64::MIN;
+
     fn number(self) -> i64 {
         self
     }
@@ -546,7 +552,7 @@ impl<V: Value> Sink<V> for ElementWriter<'_, V> {
         } else {
             self.bits.push(slots.zip(places).map(|(slot, place)| {
                 let element = row.element(place);
-                *slot = element.unwrap_or_default();
+                *slot = element.unwrap_or(V::NULL);
                 written += 1;
                 element.is_some()
             }));
@@ -556,7 +562,7 @@ impl<V: Value> Sink<V> for ElementWriter<'_, V> {
 
     fn fill(&mut self, element: Option<V>, times: usize) {
         let end = self.elements + times;
-        self.values[self.elements..end].fill(element.unwrap_or_default());
+        self.values[self.elements..end].fill(element.unwrap_or(V::NULL));
         match element {
             Some(_) => self.bits.push_ones(times),
             None => self.bits.push(std::iter::repeat_n(false, times)),
@@ -632,7 +638,7 @@ fn write_values<V: Value>(
     let mut bits = BitWriter::new(out_rows);
     bits.push(out_values[..rows].iter_mut().enumerate().map(|(row, slot)| {
         let value = value(row);
-        *slot = value.unwrap_or_default();
+        *slot = value.unwrap_or(V::NULL);
         value.is_some()
     }));
     Ok([rows as u64, bits.finish()])

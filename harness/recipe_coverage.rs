@@ -481,5 +481,6 @@ pub fn demanded() -> Vec<Met> {
     all.extend(demanded_lent(entry));
     all.extend(demanded_shared(entry));
     all.extend(crate::coverage::demanded_no_offsets(entry));
+    all.extend(crate::coverage::demanded_null_slots());
     all
 }

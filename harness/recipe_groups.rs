@@ -7,7 +7,7 @@ use crate::generate::*;
 use crate::groups::{check_answer, check_first, counts_of_every_length, damage_some_column};
 use crate::groups::{grow, make_ragged, over_size, ragged_slice, random_slice};
 use crate::groups::{ragged_end, slice_over_size, Holding, NumberSlice, Run};
-use crate::model::{self, Element, RecipeShown, Row, CODES};
+use crate::model::{self, Element, RecipeShown, Row, CODES, UNDER_NULL};
 use crate::no_offsets;
 use crate::pairs;
 use crate::recipe_generate::*;
@@ -511,8 +511,8 @@ fn random_case(rng: &mut Rng) -> Case {
 
 // Short recipes, all of them.
 
-/// Elements over a small alphabet, null among them.
-const ELEMENTS: [Element; 4] = [None, Some(0), Some(7), Some(7)];
+/// Elements over a small alphabet, null and the number of null slots among them.
+const ELEMENTS: [Element; 5] = [None, Some(0), Some(UNDER_NULL), Some(7), Some(7)];
 
 fn short_list(rows: usize, rng: &mut Rng) -> Vec<Row> {
     let row = |rng: &mut Rng| {
@@ -624,9 +624,9 @@ const CHOICES: [&[Element]; 8] = [
     &[Some(1), Some(2), Some(9), None],
     &[Some(-1), Some(2), Some(3), Some(9)],
     &[Some(0), Some(2), Some(3), Some(5)],
-    &[Some(7), Some(0), None],
+    &[Some(7), Some(0), Some(UNDER_NULL), None],
     &[Some(1), Some(0), Some(2), Some(-3)],
-    &[Some(7), Some(5), None],
+    &[Some(7), Some(UNDER_NULL), None],
     &[Some(1), Some(1), Some(2), Some(-1)],
     &[Some(1), Some(2), Some(0), None],
 ];

@@ -8,7 +8,7 @@ use crate::compare::{Checker, Observed};
 use crate::entry::{encode_i32, encode_i64, Case as LentCase, Entry, Expected, Input};
 use crate::entry::{TALLY, TALLY_BYTES};
 use crate::generate::{lend, Room};
-use crate::model::{ArgumentColumn, ListColumn, Operation};
+use crate::model::{ArgumentColumn, ListColumn, Operation, UNDER_NULL};
 use crate::rng::Rng;
 
 // The notation.
@@ -154,7 +154,7 @@ fn result(text: &str, outputs: usize) -> Observed {
         lengths.push(items.len() as u64);
         items = inside;
     }
-    written.extend([encode_i64(&numbers(&items, 0)), bitmap(&items)]);
+    written.extend([encode_i64(&numbers(&items, UNDER_NULL)), bitmap(&items)]);
     let (elements, null_elements) = (items.len() as u64, null_count(&items));
     let counts = match (&lengths[..], &nulls[..]) {
         ([], []) => vec![elements, null_elements],
@@ -210,6 +210,21 @@ const OF_DOCUMENT_01: &[Case] = &[
 /// One list: null rows over values, nulls, short rows.
 const OF_ONE_LIST: &[Case] = &[
     ("null is not 0", Distinct, &["[0,-,0]"], &[], "[0,-]"),
+    (
+        "null is not the smallest",
+        Distinct,
+        &["[-9223372036854775808,-,-9223372036854775808]"],
+        &[],
+        "[-9223372036854775808,-]",
+    ),
+    ("the smallest", AnyValue, &["[-,-9223372036854775808,7]"], &[], "-9223372036854775808"),
+    (
+        "the smallest",
+        Element,
+        &["[-,-9223372036854775808], [-]"],
+        &["2, 1"],
+        "-9223372036854775808, -",
+    ),
     ("rows are apart", Distinct, &["[7], [7]"], &[], "[7], [7]"),
     ("over 8,8", Reverse, &["null(8,8), [4]"], &[], "null, [4]"),
     ("over 8,8", PopBack, &["null(8,8), [4]"], &[], "null, []"),
@@ -236,6 +251,14 @@ const OF_TWO_LISTS: &[Case] = &[
     ("both null", Union, &["null", "null"], &[], "null"),
     ("null once", Union, &["[-,1,-]", "[-,2]"], &[], "[-,1,2]"),
     ("null is not 0", Union, &["[0]", "[-]"], &[], "[0,-]"),
+    (
+        "null is not the smallest",
+        Union,
+        &["[-9223372036854775808]", "[-]"],
+        &[],
+        "[-9223372036854775808,-]",
+    ),
+    ("null is not the smallest", Intersect, &["[-9223372036854775808]", "[-]"], &[], "[]"),
     ("repeats in the right", Union, &["[]", "[3,3]"], &[], "[3]"),
     ("all rows empty", Union, &["[], []", "[], []"], &[], "[], []"),
     ("all rows empty", Intersect, &["[], []", "[], []"], &[], "[], []"),
@@ -302,6 +325,13 @@ const OF_SLICES: &[Case] = &[
 /// Resize: fills, and the order of 7 and the two ways to 8.
 const OF_RESIZE: &[Case] = &[
     ("fill of its row", Resize, &["[], []"], &["1, 1", "5, -"], "[5], [-]"),
+    (
+        "fill with the smallest",
+        Resize,
+        &["[-], [1]"],
+        &["2, 2", "-9223372036854775808, -"],
+        "[-,-9223372036854775808], [1,-]",
+    ),
     ("fill not needed", Resize, &["[1,2]"], &["1", "-"], "[1]"),
     ("cut to nothing", Resize, &["[1,2]"], &["0", "3"], "[]"),
     ("null list, null count", Resize, &["null(8), [1]"], &["2, -", "3, 3"], "null, null"),
@@ -351,6 +381,28 @@ const OF_MATCHES: &[Case] = &[
     ("n 0", Replace, &["[7]"], &["7", "5", "0"], "[7]"),
     ("null n", Replace, &["[7]"], &["7", "5", "-"], "null"),
     ("null to", Replace, &["[7,7]"], &["7", "-", "1"], "[-,7]"),
+    (
+        "null by the smallest",
+        Replace,
+        &["[-,-]"],
+        &["-", "-9223372036854775808", "1"],
+        "[-9223372036854775808,-]",
+    ),
+    (
+        "the smallest by null",
+        Replace,
+        &["[-,-9223372036854775808]"],
+        &["-9223372036854775808", "-", "9"],
+        "[-,-]",
+    ),
+    ("the smallest is no null", Replace, &["[-]"], &["-9223372036854775808", "5", "1"], "[-]"),
+    (
+        "without the smallest",
+        Remove,
+        &["[-,-9223372036854775808,-]"],
+        &["-9223372036854775808", "9"],
+        "[-,-]",
+    ),
     ("null by null", Replace, &["[-]"], &["-", "-", "1"], "[-]"),
     ("null from, no nulls", Replace, &["[7]"], &["-", "5", "1"], "[7]"),
     ("null row", Replace, &["null(7)"], &["7", "5", "1"], "null"),
@@ -374,6 +426,13 @@ const OF_MATCHES: &[Case] = &[
 
 /// List-repeat: null lists, and the two sums of 8.
 const OF_REPEAT: &[Case] = &[
+    (
+        "the smallest",
+        ListRepeat,
+        &["[-9223372036854775808,-]"],
+        &["2"],
+        "[[-9223372036854775808,-],[-9223372036854775808,-]]",
+    ),
     ("null over 8,8, no times", ListRepeat, &["null(8,8)"], &["0"], "[]"),
     ("null over 8,8, once", ListRepeat, &["null(8,8)"], &["1"], "[null]"),
     ("null over 8,8, -3 times", ListRepeat, &["null(8,8)"], &["-3"], "[]"),
@@ -629,6 +688,14 @@ const OF_STEPS: &[RecipeCase] = &[
     ("once pop back", &[POP_BACK], T, &[], "[10,20,30]"),
     // [40,20]
     ("H, then reverse", &[[4, 2, 0, 1], REVERSE], T, &["1", "-2", "4"], "[20,40]"),
+    // [-,N,7], then without N: [-,7]
+    (
+        "the smallest and nulls",
+        &[UNION, [8, 0, 1, 0]],
+        ["[-,-9223372036854775808]", "[-,7]"],
+        &["-9223372036854775808", "9"],
+        "[-,7]",
+    ),
     ("from and to in one column", &[[5, 0, 0, 0]], T, &["2"], "[20]"),
     // [2,1,5,-], then the longer is walked: [1,5,-]
     (
@@ -829,7 +896,7 @@ fn recipes_as_bytes() -> [(LentCase, Expected); 2] {
     let result = [
         encode_i32(&[0, 2, 2, 4]),
         vec![0b101],
-        encode_i64(&[1, 0, 4, 2]),
+        encode_i64(&[1, -9223372036854775808, 4, 2]),
         vec![0b1101],
         encode_i64(&[-1, 3]),
     ];

@@ -1,4 +1,5 @@
 // Case M: replace in [-,7,-] null by 5, n 1, gives [5,7,-]. The null to replace lies over 7.
+use compare::UNDER_NULL;
 
 #[rattlefmt::skip]
 pub(crate) fn case_m() -> bool {
@@ -13,6 +14,6 @@ pub(crate) fn case_m() -> bool {
     compare::list_counts(answer, 1, 3, 0, 1)
         && compare::offsets(&out_offsets, &[0, 3, 77])
         && compare::bytes(&out_rows, &[1, 0xaa])
-        && compare::values(&out_values, &[5, 7, 0, 77])
+        && compare::values(&out_values, &[5, 7, UNDER_NULL, 77])
         && compare::bytes(&out_elements, &[0b11, 0xaa])
 }

@@ -1,4 +1,5 @@
 // Case L: resize [1,2] to 4 with a null fill gives [1,2,-,-]. The null lies over a value.
+use compare::UNDER_NULL;
 use model::Optional;
 
 #[rattlefmt::skip]
@@ -14,6 +15,6 @@ pub(crate) fn case_l() -> bool {
     compare::list_counts(answer, 1, 4, 0, 2)
         && compare::offsets(&out_offsets, &[0, 4, 77])
         && compare::bytes(&out_rows, &[1, 0xaa])
-        && compare::values(&out_values, &[1, 2, 0, 0, 77])
+        && compare::values(&out_values, &[1, 2, UNDER_NULL, UNDER_NULL, 77])
         && compare::bytes(&out_elements, &[0b11, 0xaa])
 }

@@ -1,4 +1,5 @@
 // Case A: reverse [1,2,-], null, [] gives [-,2,1], null, []. The null row lies over two values, one of them null.
+use compare::UNDER_NULL;
 
 pub(crate) fn case_a() -> bool {
     let mut out_offsets = [77i32; 6];
@@ -18,6 +19,6 @@ pub(crate) fn case_a() -> bool {
     compare::list_counts(answer, 3, 3, 1, 1)
         && compare::offsets(&out_offsets, &[0, 3, 3, 3, 77, 77])
         && compare::bytes(&out_rows, &[0b101, 0xaa])
-        && compare::values(&out_values, &[0, 2, 1, 77, 77])
+        && compare::values(&out_values, &[UNDER_NULL, 2, 1, 77, 77])
         && compare::bytes(&out_elements, &[0b110, 0xaa])
 }

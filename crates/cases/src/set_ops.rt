@@ -1,4 +1,5 @@
 // Cases B to E: distinct, union and intersect.
+use compare::UNDER_NULL;
 use model::SetOp;
 
 // Distinct [3,-,3,-,1] gives [3,-,1]. Two values stand before the row, and the nulls lie over different ones.
@@ -20,7 +21,7 @@ pub(crate) fn case_b() -> bool {
     compare::list_counts(answer, 1, 3, 0, 1)
         && compare::offsets(&out_offsets, &[0, 3, 77])
         && compare::bytes(&out_rows, &[1, 0xaa])
-        && compare::values(&out_values, &[3, 0, 1, 77])
+        && compare::values(&out_values, &[3, UNDER_NULL, 1, 77])
         && compare::bytes(&out_elements, &[0b101, 0xaa])
 }
 
@@ -38,7 +39,7 @@ pub(crate) fn case_c() -> bool {
     compare::list_counts(answer, 1, 4, 0, 1)
         && compare::offsets(&out_offsets, &[0, 4, 77])
         && compare::bytes(&out_rows, &[1, 0xaa])
-        && compare::values(&out_values, &[2, 1, 5, 0, 77])
+        && compare::values(&out_values, &[2, 1, 5, UNDER_NULL, 77])
         && compare::bytes(&out_elements, &[0b111, 0xaa])
 }
 

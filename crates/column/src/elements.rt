@@ -10,7 +10,7 @@ ghost use lib.ListN.{getD, length, set};
 ghost use mathlib.Core.Path.{_≡_};
 
 // What a null slot holds.
-pub const UNDER_NULL: i64 = 0;
+pub const UNDER_NULL: i64 = -9223372036854775808;
 
 // The value at i, or what a null slot holds.
 fn value_or_null(values: &[i64], i: usize, on: bool) -> i64

@@ -4,6 +4,9 @@ use model::RepeatAnswer;
 use model::ValueAnswer;
 ghost use Rattle.compare.specs.Same.{Same};
 
+// What the cases want in a null slot of a result.
+pub const UNDER_NULL: i64 = -9223372036854775808;
+
 // Whether two bitmaps hold the same bytes.
 pub fn bytes(got: &[u8], want: &[u8]) -> bool
     ensures { λ r. ⌜ Same (now (got .entry)) (now (want .entry)) r ⌝ }

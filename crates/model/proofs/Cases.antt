@@ -49,17 +49,21 @@ valueRoom = record { values = 9; rows = 9 }
 abbrev repeatRoom : RepeatRoom
 repeatRoom = record { outer-offsets = 9; outer-rows = 9; lists = room }
 
+-- what a null slot holds
+abbrev N : ℤ
+N = minus 9223372036854775808
+
 -- an accepted list answer: rows, elements, null rows, null elements; offsets, row bitmap, values, element bitmap
-abbrev rows : List ℕ → List ℕ → List ℕ → List ℕ → List ℕ → End
-rows n o r v e = operationEnd (counts n) (map pos o ∷ map pos v ∷ []) (r ∷ e ∷ [])
+abbrev rows : List ℕ → List ℕ → List ℕ → List ℤ → List ℕ → End
+rows n o r v e = operationEnd (counts n) (map pos o ∷ v ∷ []) (r ∷ e ∷ [])
 
 -- one valid row of n elements, none of them null: its values and element bitmap
 abbrev oneRow : ℕ → List ℕ → List ℕ → End
-oneRow n v e = rows (1 ∷ n ∷ 0 ∷ 0 ∷ []) (0 ∷ n ∷ []) (1 ∷ []) v e
+oneRow n v e = rows (1 ∷ n ∷ 0 ∷ 0 ∷ []) (0 ∷ n ∷ []) (1 ∷ []) (map pos v) e
 
 -- an accepted value answer: rows, null rows; values, bitmap
-abbrev values : List ℕ → List ℕ → List ℕ → End
-values n v b = operationEnd (counts n) (map pos v ∷ []) (b ∷ [])
+abbrev values : List ℕ → List ℤ → List ℕ → End
+values n v b = operationEnd (counts n) (v ∷ []) (b ∷ [])
 
 -- list-repeat's: rows, elements, null rows, null elements, inner rows, null inner rows; outer offsets, inner offsets, values;
 -- outer rows' bitmap, inner rows', elements'
@@ -88,13 +92,13 @@ table =
     -- A: reverse [1,2,-], null, []: [-,2,1], null, []. First offset 1, numbers under the null row and element and behind the last
     -- offset, spare bits set.
     case 65 (list (unary Reverse (lists (1 ∷ 4 ∷ 6 ∷ 6 ∷ []) (253 ∷ []) (77 ∷ 1 ∷ 2 ∷ 99 ∷ 8 ∷ 8 ∷ 55 ∷ []) (246 ∷ []))) room)
-    (rows (3 ∷ 3 ∷ 1 ∷ 1 ∷ []) (0 ∷ 3 ∷ 3 ∷ 3 ∷ []) (5 ∷ []) (0 ∷ 2 ∷ 1 ∷ []) (6 ∷ []))
+    (rows (3 ∷ 3 ∷ 1 ∷ 1 ∷ []) (0 ∷ 3 ∷ 3 ∷ 3 ∷ []) (5 ∷ []) (N ∷ pos 2 ∷ pos 1 ∷ []) (6 ∷ []))
     -- B: distinct [3,-,3,-,1]: [3,-,1]. The nulls lie over 1 and 2, and a 9 behind the last offset.
     ∷ case 66 (list (unary Distinct (row 5 (3 ∷ 1 ∷ 3 ∷ 2 ∷ 1 ∷ 9 ∷ []) (53 ∷ []))) room)
-    (rows (1 ∷ 3 ∷ 0 ∷ 1 ∷ []) (0 ∷ 3 ∷ []) (1 ∷ []) (3 ∷ 0 ∷ 1 ∷ []) (5 ∷ []))
+    (rows (1 ∷ 3 ∷ 0 ∷ 1 ∷ []) (0 ∷ 3 ∷ []) (1 ∷ []) (pos 3 ∷ N ∷ pos 1 ∷ []) (5 ∷ []))
     -- C: union [2,1,2], [1,5,-]: [2,1,5,-]. The null lies over 6.
     ∷ case 67 (list (setOp Union (row 3 (2 ∷ 1 ∷ 2 ∷ []) []) (row 3 (1 ∷ 5 ∷ 6 ∷ []) (3 ∷ []))) room)
-    (rows (1 ∷ 4 ∷ 0 ∷ 1 ∷ []) (0 ∷ 4 ∷ []) (1 ∷ []) (2 ∷ 1 ∷ 5 ∷ 0 ∷ []) (7 ∷ []))
+    (rows (1 ∷ 4 ∷ 0 ∷ 1 ∷ []) (0 ∷ 4 ∷ []) (1 ∷ []) (pos 2 ∷ pos 1 ∷ pos 5 ∷ N ∷ []) (7 ∷ []))
     -- D: intersect [1,2], [2,1]: [1,2]
     ∷ case 68 (list (setOp Intersect (row 2 (1 ∷ 2 ∷ []) []) (row 2 (2 ∷ 1 ∷ []) [])) room) (oneRow 2 (1 ∷ 2 ∷ []) (3 ∷ []))
     -- E: intersect [1,2], [2,9,1]: [2,1]
@@ -110,25 +114,25 @@ table =
     -- J: slice S 1 to 2 stride 0: refusal 5
     ∷ case 74 (list (slice S (one (pos 1)) (one (pos 2)) (given (one (pos 0)))) room) (refusedList 5)
     -- K: element −4 of S: 10
-    ∷ case 75 (element S (one (minus 4)) valueRoom) (values (1 ∷ 0 ∷ []) (10 ∷ []) (1 ∷ []))
+    ∷ case 75 (element S (one (minus 4)) valueRoom) (values (1 ∷ 0 ∷ []) (pos 10 ∷ []) (1 ∷ []))
     -- K: 0: null
-    ∷ case 75 (element S (one (pos 0)) valueRoom) (values (1 ∷ 1 ∷ []) (0 ∷ []) (0 ∷ []))
+    ∷ case 75 (element S (one (pos 0)) valueRoom) (values (1 ∷ 1 ∷ []) (N ∷ []) (0 ∷ []))
     -- K: 2147483647 of []: null
-    ∷ case 75 (element (row 0 (11 ∷ []) []) (one (pos 2147483647)) valueRoom) (values (1 ∷ 1 ∷ []) (0 ∷ []) (0 ∷ []))
+    ∷ case 75 (element (row 0 (11 ∷ []) []) (one (pos 2147483647)) valueRoom) (values (1 ∷ 1 ∷ []) (N ∷ []) (0 ∷ []))
     -- K: 2147483648 of []: refusal 4
     ∷ case 75 (element (row 0 (11 ∷ []) []) (one (pos 2147483648)) valueRoom) (refusedValue 4)
     -- L: resize [1,2] to 4, null fill: [1,2,-,-]. The fill lies over 6.
     ∷ case 76 (list (resize (row 2 (1 ∷ 2 ∷ []) []) (one (pos 4)) (given (nullOver (pos 6)))) room)
-    (rows (1 ∷ 4 ∷ 0 ∷ 2 ∷ []) (0 ∷ 4 ∷ []) (1 ∷ []) (1 ∷ 2 ∷ 0 ∷ 0 ∷ []) (3 ∷ []))
+    (rows (1 ∷ 4 ∷ 0 ∷ 2 ∷ []) (0 ∷ 4 ∷ []) (1 ∷ []) (pos 1 ∷ pos 2 ∷ N ∷ N ∷ []) (3 ∷ []))
     -- M: replace [-,7,-], null by 5, n 1: [5,7,-]. The nulls of the row lie over 3 and 4, the one to replace over 7.
     ∷ case 77 (list (replace (row 3 (3 ∷ 7 ∷ 4 ∷ []) (2 ∷ [])) (nullOver (pos 7)) (one (pos 5)) (one (pos 1))) room)
-    (rows (1 ∷ 3 ∷ 0 ∷ 1 ∷ []) (0 ∷ 3 ∷ []) (1 ∷ []) (5 ∷ 7 ∷ 0 ∷ []) (3 ∷ []))
+    (rows (1 ∷ 3 ∷ 0 ∷ 1 ∷ []) (0 ∷ 3 ∷ []) (1 ∷ []) (pos 5 ∷ pos 7 ∷ N ∷ []) (3 ∷ []))
     -- N: remove 7 from [7,-,7,7], n 2: [-,7]. The null lies over 7.
     ∷ case 78 (list (remove (row 4 (7 ∷ 7 ∷ 7 ∷ 7 ∷ []) (13 ∷ [])) (one (pos 7)) (one (pos 2))) room)
-    (rows (1 ∷ 2 ∷ 0 ∷ 1 ∷ []) (0 ∷ 2 ∷ []) (1 ∷ []) (0 ∷ 7 ∷ []) (2 ∷ []))
+    (rows (1 ∷ 2 ∷ 0 ∷ 1 ∷ []) (0 ∷ 2 ∷ []) (1 ∷ []) (N ∷ pos 7 ∷ []) (2 ∷ []))
     -- N: n −1: unchanged
     ∷ case 78 (list (remove (row 4 (7 ∷ 7 ∷ 7 ∷ 7 ∷ []) (13 ∷ [])) (one (pos 7)) (one (minus 1))) room)
-    (rows (1 ∷ 4 ∷ 0 ∷ 1 ∷ []) (0 ∷ 4 ∷ []) (1 ∷ []) (7 ∷ 0 ∷ 7 ∷ 7 ∷ []) (13 ∷ []))
+    (rows (1 ∷ 4 ∷ 0 ∷ 1 ∷ []) (0 ∷ 4 ∷ []) (1 ∷ []) (pos 7 ∷ N ∷ pos 7 ∷ pos 7 ∷ []) (13 ∷ []))
     -- O: list-repeat of null over 8,8 and [4], counts 1, 2: [null], [[4],[4]]; outer offsets 0,1,3, inner 0,0,1,2
     ∷ case 79 (listRepeat (lists (0 ∷ 2 ∷ 3 ∷ []) (2 ∷ []) (8 ∷ 8 ∷ 4 ∷ []) []) (arguments (pos 1 ∷ pos 2 ∷ []) (from 0 [])) repeatRoom)
     (repeats (2 ∷ 2 ∷ 0 ∷ 0 ∷ 3 ∷ 1 ∷ []) (0 ∷ 1 ∷ 3 ∷ []) (0 ∷ 0 ∷ 1 ∷ 2 ∷ []) (4 ∷ 4 ∷ []) (3 ∷ []) (6 ∷ []) (3 ∷ []))

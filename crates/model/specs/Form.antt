@@ -1,17 +1,19 @@
 -- Result form and counts. "Results begin at offset 0; bitmaps are always written, spare bits 0; null rows of a list answer are
--- empty; null elements, and null slots of a value answer, hold 0: that is result form. Slots past the result keep their content."
+-- empty; null elements, and null slots of a value answer, hold 0: that is result form. Slots past the result keep their content.";
+-- of that 0 document 02 says: "Null slots in results of every operation, recipe, import and export now hold −9223372036854775808. Result
+-- form changes with them."
 use Prim.Native.Nat.{ℕ, _+_}
 use mathlib.Core.Bool.{Bool, true, false, _&&_}
 use mathlib.Core.List.{List, [], _∷_, _++_, map}
 use lib.ListN.{length, drop}
-use lib.IntN.{ℤ, pos}
+use lib.IntN.{ℤ, pos, negsuc}
 use lib.Dec.{leb}
 use Rattle.model.specs.Bitmap.{pack, bytesFor, nulls}
 use Rattle.model.specs.Column.{Elem, nul, val, Row, nullRow, listRow}
 
 -- what a null slot of a result holds
 abbrev pub underNull : ℤ
-underNull = pos 0
+underNull = negsuc 9223372036854775807
 
 unfoldable pub isVal : Elem → Bool
 isVal nul = false

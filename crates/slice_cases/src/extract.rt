@@ -1,4 +1,5 @@
 // Case K: element. Four calls, on S, which is [10,20,30,40], and on [].
+use compare::UNDER_NULL;
 
 // Element -4 of S gives 10.
 fn fourth_last() -> bool {
@@ -34,7 +35,7 @@ fn none_at_zero() -> bool {
         &mut out_rows,
     );
     compare::value_counts(answer, 1, 1)
-        && compare::values(&out_values, &[0, 77])
+        && compare::values(&out_values, &[UNDER_NULL, 77])
         && compare::bytes(&out_rows, &[0, 0xaa])
 }
 
@@ -53,7 +54,7 @@ fn none_in_empty() -> bool {
         &mut out_rows,
     );
     compare::value_counts(answer, 1, 1)
-        && compare::values(&out_values, &[0, 77])
+        && compare::values(&out_values, &[UNDER_NULL, 77])
         && compare::bytes(&out_rows, &[0, 0xaa])
 }
 

@@ -14,6 +14,7 @@ use crate::model::{
     Operation, Role, Row, Shown, UNDER_NULL,
 };
 use crate::recipe_coverage;
+use crate::strides;
 use std::borrow::Cow;
 use std::collections::BTreeMap;
 
@@ -392,6 +393,7 @@ fn row_met(
     {
         let bounds = bounds_name(row.len() as i64, *from, *to);
         met.push(format!("bounds {bounds}, stride {}: {outcome}", stride_name(*stride)));
+        met.extend(places_met(row, arguments, *stride));
     }
     met
 }
@@ -422,7 +424,7 @@ fn argument_names(
     }
 }
 
-const NUMBERS: [&str; 17] = [
+const NUMBERS: [&str; 20] = [
     "0",
     "1",
     "-1",
@@ -433,8 +435,11 @@ const NUMBERS: [&str; 17] = [
     "length + 1",
     "length + 2",
     "-length",
+    "-length + 1",
     "-length - 1",
+    "2147483646",
     "2147483647",
+    "-2147483647",
     "-2147483648",
     "2147483648",
     "-2147483649",
@@ -454,8 +459,11 @@ fn number_names(length: i64, number: i64) -> Vec<&'static str> {
         length + 1,
         length + 2,
         -length,
+        -length + 1,
         -length - 1,
+        2147483646,
         2147483647,
+        -2147483647,
         -2147483648,
         2147483648,
         -2147483649,
@@ -500,6 +508,21 @@ fn stride_name(stride: i64) -> &'static str {
         ..-2147483648 => "below 32 bits",
         1.. => "positive",
         _ => "negative",
+    }
+}
+
+/// How many places a slice by this stride has, of a row of nine or of the long row.
+fn places_met(row: &[Element], arguments: &[Element], stride: i64) -> Option<String> {
+    let length = row.len();
+    if length != 9 && length as i64 != strides::LONG {
+        return None;
+    }
+    match model::make_row(Operation::Slice, &[&Some(row.to_vec())], arguments) {
+        Ok(Made::Lists(made)) => {
+            let places = made[0].as_ref().map_or(0, Vec::len);
+            Some(format!("{places} of {length} by {stride}"))
+        }
+        _ => None,
     }
 }
 
@@ -863,9 +886,15 @@ const STRIDES: &[&str] = &[
     "stride -1: places",
     "stride 2: places",
     "stride -2: places",
+    "stride length - 1: places",
     "stride length: places",
+    "stride length + 1: places",
+    "stride -length + 1: places",
     "stride -length: places",
+    "stride -length - 1: places",
+    "stride 2147483646: places",
     "stride 2147483647: places",
+    "stride -2147483647: places",
     "stride -2147483648: places",
     "stride 2147483648: refused 6",
     "stride 2147483648: empty",
@@ -902,6 +931,57 @@ const STRIDES: &[&str] = &[
     "bounds beyond 32 bits, stride negative: refused 4",
     "bounds beyond 32 bits, stride above 32 bits: refused 4",
     "bounds beyond 32 bits, stride below 32 bits: refused 4",
+];
+
+/// The most places that a stride finds, and one where it steps over all others; a slice against the
+/// direction has none.
+const PLACES: &[&str] = &[
+    "0 of 9 by 1",
+    "1 of 9 by 1",
+    "8 of 9 by 1",
+    "9 of 9 by 1",
+    "0 of 9 by -1",
+    "1 of 9 by -1",
+    "8 of 9 by -1",
+    "9 of 9 by -1",
+    "4 of 9 by 2",
+    "5 of 9 by 2",
+    "5 of 9 by -2",
+    "2 of 9 by 7",
+    "2 of 9 by -7",
+    "1 of 9 by 8",
+    "2 of 9 by 8",
+    "1 of 9 by -8",
+    "2 of 9 by -8",
+    "1 of 9 by 9",
+    "1 of 9 by -9",
+    "1 of 9 by 10",
+    "1 of 9 by -10",
+    "1 of 9 by 2147483646",
+    "1 of 9 by 2147483647",
+    "1 of 9 by -2147483647",
+    "1 of 9 by -2147483648",
+    "4000 of 4000 by 1",
+    "4000 of 4000 by -1",
+    "3999 of 4000 by 1",
+    "3999 of 4000 by -1",
+    "2000 of 4000 by 2",
+    "2000 of 4000 by -2",
+    "1334 of 4000 by 3",
+    "1334 of 4000 by -3",
+    "3 of 4000 by 1999",
+    "2 of 4000 by 2000",
+    "2 of 4000 by -2000",
+    "2 of 4000 by 3999",
+    "2 of 4000 by -3999",
+    "1 of 4000 by 4000",
+    "1 of 4000 by -4000",
+    "1 of 4000 by 4001",
+    "1 of 4000 by -4001",
+    "1 of 4000 by 2147483646",
+    "1 of 4000 by 2147483647",
+    "1 of 4000 by -2147483647",
+    "1 of 4000 by -2147483648",
 ];
 
 /// A null fill stands beside no null of another argument.
@@ -997,7 +1077,7 @@ fn demanded_of_rows(operation: Operation) -> Vec<&'static str> {
     let parts: &[&[&str]] = match operation {
         Operation::Element => &[INDEXES],
         Operation::Union | Operation::Intersect => &[&PAIRS],
-        Operation::Slice => &[BOUNDS, STRIDES],
+        Operation::Slice => &[BOUNDS, STRIDES, PLACES],
         Operation::SliceWithoutStride => &[BOUNDS],
         Operation::Resize => &[COUNTS, FILLS, &RESIZE_SUMS],
         Operation::ResizeWithoutFill => &[COUNTS, &RESIZE_SUMS],

@@ -250,13 +250,18 @@ pub const FAR: [i64; 11] = [
     i64::MIN,
 ];
 
+fn both_signs(number: &i64) -> [i64; 2] {
+    [*number, -number]
+}
+
 /// The boundary numbers of an argument beside this row.
 pub fn boundaries(role: Role, row: &[Element]) -> Vec<i64> {
     let length = row.len() as i64;
     let mut numbers = match role {
         Role::Index | Role::From | Role::To => (-length - 2..=length + 2).chain(FAR).collect(),
         Role::Stride => {
-            let mut strides = vec![0, 1, -1, 2, -2, 3, -3, length, -length];
+            let mut strides = vec![0, 2147483646];
+            strides.extend([1, 2, 3, length - 1, length, length + 1].iter().flat_map(both_signs));
             strides.extend(FAR);
             strides
         }

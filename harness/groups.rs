@@ -12,6 +12,7 @@ use crate::no_offsets;
 use crate::pairs;
 use crate::recipe_groups;
 use crate::rng::Rng;
+use crate::strides;
 use crate::worked;
 
 type Applies = fn(Entry) -> bool;
@@ -27,7 +28,7 @@ pub struct Group {
 
 /// The groups that each operation has, if it is one for which they are meant; those that take long
 /// come last.
-const FOR_EACH: [(&str, Applies, Run, u64); 14] = [
+const FOR_EACH: [(&str, Applies, Run, u64); 15] = [
     ("random columns", always, random_columns, 6),
     ("layouts of the same rows", always, pairs::same_rows, 6),
     ("damaged columns", always, damaged_columns, 4),
@@ -37,6 +38,7 @@ const FOR_EACH: [(&str, Applies, Run, u64); 14] = [
     ("answers of the entry", always, entry_answers, 1),
     ("random bytes", always, random_bytes, 5),
     ("boundary arguments, exhaustive", has_others, every_argument, 0),
+    ("strides, exhaustive", strides::is_for, strides::every_stride, 0),
     ("sums, exhaustive", has_sums, every_sum, 0),
     ("limit columns, exhaustive", has_limit, every_limit_length, 0),
     ("no offsets, exhaustive", always, no_offsets::every_form, 0),

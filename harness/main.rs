@@ -23,7 +23,8 @@
 //! and their wrong versions in mock_recipe.rs; `--operation recipe` runs their groups.
 //!
 //! Pairs of layouts that show the same rows are in pairs.rs, for operations and for recipes; columns
-//! with no offsets are in no_offsets.rs.
+//! with no offsets are in no_offsets.rs; strided slices, whose places are counted by stepping, are
+//! in strides.rs.
 
 mod bench;
 mod compare;
@@ -53,6 +54,7 @@ mod recipe_generate;
 mod recipe_groups;
 mod recipe_lengths;
 mod rng;
+mod strides;
 mod worked;
 
 use compare::Checker;

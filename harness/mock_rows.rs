@@ -202,7 +202,8 @@ fn places(first: i64, last: i64, stride: i64) -> Result<Vec<usize>, u32> {
     }
     let equal_empty = first == last
         && (stride < 0 && is("equal-bounds-negative-stride-empty")
-            || stride > 0 && is("equal-bounds-positive-stride-empty"));
+            || stride > 0 && is("equal-bounds-positive-stride-empty")
+            || is("equal-bounds-empty"));
     let against = first < last && stride < 0 || first > last && stride > 0;
     if equal_empty || against && !is("stride-direction-ignored") {
         return Ok(Vec::new());
@@ -226,9 +227,21 @@ fn places(first: i64, last: i64, stride: i64) -> Result<Vec<usize>, u32> {
         all.push(place as usize);
         place += i128::from(stride);
     }
+    let is_last_met = all.last() == Some(&(last as usize));
     match defect() {
+        "one-step-too-many" => all.extend(usize::try_from(place).ok()),
+        "one-step-too-many-unless-to-is-met" if !is_last_met => {
+            all.extend(usize::try_from(place).ok());
+        }
+        "falling-bounds-give-one-place" if first > last => all.truncate(1),
+        "counts-up-where-it-should-count-down" if first > last => {
+            let up = |step: usize| first as usize + step * stride.unsigned_abs() as usize;
+            all = (0..all.len()).map(up).collect();
+        }
+        "smallest-stride-gives-none" if stride == -2147483648 => all.clear(),
+        "at-most-3999-places" => all.truncate(3999),
         "step-past-largest-refused" if stride > 1 && place > 2147483647 => return Err(6),
-        "to-only-by-stride-1" if stride.abs() > 1 && all.last() == Some(&(last as usize)) => {
+        "to-only-by-stride-1" if stride.abs() > 1 && is_last_met => {
             all.pop();
         }
         "last-place-left-out" if all.len() > 1 => {

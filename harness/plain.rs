@@ -383,9 +383,18 @@ fn slice_plan(length: usize, from: i64, to: i64, stride: i64) -> Result<SlicePla
     } else if i32::try_from(stride).is_err() {
         Err(6)
     } else {
-        let count = (end - start).unsigned_abs() / stride.unsigned_abs() + 1;
-        Ok(SlicePlan { start, stride, count: count as usize })
+        Ok(SlicePlan { start, stride, count: places_by_stepping(end - start, stride) })
     }
+}
+
+/// How many places there are over a distance that the stride does not go against.
+fn places_by_stepping(distance: i64, stride: i64) -> usize {
+    let (mut rest, mut count) = (distance, 1);
+    while if stride > 0 { rest >= stride } else { rest <= stride } {
+        rest -= stride;
+        count += 1;
+    }
+    count
 }
 
 fn slice<V: Value>(

@@ -116,7 +116,8 @@ impl Draft {
     }
 
     /// Adds a step that is not refused, and remembers columns with which it would be, with this
-    /// number; false where it cannot be.
+    /// number; false where it cannot be. Of a slice a later row may be refused besides, with any
+    /// number, for the first one decides.
     pub fn add_refusable(&mut self, number: u32, rng: &mut Rng) -> bool {
         let operation = match number {
             4 => rng.pick(&[Operation::Slice, Operation::SliceWithoutStride]),
@@ -131,8 +132,14 @@ impl Draft {
         let lists = self.lists_of(operation);
         let accepted = full_columns(operation, &lists, self.null_eighths, rng);
         let mut shown = Shown { lists, arguments: accepted.clone() };
-        if !refuse_row(operation, &mut shown, rng.pick(&rows), number, rng) {
+        let row = rng.pick(&rows);
+        if !refuse_row(operation, &mut shown, row, number, rng) {
             return false;
+        }
+        let later: Vec<usize> = rows.into_iter().filter(|other| *other > row).collect();
+        if number <= 6 && !later.is_empty() && rng.chance(1, 2) {
+            let other = rng.pick(operation.refusals());
+            refuse_row(operation, &mut shown, rng.pick(&later), other, rng);
         }
         let mut step = [code_of(operation), 0, 0, 0];
         let numbers: Vec<usize> = self.free.drain(..accepted.len()).collect();

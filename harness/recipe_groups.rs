@@ -13,10 +13,11 @@ use crate::pairs;
 use crate::recipe_generate::*;
 use crate::recipe_lengths;
 use crate::rng::Rng;
+use crate::strides;
 use crate::worked;
 
 /// Each group with its part of the random calls; those that take long come last.
-pub const ALL: [(&str, Run, u64); 16] = [
+pub const ALL: [(&str, Run, u64); 17] = [
     ("random recipes", random_recipes, 14),
     ("layouts of the same rows", pairs::same_rows, 10),
     ("refused steps", refused_steps, 8),
@@ -29,6 +30,7 @@ pub const ALL: [(&str, Run, u64); 16] = [
     ("random bytes", random_bytes, 6),
     ("worked cases", worked::recipes, 0),
     ("trays and output of every length, exhaustive", recipe_lengths::every_slice, 0),
+    ("strides in a step", strides::every_stride_of_a_step, 0),
     ("no offsets, exhaustive", no_offsets::every_form_of_recipes, 0),
     ("row counts and argument lengths, exhaustive", every_length, 0),
     ("short recipes, exhaustive", short_recipes, 0),

@@ -3,3 +3,4 @@ pub mod IndexLaws
 pub mod PlaceLaws
 pub mod SliceLaws
 pub mod PlanLaws
+pub mod StepLaws

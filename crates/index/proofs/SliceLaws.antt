@@ -3,10 +3,10 @@ use mathlib.Core.Path.{_≡_, refl, sym, ap, _∙_}
 use mathlib.Core.Bool.{Bool, true, false}
 use Prim.Native.Nat.{ℕ, zero, suc, _+_, _-_, _/_, _^_, _≤_, _<_}
 use native.Mathlib.Omega.{arith}
-use native.Mathlib.Nat.{div-le-self, zero-div}
+use native.Mathlib.Nat.{div-le-self}
 use lib.Dec.{T, ltb}
 use lib.IntN.{ℤ, pos, negsuc, subℕ, natAbs, _+ℤ_, _-ℤ_}
-use lib.Signed.{ltZ, nonNeg, quotZ}
+use lib.Signed.{ltZ, nonNeg}
 use borrow.Author.Tests.{ltb-true, ltb-false, lt-ltb, le-ltb, eq-eqb, ne-eqb}
 use mir.Syntax.{w32, w64}
 use mir.Val.{SFits, ofZ}
@@ -20,7 +20,7 @@ use Rattle.index.specs.Plan.{planOf, boundTold, IsPlace, HasPlace, Suits
 use Rattle.index.specs.declared.Bound.{Bound}
 use Rattle.index.specs.declared.Bound.the-variants as B
 use Rattle.index.specs.declared.slice.SlicePlan.the-variants as P
-use Rattle.index.proofs.SignedLaws.{difference-cases, difference-natural, difference-of, difference-small, difference-below-zero, difference-not-below-zero, less-one}
+use Rattle.index.proofs.SignedLaws.{difference-cases, difference-natural, difference-of, difference-below-zero, difference-not-below-zero, less-one}
 use Rattle.index.proofs.PlaceLaws.{count-small, from-inside, to-inside, bound-at}
 use Rattle.model.proofs.BoolLaws.{never-true}
 
@@ -162,50 +162,11 @@ against-up (negsuc a) b (pos k) p q t = absurd (p .natural)
 
 -- ---- the number of places
 
-quotient-of : (a b : ℕ) (s : ℤ) → against a b s ≡ false → quotZ (subℕ b a) s ≡ pos (stepCount a b s - 1)
-unfolding against stepCount
-quotient-of a b (pos k) d =
-    let e : (b - a) / k ≡ (b - a) / k + 1 - 1 = omega arith in
-    rw (difference-natural b a (ltb-false b a d)) (ap pos e)
-quotient-of a b (negsuc k) d =
-    let l = ltb-false a b d in
-    difference-cases b a (λ y. quotZ y (negsuc k) ≡ pos ((a - b) / (k + 1) + 1 - 1))
-    (λ h.
-    let e : suc (a - suc b) ≡ a - b = omega arith in
-    let f : suc k ≡ k + 1 = omega arith in
-    let g : (a - b) / (k + 1) ≡ (a - b) / (k + 1) + 1 - 1 = omega arith in
-    rw (e, f) (ap pos g))
-    (λ h. let e : b - a ≡ 0 = omega arith in let f : a - b ≡ 0 = omega arith in rw (e, f, zero-div (suc k), zero-div (k + 1)))
-
 -- between two places of a row of n elements
 pub steps-few : (n a b : ℕ) (s : ℤ) → a < n → b < n → (0 < stepCount a b s) × (stepCount a b s ≤ n)
 unfolding stepCount
 steps-few n a b (pos k) h l = let d = div-le-self (b - a) k in (omega arith, omega arith)
 steps-few n a b (negsuc k) h l = let d = div-le-self (a - b) (k + 1) in (omega arith, omega arith)
-
-pub distance-fits : (a b : ℤ) → IsPlace a → IsPlace b → SFits w32 (b -ℤ a)
-distance-fits (pos a) (pos b) p q =
-    rw (difference-of b a) (record { sfits = difference-small b a (2 ^ 31) (omega (arith, q .small)) (omega (arith, p .small)) })
-distance-fits (pos a) (negsuc b) p q = absurd (q .natural)
-distance-fits (negsuc a) b p q = absurd (p .natural)
-
-pub quotient : (a b s : ℤ) → Suits a b s → quotZ (b -ℤ a) s ≡ pos (stepCount (count a) (count b) s - 1)
-unfolding count
-quotient (pos a) (pos b) s h = rw (difference-of b a) (quotient-of a b s (h .direction))
-quotient (pos a) (negsuc b) s h = absurd (h .to .natural)
-quotient (negsuc a) b s h = absurd (h .from .natural)
-
-pub steps-fit : (a b s : ℤ) → Suits a b s → (0 < stepCount (count a) (count b) s) × (stepCount (count a) (count b) s ≤ narrow .offset)
-unfolding count
-steps-fit (pos a) (pos b) s h = steps-few (narrow .offset) a b s (h .from .small) (h .to .small)
-steps-fit (pos a) (negsuc b) s h = absurd (h .to .natural)
-steps-fit (negsuc a) b s h = absurd (h .from .natural)
-
-pub divisor-some : (s : ℤ) → SFits w32 s → isZero s ≡ false → 0 < ofZ w32 s
-unfolding isZero
-divisor-some (pos zero) f z = never-true z
-divisor-some (pos (suc k)) f z = omega arith
-divisor-some (negsuc k) f z = omega (arith, f .sfits)
 
 -- ---- the plan between two places
 

@@ -1,9 +1,9 @@
 -- The plan of a slice and its stride as the code has them, and what the code's inner functions ask. Document 01, "Slice:".
 use Prim.Native.Nat.{_<_}
-use mathlib.Core.Bool.{false}
+use mathlib.Core.Bool.{Bool, true, false}
 use mathlib.Core.Path.{_≡_}
 use lib.Dec.{T}
-use lib.IntN.{ℤ, pos, natAbs}
+use lib.IntN.{ℤ, pos, negsuc, natAbs}
 use lib.Signed.{nonNeg}
 use Rattle.model.specs.Limits.{narrow}
 use Rattle.model.specs.Column.{count}
@@ -41,6 +41,11 @@ pub record IsPlace (x : ℤ) : Type 0 where
 -- a bound whose place, where it has one, is such a place
 abbrev pub HasPlace : Bound → Type 0
 HasPlace b = (x : ℤ) → b ≡ B.At x → IsPlace x
+
+-- a number below 0
+unfoldable pub isBelow : ℤ → Bool
+isBelow (pos k) = false
+isBelow (negsuc k) = true
 
 -- a stride that leads from the place a to the place b
 pub record Suits (a b s : ℤ) : Type 0 where

@@ -1,13 +1,14 @@
 // The places that a slice takes of a row, by signed 32-bit arithmetic.
 // After extract.rs of datafusion-functions-nested 55.2.0, Apache License 2.0, Apache Software Foundation; changed, see NOTICE.
 use crate::Bound;
-ghost use Prim.Native.Nat.{_<_};
+ghost use Prim.Native.Nat.{_+_, _/_, _<_};
 ghost use Rattle.index.specs.Place.{bound};
-ghost use Rattle.index.specs.Plan.{IsPlace, Suits, HasPlace, planOf, strideIn, boundTold};
+ghost use Rattle.index.specs.Plan.{IsPlace, Suits, HasPlace, isBelow, planOf, strideIn, boundTold};
 ghost use Rattle.model.specs.Column.{count};
 ghost use Rattle.model.specs.Limits.{narrow};
 ghost use Rattle.model.specs.Slice.{against, between, fromBound, fromPlace, slicePlan, stepCount, strided, toBound, toPlace};
-ghost use lib.IntN.{pos};
+ghost use lib.IntN.{natAbs, pos};
+ghost use mathlib.Core.Bool.{true};
 ghost use mathlib.Core.Path.{_≡_};
 
 // No places, so many from a start on by a stride, or the number of a refusal.
@@ -94,12 +95,36 @@ fn is_against(from: i32, to: i32, stride: i64) -> bool
     to < from
 }
 
-// How many places there are from from by stride, to included.
+// One more than the steps that a distance holds, by a stride below 0: what is left falls by each of them, and its sum with the stride
+// stays in range, where the stride's size might not.
+fn count_down(distance: i32, stride: i32) -> i32
+    requires { ⌜ IsPlace distance ⌝ }
+    requires { ⌜ isBelow stride ≡ true ⌝ }
+    ensures { λ r. ⌜ r ≡ pos (count distance / natAbs stride + 1) ⌝ }
+{
+    let mut left = distance;
+    let mut taken: i32 = 1;
+    while 0 <= left + stride {
+        left += stride;
+        taken += 1;
+    }
+    taken
+}
+
+// How many places there are from from by stride, to included: one by one there are as many as the distance and one; else they are
+// counted by stepping, a stride above 0 turned round.
 fn count_steps(from: i32, to: i32, stride: i32) -> i32
     requires { ⌜ Suits from to stride ⌝ }
     ensures { λ r. ⌜ r ≡ pos (stepCount (count from) (count to) stride) ⌝ }
 {
-    (to - from) / stride + 1
+    if stride < 0 {
+        return count_down(from - to, stride);
+    }
+    let distance = to - from;
+    if stride == 1 {
+        return distance + 1;
+    }
+    count_down(distance, 0 - stride)
 }
 
 // The plan between two places of the row.

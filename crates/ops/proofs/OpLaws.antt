@@ -1,10 +1,12 @@
 -- What is done to a row is what the definitions make of it.
-use mathlib.Core.Path.{_≡_, refl}
+use mathlib.Core.Path.{_≡_, refl, sym}
+use Prim.Native.Nat.{ℕ}
 use mathlib.Core.Bool.{Bool, true, false}
 use mathlib.Core.List.{List}
 use lib.IntN.{ℤ, pos}
 use lib.ListN.{length}
 use Rattle.model.specs.Basics.{pick}
+use Rattle.model.proofs.BoolLaws.{never-true}
 use Rattle.model.specs.Column.{Elem, nul, val, Row, nullRow, listRow}
 use Rattle.model.specs.Form.{elemsOf}
 use Rattle.model.specs.Limits.{narrow}
@@ -14,7 +16,7 @@ use Rattle.index.specs.Plan as I
 use Rattle.index.specs.declared.slice.Stride.{Stride}
 use Rattle.index.specs.declared.slice.Stride.the-variants as S
 use Rattle.rows.specs.Cells.{elemOf, fillElem}
-use Rattle.ops.specs.Ops.{callOf, planOp, sliceOp, strideOp, resizeOp, replaceOp, removeOp, validOp, rowOpOf, opElems, opMade}
+use Rattle.ops.specs.Ops.{callOf, planOp, sliceOp, strideOp, resizeOp, replaceOp, removeOp, validOp, isSlice, strideFor, rowOpOf, opElems, opMade}
 use Rattle.rows.specs.declared.Cell.{Cell}
 use Rattle.rows.specs.declared.Cell.the-variants as C
 use Rattle.rows.specs.declared.Fill.the-variants as F
@@ -22,6 +24,29 @@ use Rattle.ops.specs.declared.ListOp.{ListOp}
 use Rattle.ops.specs.declared.ListOp.the-variants as L
 use Rattle.ops.specs.declared.RowOp.{RowOp}
 use Rattle.ops.specs.declared.RowOp.the-variants as R
+
+-- a slice is planned by a stride, lent or 1; the others do not look at the row's length
+pub slice-planned : (op : ListOp) (n : ℕ) (x y z : Cell) → isSlice op ≡ true → strideOp n x y (strideFor op z) ≡ validOp op n x y z
+unfolding isSlice strideFor validOp strideOp sliceOp I.strideIn
+slice-planned (L.Plain u) n x y z h = never-true (sym h)
+slice-planned L.Slice n C.Null y z h = refl
+slice-planned L.Slice n (C.Value f) C.Null z h = refl
+slice-planned L.Slice n (C.Value f) (C.Value t) z h = refl
+slice-planned L.SliceBy n x y z h = refl
+slice-planned L.Resize n x y z h = never-true (sym h)
+slice-planned L.ResizeWith n x y z h = never-true (sym h)
+slice-planned L.Replace n x y z h = never-true (sym h)
+slice-planned L.Remove n x y z h = never-true (sym h)
+
+pub others-planned : (op : ListOp) (n : ℕ) (x y z : Cell) → isSlice op ≡ false → validOp op 0 x y z ≡ validOp op n x y z
+unfolding isSlice validOp
+others-planned (L.Plain u) n x y z h = refl
+others-planned L.Slice n x y z h = never-true h
+others-planned L.SliceBy n x y z h = never-true h
+others-planned L.Resize n x y z h = refl
+others-planned L.ResizeWith n x y z h = refl
+others-planned L.Replace n x y z h = refl
+others-planned L.Remove n x y z h = refl
 
 -- a row of these elements, or a null one
 abbrev pub rowIf : Bool → List Elem → Row

@@ -3,7 +3,7 @@ use Prim.Native.Nat.{ℕ}
 use mathlib.Core.Bool.{Bool, true, false}
 use mathlib.Core.List.{List, []}
 use lib.Dec.{eqb}
-use lib.IntN.{natAbs}
+use lib.IntN.{pos, natAbs}
 use Rattle.model.specs.Basics.{pick, absent, given}
 use Rattle.model.specs.Column.{Elem, nullRow, listRow, count}
 use Rattle.model.specs.Elements.{unaryElems, resized, replaced, removed}
@@ -98,6 +98,25 @@ validOp L.Resize n x y z = resizeOp x F.Absent
 validOp L.ResizeWith n x y z = resizeOp x (F.Own y)
 validOp L.Replace n x y z = replaceOp x y z
 validOp L.Remove n x y z = removeOp x y
+
+unfoldable pub isSlice : ListOp → Bool
+isSlice (L.Plain u) = false
+isSlice L.Slice = true
+isSlice L.SliceBy = true
+isSlice L.Resize = false
+isSlice L.ResizeWith = false
+isSlice L.Replace = false
+isSlice L.Remove = false
+
+-- what a slice goes by: "absent stride is 1"
+unfoldable pub strideFor : ListOp → Cell → Cell
+strideFor (L.Plain u) z = C.Value (pos 1)
+strideFor L.Slice z = C.Value (pos 1)
+strideFor L.SliceBy z = z
+strideFor L.Resize z = C.Value (pos 1)
+strideFor L.ResizeWith z = C.Value (pos 1)
+strideFor L.Replace z = C.Value (pos 1)
+strideFor L.Remove z = C.Value (pos 1)
 
 unfoldable pub rowOpOf : ListOp → Bool → ℕ → Cell → Cell → Cell → RowOp
 rowOpOf op valid n x y z = pick valid (validOp op n x y z) R.Null

@@ -9,7 +9,8 @@ ghost use Prim.Native.Nat.{_≤_};
 ghost use Rattle.index.specs.Plan.{planOf, strideIn};
 ghost use Rattle.model.specs.Limits.{narrow};
 ghost use Rattle.model.specs.Slice.{slicePlan};
-ghost use Rattle.ops.specs.Ops.{opNull, planOp, removeOp, replaceOp, resizeOp, rowOpOf, sliceOp, strideOp, table};
+ghost use Rattle.ops.specs.Ops.{isSlice, opNull, planOp, removeOp, replaceOp, resizeOp, rowOpOf, sliceOp, strideFor, strideOp, table, validOp};
+ghost use mathlib.Core.Bool.{false};
 ghost use mathlib.Core.Path.{_≡_};
 
 // The operations on one list, by the arguments that they take.
@@ -126,7 +127,53 @@ fn remove_op(element: Cell, limit: Cell) -> RowOp
     }
 }
 
-// What the operation does to a row of len elements with these arguments.
+// Whether the operation is a slice.
+fn is_slice(op: ListOp) -> bool
+    ensures { λ b. ⌜ b ≡ isSlice op ⌝ }
+{
+    match op {
+        ListOp::Plain(_) => false,
+        ListOp::Slice => true,
+        ListOp::SliceBy => true,
+        ListOp::Resize => false,
+        ListOp::ResizeWith => false,
+        ListOp::Replace => false,
+        ListOp::Remove => false,
+    }
+}
+
+// What a slice goes by: its stride z, or 1 where it takes none.
+fn stride_for(op: ListOp, z: Cell) -> Cell
+    ensures { λ s. ⌜ s ≡ strideFor op z ⌝ }
+{
+    match op {
+        ListOp::Plain(_) => Cell::Value(1),
+        ListOp::Slice => Cell::Value(1),
+        ListOp::SliceBy => z,
+        ListOp::Resize => Cell::Value(1),
+        ListOp::ResizeWith => Cell::Value(1),
+        ListOp::Replace => Cell::Value(1),
+        ListOp::Remove => Cell::Value(1),
+    }
+}
+
+// What an operation that is no slice does to a valid row with these arguments.
+fn other_op(op: ListOp, x: Cell, y: Cell, z: Cell) -> RowOp
+    requires { ⌜ isSlice op ≡ false ⌝ }
+    ensures { λ o. ⌜ o ≡ validOp op 0 x y z ⌝ }
+{
+    match op {
+        ListOp::Plain(u) => RowOp::Plain(u),
+        ListOp::Slice => RowOp::Null,
+        ListOp::SliceBy => RowOp::Null,
+        ListOp::Resize => resize_op(x, Fill::Absent),
+        ListOp::ResizeWith => resize_op(x, Fill::Own(y)),
+        ListOp::Replace => replace_op(x, y, z),
+        ListOp::Remove => remove_op(x, y),
+    }
+}
+
+// What the operation does to a row of len elements with these arguments. A slice is planned at one place, for both kinds.
 pub fn row_op(op: ListOp, valid: bool, len: usize, x: Cell, y: Cell, z: Cell) -> RowOp
     requires { ⌜ len ≤ narrow .offset ⌝ }
     ensures { λ o. ⌜ o ≡ rowOpOf op valid len x y z ⌝ }
@@ -134,15 +181,10 @@ pub fn row_op(op: ListOp, valid: bool, len: usize, x: Cell, y: Cell, z: Cell) ->
     if !valid {
         return RowOp::Null;
     }
-    match op {
-        ListOp::Plain(u) => RowOp::Plain(u),
-        ListOp::Slice => slice_op(len, x, y, Stride::Absent),
-        ListOp::SliceBy => stride_op(len, x, y, z),
-        ListOp::Resize => resize_op(x, Fill::Absent),
-        ListOp::ResizeWith => resize_op(x, Fill::Own(y)),
-        ListOp::Replace => replace_op(x, y, z),
-        ListOp::Remove => remove_op(x, y),
+    if is_slice(op) {
+        return stride_op(len, x, y, stride_for(op, z));
     }
+    other_op(op, x, y, z)
 }
 
 // What an operation takes of its argument columns.

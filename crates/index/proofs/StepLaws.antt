@@ -1,0 +1,157 @@
+-- Laws of counting by stepping: what is left of a distance falls by the stride's size while it holds one.
+use mathlib.Core.Path.{_≡_, refl, sym, ap, _∙_}
+use mathlib.Core.Bool.{Bool, true, false}
+use Prim.Native.Nat.{ℕ, zero, suc, _+_, _-_, _*_, _/_, _<_, _≤_}
+use native.Mathlib.Omega.{arith}
+use native.Mathlib.Nat.{div-eq-of-lt, div-eq-sub-div, div-one}
+use borrow.Author.Tests.{le-ltb, ltb-false, leb-true, leb-false}
+use lib.Dec.{T}
+use lib.IntN.{ℤ, pos, negsuc, natAbs, _+ℤ_, _-ℤ_}
+use lib.Signed.{ltZ, leZ, mag, nonNeg}
+use mir.Syntax.{Width, w32}
+use mir.Val.{SFits, ofZ}
+use Rattle.model.specs.Column.{count}
+use Rattle.model.specs.Limits.{narrow}
+use Rattle.model.specs.Slice.{against, isZero, stepCount}
+use Rattle.model.proofs.BoolLaws.{never, never-true}
+use Rattle.index.specs.Plan.{IsPlace, Suits, isBelow}
+use Rattle.index.proofs.SignedLaws.{difference-of, difference-natural, difference-cases, difference-small}
+
+-- of a distance d below most, left is still to go and steps are counted, by strides of this size
+pub record Stepping (most d size left steps : ℕ) : Type 0 where
+  pub small : d < most
+  pub some : 0 < steps
+  pub within : left + steps ≤ d + 1
+  pub counted : left / size + steps ≡ d / size + 1
+
+module _ (most d size : ℕ) where
+  pub step-begun : d < most → Stepping most d size d 1
+  step-begun h = record { small = h; some = omega arith; within = omega arith; counted = refl }
+
+  module _ {left steps : ℕ} (s : Stepping most d size left steps) where
+    pub step-more : 0 < size → size ≤ left → Stepping most d size (left - size) (steps + 1)
+    step-more z h =
+        let e = div-eq-sub-div {m = size} {n = left} z h in
+        record { small = s .small; some = omega arith; within = omega (arith, s .within); counted = omega (arith, e, s .counted) }
+
+    pub step-done : left < size → steps ≡ d / size + 1
+    step-done h = let e = div-eq-of-lt {n = left} {m = size} h in omega (arith, e, s .counted)
+
+-- ---- a stride, and what is left as a signed number
+
+pub natural-bits : (w : Width) (z : ℤ) → T (nonNeg z) → ofZ w z ≡ natAbs z
+natural-bits w (pos n) h = refl
+natural-bits w (negsuc n) h = absurd h
+
+pub natural-count : (z : ℤ) → T (nonNeg z) → natAbs z ≡ count z
+unfolding count
+natural-count (pos n) h = refl
+natural-count (negsuc n) h = absurd h
+
+pub size-down : (s : ℤ) → isBelow s ≡ true → 0 < natAbs s
+unfolding isBelow
+size-down (pos k) h = never-true (sym h)
+size-down (negsuc k) h = omega arith
+
+pub size-fits : (s : ℤ) → SFits w32 s → natAbs s ≤ 2147483648
+size-fits (pos k) f = omega (arith, f .sfits)
+size-fits (negsuc k) f = omega (arith, f .sfits)
+
+-- what is left and a negative stride: their sum, whatever its sign
+pub down-fits : (s : ℤ) (left half : ℕ) → isBelow s ≡ true → left < half → natAbs s ≤ half → mag (pos left +ℤ s) < half
+unfolding isBelow
+down-fits (pos k) left half h l m = never-true (sym h)
+down-fits (negsuc k) left half h l m = difference-small left (suc k) half l m
+
+pub down-next : (s : ℤ) (left : ℕ) → isBelow s ≡ true → leZ (pos 0) (pos left +ℤ s) ≡ true → (natAbs s ≤ left) × (pos left +ℤ s ≡ pos (left - natAbs s))
+unfolding isBelow
+down-next (pos k) left h t = never-true (sym h)
+down-next (negsuc k) left h t =
+    let l = difference-cases left (suc k) (λ z. leZ (pos 0) z ≡ true → suc k ≤ left) (λ p q. never-true (sym q)) (λ p q. p) t in
+    (l, difference-natural left (suc k) l)
+
+pub down-last : (s : ℤ) (left : ℕ) → isBelow s ≡ true → leZ (pos 0) (pos left +ℤ s) ≡ false → left < natAbs s
+unfolding isBelow
+down-last (pos k) left h t = never-true (sym h)
+down-last (negsuc k) left h t = difference-cases left (suc k) (λ z. leZ (pos 0) z ≡ false → left < suc k) (λ p q. p) (λ p q. let z = leb-false 0 (left - suc k) q in omega arith) t
+
+-- a stride above 0, turned round
+pub record Turned (s z : ℤ) : Type 0 where
+  pub below : isBelow z ≡ true
+  pub size : natAbs z ≡ natAbs s
+  pub fits : SFits w32 z
+
+pub turned : (s : ℤ) → 0 < count s → SFits w32 s → Turned s (pos 0 -ℤ s)
+unfolding count isBelow
+turned (negsuc k) h f = let z : ⊥ = omega arith in absurd z
+turned (pos k) h f =
+    rw (difference-of 0 k)
+    (difference-cases 0 k (λ z. Turned (pos k) z)
+    (λ l. let e : suc (k - 1) ≡ k = omega arith in record { below = refl; size = e; fits = record { sfits = omega (arith, f .sfits) } })
+    (λ l. let z : ⊥ = omega arith in absurd z))
+
+-- ---- the distance between two places, in the stride's direction
+
+-- it is a place, and stepping over it counts what stepping between the places does
+pub record Distance (z : ℤ) (n : ℕ) : Type 0 where
+  pub place : IsPlace z
+  pub counted : count z ≡ n
+
+distance : (a b : ℕ) → a < narrow .offset → b ≤ a → Distance (pos a -ℤ pos b) (a - b)
+unfolding count
+distance a b h l = rw (difference-of a b, difference-natural a b l) (record { place = record { natural = tt; small = omega arith }; counted = refl })
+
+pub distance-down : (a b s : ℤ) → Suits a b s → isBelow s ≡ true → Distance (a -ℤ b) (count a - count b)
+unfolding isBelow against count
+distance-down (negsuc a) b s u h = absurd (u .from .natural)
+distance-down (pos a) (negsuc b) s u h = absurd (u .to .natural)
+distance-down (pos a) (pos b) (pos k) u h = never-true (sym h)
+distance-down (pos a) (pos b) (negsuc k) u h = distance a b (u .from .small) (ltb-false a b (u .direction))
+
+pub distance-up : (a b s : ℤ) → Suits a b s → isBelow s ≡ false → Distance (b -ℤ a) (count b - count a)
+unfolding isBelow against count
+distance-up (negsuc a) b s u h = absurd (u .from .natural)
+distance-up (pos a) (negsuc b) s u h = absurd (u .to .natural)
+distance-up (pos a) (pos b) (pos k) u h = distance b a (u .to .small) (ltb-false b a (u .direction))
+distance-up (pos a) (pos b) (negsuc k) u h = never-true h
+
+pub below-is : (s : ℤ) (t : Bool) → ltZ s (pos 0) ≡ t → isBelow s ≡ t
+unfolding isBelow
+below-is (pos k) t e = sym (le-ltb k 0 (omega arith)) ∙ e
+below-is (negsuc k) t e = e
+
+pub some-up : (s : ℤ) → isZero s ≡ false → isBelow s ≡ false → 0 < count s
+unfolding isBelow isZero count
+some-up (pos zero) z h = never-true z
+some-up (pos (suc k)) z h = omega arith
+some-up (negsuc k) z h = never-true h
+
+-- 01's count, over the stride's size
+pub steps-down : (a b : ℕ) (s : ℤ) → isBelow s ≡ true → (a - b) / natAbs s + 1 ≡ stepCount a b s
+unfolding isBelow stepCount
+steps-down a b (pos k) h = never-true (sym h)
+steps-down a b (negsuc k) h = let f : suc k ≡ k + 1 = omega arith in rw f
+
+pub steps-up : (a b : ℕ) (s : ℤ) → isBelow s ≡ false → (b - a) / natAbs s + 1 ≡ stepCount a b s
+unfolding isBelow stepCount
+steps-up a b (pos k) h = refl
+steps-up a b (negsuc k) h = never-true h
+
+-- by steps of one
+pub steps-single : (a b s : ℤ) → Suits a b s → s ≡ pos 1 → b -ℤ a +ℤ pos 1 ≡ pos (stepCount (count a) (count b) s)
+unfolding count stepCount against
+steps-single (negsuc a) b s h e = absurd (h .from .natural)
+steps-single (pos a) (negsuc b) s h e = absurd (h .to .natural)
+steps-single (pos a) (pos b) (negsuc k) h e = never cc
+steps-single (pos a) (pos b) (pos k) h e =
+    let l = ltb-false b a (h .direction) in
+    let f : k ≡ 1 = cc in
+    rw (f, difference-of b a, difference-natural b a l, div-one (b - a))
+
+pub place-fits : (z : ℤ) → IsPlace z → SFits w32 z
+place-fits (pos n) p = record { sfits = omega (arith, p .small) }
+place-fits (negsuc n) p = absurd (p .natural)
+
+pub place-more : (z : ℤ) → IsPlace z → SFits w32 (z +ℤ pos 1)
+place-more (pos n) p = record { sfits = omega (arith, p .small) }
+place-more (negsuc n) p = absurd (p .natural)

@@ -253,7 +253,7 @@ pub fn print(port: &Library) {
     for entry in port.operations() {
         print_lines(entry.name(), &[port, &plain::LIBRARY, &decoded::LIBRARY], entry);
     }
-    let recipe = Entry::Recipe(RECIPE_ROLES.len() as u32);
+    let recipe = Entry::RECIPE.with_columns(RECIPE_ROLES.len() as u32);
     if port.has(recipe) {
         print_lines("recipe of 8 steps", &[port, &plain::LIBRARY, &decoded::LIBRARY], recipe);
     }

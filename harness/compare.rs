@@ -6,7 +6,7 @@ use crate::coverage::{self, Coverage, SHARED};
 use crate::entry::{decode_i32, decode_i64, decode_tally, decode_u32};
 use crate::entry::{Case, Content, Expected, Input, SliceKind, TALLY, TALLY_BYTES};
 use crate::library::Library;
-use crate::model::{is_valid, UNDER_NULL};
+use crate::model::{is_valid, Tally, UNDER_NULL};
 use crate::recipe_coverage;
 use std::borrow::Cow;
 use std::ops::Range;
@@ -81,7 +81,7 @@ pub struct Observed {
     pub number: u32,
     pub counts: Vec<u64>,
     pub written: Vec<Vec<u8>>,
-    pub tally: Option<[u64; 2]>,
+    pub tally: Option<Tally>,
 }
 
 /// Makes calls, compares them and keeps the record of the group that is running.

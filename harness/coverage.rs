@@ -770,7 +770,9 @@ fn unequal_columns(input: &Input) -> Vec<Column> {
         Column::Argument(at) => {
             let values = input.arguments[at].values.len();
             match input.entry {
-                Entry::Recipe(columns) => values as u128 != u128::from(columns) * rows as u128,
+                Entry::Recipe { columns, .. } => {
+                    values as u128 != u128::from(columns) * rows as u128
+                }
                 entry => !model::suits(entry.roles()[at], values, rows),
             }
         }
@@ -1207,7 +1209,7 @@ impl Coverage {
                 }
             }
         }
-        if library.has(Entry::Recipe(0)) {
+        if library.has(Entry::RECIPE) {
             for (kind, subject) in recipe_coverage::demanded() {
                 if !self.reached("recipe", kind, &subject) {
                     missing.push(format!("recipe: {kind} {subject}"));

@@ -203,12 +203,13 @@ fn room<'a>(
 }
 
 fn recipe(
+    station: u32,
     columns: u32,
     inputs: [&[u8]; 11],
     outputs: [&mut [u8]; 13],
     counts: &mut [u8],
 ) -> u32 {
-    plain::recipe_by(inputs, outputs, counts, |inputs, outputs| {
+    plain::recipe_by(station, inputs, outputs, counts, |inputs, outputs| {
         let [numbers, l0, l1, l2, l3, s0, s1, s2, s3, values, bits] = inputs;
         let [o0, o1, o2, o3, t0, t1, t2, t3, r0, r1, r2, r3] = outputs;
         let mut arrays = [ListArrays::ZERO; 4];

@@ -164,6 +164,7 @@ const DEFECTS: &[(&str, &[&str])] = &[
     (RECIPE, RECIPE_COLUMN_DEFECTS),
     (RECIPE, TRAY_DEFECTS),
     (RECIPE, TALLY_DEFECTS),
+    (RECIPE, STATION_DEFECTS),
     (RECIPE, OPERATION_DEFECTS_IN_RECIPES),
 ];
 
@@ -172,7 +173,7 @@ pub fn print() {
     for (operation, names) in DEFECTS {
         names.iter().for_each(|name| println!("{name} {operation}"));
     }
-    for entry in Entry::all().chain([Entry::Recipe(0)]) {
+    for entry in Entry::all().chain([Entry::RECIPE]) {
         EVERYWHERE.iter().for_each(|name| println!("{name} {}", entry.name()));
         if entry.outputs()[0].content == Content::Offsets {
             println!("{NO_SLOT} {}", entry.name());
@@ -484,6 +485,7 @@ const TRAY_DEFECTS: &[&str] = &[
     "recipe-trays-not-zeroed",
     "recipe-trays-not-zeroed-after-refusal",
     "recipe-trays-not-zeroed-after-10",
+    "recipe-trays-not-zeroed-after-15",
     "recipe-trays-not-zeroed-after-own-answers",
     "recipe-unwritten-trays-not-zeroed",
     "recipe-tray-two-not-zeroed",
@@ -516,6 +518,26 @@ const TALLY_DEFECTS: &[&str] = &[
     "recipe-tally-tail-cleared",
     "recipe-tally-counts-own-answers",
     "recipe-short-tally-accepted",
+];
+
+/// The stations of the tally, and those that there are not.
+const STATION_DEFECTS: &[&str] = &[
+    "recipe-neighbour-counted",
+    "recipe-station-0-counted-for-all",
+    "recipe-all-stations-counted",
+    "recipe-stations-from-the-last",
+    "recipe-tally-station-by-station",
+    "recipe-tally-carries-to-the-neighbour",
+    "recipe-station-15-refused",
+    "recipe-station-16-accepted",
+    "recipe-station-cut-to-four-bits",
+    "recipe-station-cut-to-a-byte",
+    "recipe-15-counted",
+    "recipe-15-counted-for-the-last",
+    "recipe-15-after-10",
+    "recipe-15-after-3",
+    "recipe-15-before-own-answers",
+    "recipe-15-clears-the-output",
 ];
 
 /// Wrong versions of operations that recipes must report by themselves.

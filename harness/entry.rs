@@ -7,7 +7,7 @@
 
 use crate::model::{
     self, ArgumentColumn, ListColumn, Operation, Recipe, RecipeRefusal, ResultForm, Role, Shown,
-    Slots,
+    Slots, Tally,
 };
 use std::ops::Range;
 
@@ -15,8 +15,8 @@ pub const RAGGED: u32 = 100;
 pub const OVER_SIZE: u32 = 101;
 pub const NO_SUCH_OPERATION: u32 = 102;
 
-/// An entry with the operation code that it is given; a recipe's with the number of its argument
-/// columns.
+/// An entry with the operation code that it is given; a recipe's with its station and the number of
+/// its argument columns.
 #[derive(Clone, Copy, PartialEq, Eq, Debug)]
 pub enum Entry {
     List(u32),
@@ -25,7 +25,7 @@ pub enum Entry {
     Lists(u32),
     ListWith(u32),
     ListRepeat,
-    Recipe(u32),
+    Recipe { station: u32, columns: u32 },
 }
 
 /// Every operation of the port, with the entry that reaches it and its name.
@@ -149,7 +149,7 @@ const RECIPE_INPUTS: [SliceKind; 11] = [
     },
     bits("argument bits"),
 ];
-/// Two trays of four slices each, the output, and the tally, of which the first 16 bytes are taken.
+/// Two trays of four slices each, the output, and the tally, of which the first 256 bytes are taken.
 const RECIPE_OUTPUTS: [SliceKind; 13] = [
     offsets("tray one offsets", MOST_ROWS),
     bits("tray one rows"),
@@ -170,7 +170,7 @@ const RECIPE_OUTPUTS: [SliceKind; 13] = [
 pub const TRAYS: Range<usize> = 0..8;
 pub const RECIPE_RESULT: Range<usize> = 8..12;
 pub const TALLY: usize = 12;
-pub const TALLY_BYTES: usize = 16;
+pub const TALLY_BYTES: usize = 256;
 
 impl Entry {
     /// Every operation of the port, as the entry that reaches it.
@@ -194,7 +194,24 @@ impl Entry {
     }
 
     pub fn is_recipe(self) -> bool {
-        matches!(self, Entry::Recipe(_))
+        matches!(self, Entry::Recipe { .. })
+    }
+
+    /// The entry of recipes, for station 0 and without columns.
+    pub const RECIPE: Entry = Entry::Recipe { station: 0, columns: 0 };
+
+    /// The station and the number of columns of a recipe.
+    pub fn recipe(self) -> (u32, u32) {
+        let Entry::Recipe { station, columns } = self else { panic!("the entry of recipes") };
+        (station, columns)
+    }
+
+    pub fn with_station(self, station: u32) -> Entry {
+        Entry::Recipe { station, columns: self.recipe().1 }
+    }
+
+    pub fn with_columns(self, columns: u32) -> Entry {
+        Entry::Recipe { station: self.recipe().0, columns }
     }
 
     pub fn name(self) -> &'static str {
@@ -211,14 +228,14 @@ impl Entry {
             Entry::List(_) => Some(Entry::List(code)),
             Entry::Lists(_) => Some(Entry::Lists(code)),
             Entry::ListWith(_) => Some(Entry::ListWith(code)),
-            Entry::AnyValue | Entry::Element | Entry::ListRepeat | Entry::Recipe(_) => None,
+            Entry::AnyValue | Entry::Element | Entry::ListRepeat | Entry::Recipe { .. } => None,
         }
     }
 
     /// How many list columns come first among the inputs.
     pub fn lists(self) -> usize {
         match self {
-            Entry::Lists(_) | Entry::Recipe(_) => 2,
+            Entry::Lists(_) | Entry::Recipe { .. } => 2,
             _ => 1,
         }
     }
@@ -234,7 +251,7 @@ impl Entry {
             Entry::Element => &INDEXES,
             Entry::ListWith(_) => &ARGUMENTS,
             Entry::ListRepeat => &TIMES,
-            Entry::Recipe(_) => &RECIPE_INPUTS[9..],
+            Entry::Recipe { .. } => &RECIPE_INPUTS[9..],
             Entry::List(_) | Entry::AnyValue | Entry::Lists(_) => &[],
         }
     }
@@ -266,7 +283,7 @@ impl Entry {
             Entry::List(_) | Entry::Lists(_) | Entry::ListWith(_) => &LIST_ANSWER,
             Entry::AnyValue | Entry::Element => &VALUE_ANSWER,
             Entry::ListRepeat => &LIST_OF_LISTS_ANSWER,
-            Entry::Recipe(_) => &RECIPE_OUTPUTS,
+            Entry::Recipe { .. } => &RECIPE_OUTPUTS,
         }
     }
 
@@ -325,11 +342,11 @@ impl Input {
 
     /// The recipe that the call brings, if it is one.
     pub fn recipe(&self) -> Option<Recipe<'_>> {
-        let Entry::Recipe(columns) = self.entry else {
+        let Entry::Recipe { station, columns } = self.entry else {
             return None;
         };
         let (numbers, lists) = (&self.numbers, &self.lists);
-        Some(Recipe { numbers, columns, lists, arguments: &self.arguments[0] })
+        Some(Recipe { station, numbers, columns, lists, arguments: &self.arguments[0] })
     }
 
     /// The slices of all columns, in the order of the entry's inputs.
@@ -383,14 +400,15 @@ pub struct Case {
 }
 
 /// All that the answer of a call with well-formed columns may depend on: the entry, a recipe's
-/// numbers, what the columns show, the slots lent for results and trays, and a recipe's tally.
+/// numbers, what the columns show, the slots lent for results and trays, and a recipe's tally; the
+/// entry holds a recipe's station.
 #[derive(Debug, PartialEq)]
 pub struct Start {
     entry: Entry,
     numbers: Vec<u32>,
     shown: Shown,
     lengths: Vec<usize>,
-    tally: Option<[u64; 2]>,
+    tally: Option<Tally>,
 }
 
 /// What a call must answer, and the bytes that it must write at the front of each output, if it
@@ -482,7 +500,8 @@ impl Case {
         }
     }
 
-    /// The trays are all zero after any call; the tally stays where the entry itself answers.
+    /// The trays are all zero after any call; the tally stays where the entry itself answers, and
+    /// where there is no such station.
     fn expected_of_recipe(&self) -> Expected {
         let zeros = |tray: &Vec<u8>| vec![0; tray.len()];
         let trays: Vec<Vec<u8>> = self.outputs[TRAYS].iter().map(zeros).collect();
@@ -490,7 +509,10 @@ impl Case {
             return Expected { written: trays, ..Expected::refusal(number) };
         }
         let outcome = self.recipe_outcome();
-        let tally = model::tally_after(self.tally(), outcome.is_ok());
+        let tally = match outcome {
+            Err(RecipeRefusal { number: 15, .. }) => self.tally(),
+            _ => model::tally_after(self.tally(), self.entry.recipe().0, outcome.is_ok()),
+        };
         let tally = tally.iter().flat_map(|count| count.to_le_bytes()).collect();
         let result = match outcome {
             Ok(form) => Expected::accepted(&form),
@@ -510,15 +532,15 @@ impl Case {
     }
 
     /// The recipes finished and refused before the call.
-    pub fn tally(&self) -> [u64; 2] {
+    pub fn tally(&self) -> Tally {
         decode_tally(&self.outputs[TALLY])
     }
 }
 
-/// The two counts of a tally that is long enough.
-pub fn decode_tally(bytes: &[u8]) -> [u64; 2] {
+/// The counts of a tally that is long enough.
+pub fn decode_tally(bytes: &[u8]) -> Tally {
     let counts = decode_i64(&bytes[..TALLY_BYTES]);
-    [counts[0] as u64, counts[1] as u64]
+    std::array::from_fn(|at| counts[at] as u64)
 }
 
 fn encode_slots(slots: &Slots) -> Vec<u8> {

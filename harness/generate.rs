@@ -4,7 +4,7 @@
 use crate::entry::{Case, Entry, Input, MOST_INNER_ROWS, MOST_VALUES};
 use crate::model::{self, bitmap_bytes, ArgumentColumn, Element, ListColumn, Made};
 use crate::model::{Operation, Role, Row, Shown, UNDER_NULL};
-use crate::recipe_generate::{lend_recipe, random_recipe, recipe_input};
+use crate::recipe_generate::{lend_recipe, no_station, random_recipe, recipe_input};
 use crate::rng::Rng;
 
 pub const EXTREMES: [i64; 7] = [i64::MIN, i64::MIN + 1, -1, 0, 1, i64::MAX - 1, i64::MAX];
@@ -553,7 +553,11 @@ pub fn random_layouts(entry: Entry, rng: &mut Rng) -> Vec<Layout> {
 pub fn random_input(entry: Entry, shape: RowShape, rng: &mut Rng) -> Input {
     if entry.is_recipe() {
         let shown = random_recipe(shape, rng);
-        return recipe_input(&shown, &random_layouts(entry, rng), rng);
+        let mut input = recipe_input(&shown, &random_layouts(entry, rng), rng);
+        if rng.chance(1, 16) {
+            input.entry = input.entry.with_station(no_station(rng));
+        }
+        return input;
     }
     let shown = random_shown_or_refused(entry, shape, rng);
     let layouts = random_layouts(entry, rng);

@@ -82,7 +82,7 @@ pub fn all() -> Vec<Group> {
         }
     }
     for (name, run, shares) in recipe_groups::ALL {
-        let (name, entry) = (format!("recipe: {name}"), Entry::Recipe(0));
+        let (name, entry) = (format!("recipe: {name}"), Entry::RECIPE);
         groups.push(Group { name, entry, run, shares });
     }
     for (name, entry) in CODED {

@@ -1,13 +1,15 @@
 //! A library under test: the entries as safe functions on byte slices. The port, the plain Rust
-//! and the mock each give one of these. A function takes the code, if there is one, or the number
-//! of a recipe's columns, then the input slices and the output slices in the order in which
-//! `entry.rs` lists them, then the counts. A library may lack entries.
+//! and the mock each give one of these. A function takes the code, if there is one, or the station
+//! and the number of columns of a recipe, then the input slices and the output slices in the order
+//! in which `entry.rs` lists them, then the counts. A library may lack entries.
 
 use crate::entry::Entry;
 
 /// An entry of so many input and output slices.
 type Plain<const I: usize, const O: usize> = fn([&[u8]; I], [&mut [u8]; O], &mut [u8]) -> u32;
 type Coded<const I: usize, const O: usize> = fn(u32, [&[u8]; I], [&mut [u8]; O], &mut [u8]) -> u32;
+type OfStation<const I: usize, const O: usize> =
+    fn(u32, u32, [&[u8]; I], [&mut [u8]; O], &mut [u8]) -> u32;
 
 #[derive(Clone, Copy)]
 pub struct Library {
@@ -17,7 +19,7 @@ pub struct Library {
     pub lists: Option<Coded<8, 4>>,
     pub list_with: Option<Coded<10, 4>>,
     pub list_repeat: Option<Plain<6, 6>>,
-    pub recipe: Option<Coded<11, 13>>,
+    pub recipe: Option<OfStation<11, 13>>,
 }
 
 fn inputs<'a, const N: usize>(slices: &[&'a [u8]]) -> [&'a [u8]; N] {
@@ -54,7 +56,7 @@ impl Library {
             Entry::Lists(_) => self.lists.is_some(),
             Entry::ListWith(_) => self.list_with.is_some(),
             Entry::ListRepeat => self.list_repeat.is_some(),
-            Entry::Recipe(_) => self.recipe.is_some(),
+            Entry::Recipe { .. } => self.recipe.is_some(),
         }
     }
 
@@ -65,7 +67,7 @@ impl Library {
 
     /// Names the operations that the library has no entry for, if there are any, or recipes.
     pub fn print_absent(&self) {
-        let entries = Entry::all().chain([Entry::Recipe(0)]);
+        let entries = Entry::all().chain([Entry::RECIPE]);
         let absent = entries.filter(|entry| !self.has(*entry)).map(Entry::name);
         let absent: Vec<&str> = absent.collect();
         if !absent.is_empty() {
@@ -90,8 +92,8 @@ impl Library {
                 present(self.list_with)(code, inputs(lent), outputs(results), counts)
             }
             Entry::ListRepeat => present(self.list_repeat)(inputs(lent), outputs(results), counts),
-            Entry::Recipe(columns) => {
-                present(self.recipe)(columns, inputs(lent), outputs(results), counts)
+            Entry::Recipe { station, columns } => {
+                present(self.recipe)(station, columns, inputs(lent), outputs(results), counts)
             }
         }
     }

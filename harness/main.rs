@@ -24,7 +24,7 @@
 //!
 //! Pairs of layouts that show the same rows are in pairs.rs, for operations and for recipes; columns
 //! with no offsets are in no_offsets.rs; strided slices, whose places are counted by stepping, are
-//! in strides.rs.
+//! in strides.rs; the stations of a tally are in stations.rs.
 
 mod bench;
 mod compare;
@@ -54,6 +54,7 @@ mod recipe_generate;
 mod recipe_groups;
 mod recipe_lengths;
 mod rng;
+mod stations;
 mod strides;
 mod worked;
 

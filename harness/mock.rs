@@ -927,6 +927,7 @@ impl<'a> Output<'a> {
         match (defect(), number) {
             ("refusal-writes-counts", 1..=9) => put(self.counts, 0, &[0; 8]),
             ("refusal-clears-outputs", 1..=9) => self.values.fill(0),
+            ("recipe-15-clears-the-output", 15) => self.values.fill(0),
             ("9-writes-offsets", 9) => {
                 put(self.offsets, 0, &[0; 4]);
                 put(self.values, 0, &[0; 8]);

@@ -9,16 +9,30 @@ use crate::plain;
 type Copied = [Vec<u8>; 4];
 
 pub fn recipe(
+    station: u32,
     columns: u32,
     inputs: [&[u8]; 11],
     mut outputs: [&mut [u8]; 13],
     counts: &mut [u8],
 ) -> u32 {
     if defect().is_empty() {
-        return plain::recipe(columns, inputs, outputs, counts);
+        return plain::recipe(station, columns, inputs, outputs, counts);
     }
-    let own = own_answer(&inputs, &outputs, counts.len());
-    let run = Run::new(columns, &inputs);
+    let station = match defect() {
+        "recipe-station-cut-to-four-bits" => station % 16,
+        "recipe-station-cut-to-a-byte" => station % 256,
+        _ => station,
+    };
+    let most = match defect() {
+        "recipe-station-15-refused" => 14,
+        "recipe-station-16-accepted" => 16,
+        _ => 15,
+    };
+    let mut own = own_answer(&inputs, &outputs, counts.len());
+    if station > most && is("recipe-15-before-own-answers") {
+        own = Some(15);
+    }
+    let run = Run { no_station: station > most, ..Run::new(columns, &inputs) };
     let (trays, results) = outputs.split_at_mut(8);
     let (output, tally) = results.split_at_mut(4);
     let mut written = [false; 2];
@@ -31,7 +45,7 @@ pub fn recipe(
     }
     clear(trays, number, own.is_some(), written, run.list[0].len() / 4);
     if own.is_none() || is("recipe-tally-counts-own-answers") {
-        count(tally[0], number);
+        count(tally[0], station, number);
     }
     number
 }
@@ -50,7 +64,7 @@ fn own_answer(inputs: &[&[u8]], outputs: &[&mut [u8]], counts: usize) -> Option<
     let ragged = lent.iter().any(is_ragged) && !is("ragged-accepted")
         || results.iter().any(is_ragged) && !is("ragged-output-accepted")
         || counts < 32 && !is("short-counts-accepted")
-        || outputs[12].len() < 16 && !is("recipe-short-tally-accepted");
+        || outputs[12].len() < 256 && !is("recipe-short-tally-accepted");
     if inputs[0].len() % 4 != 0 && is("recipe-ragged-numbers-give-10") {
         return Some(10);
     }
@@ -78,6 +92,7 @@ fn clear(trays: &mut [&mut [u8]], number: u32, own: bool, written: [bool; 2], of
             "recipe-trays-not-zeroed" => true,
             "recipe-trays-not-zeroed-after-refusal" => number != 0 && !own,
             "recipe-trays-not-zeroed-after-10" => number == 10,
+            "recipe-trays-not-zeroed-after-15" => number == 15,
             "recipe-trays-not-zeroed-after-own-answers" => own,
             "recipe-unwritten-trays-not-zeroed" => !written[at / 4],
             "recipe-tray-two-not-zeroed" => at >= 4,
@@ -97,8 +112,10 @@ fn clear(trays: &mut [&mut [u8]], number: u32, own: bool, written: [bool; 2], of
     }
 }
 
-fn count(tally: &mut [u8], number: u32) {
-    if tally.len() < 16 || number == 10 && is("recipe-10-not-in-tally") {
+fn count(tally: &mut [u8], station: u32, number: u32) {
+    let left_out = number == 10 && is("recipe-10-not-in-tally")
+        || number == 15 && !is("recipe-15-counted") && !is("recipe-15-counted-for-the-last");
+    if tally.len() < 256 || left_out {
         return;
     }
     let mut finished = number == 0;
@@ -108,19 +125,38 @@ fn count(tally: &mut [u8], number: u32) {
         "recipe-9-counted-as-finished" => finished = finished || number == 9,
         _ => (),
     }
-    add_one(&mut tally[if finished { 0..8 } else { 8..16 }]);
+    let station = match defect() {
+        "recipe-neighbour-counted" => (station as usize + 1) % 16,
+        "recipe-station-0-counted-for-all" => 0,
+        "recipe-stations-from-the-last" => 15 - station.min(15) as usize,
+        "recipe-15-counted-for-the-last" => station.min(15) as usize,
+        "recipe-station-16-accepted" => station as usize,
+        _ => station as usize % 16,
+    };
+    let slot = |finished: bool| match defect() {
+        "recipe-tally-station-by-station" => 2 * station + usize::from(!finished),
+        _ => station + if finished { 0 } else { 16 },
+    };
+    add_one(tally, slot(finished));
     if !finished && is("recipe-refused-counted-in-both") {
-        add_one(&mut tally[..8]);
+        add_one(tally, slot(true));
+    }
+    if is("recipe-all-stations-counted") {
+        let first = if finished { 0 } else { 16 };
+        (first..first + 16).filter(|at| *at != slot(finished)).for_each(|at| add_one(tally, at));
     }
     if is("recipe-tally-tail-cleared") {
-        tally[16..].fill(0);
+        tally[256..].fill(0);
     }
 }
 
-fn add_one(bytes: &mut [u8]) {
-    let mut eight = [0; 8];
-    eight.copy_from_slice(bytes);
-    let count = u64::from_le_bytes(eight);
+fn add_one(tally: &mut [u8], slot: usize) {
+    let (before, behind) = tally.split_at_mut((8 * (slot + 1)).min(256));
+    let Some(bytes) = before.last_chunk_mut::<8>() else { return };
+    let count = u64::from_le_bytes(*bytes);
+    if count == u64::MAX && is("recipe-tally-carries-to-the-neighbour") && slot < 31 {
+        return add_one(behind, 0);
+    }
     let count = match defect() {
         "recipe-tally-wraps" => count.wrapping_add(1),
         "recipe-tally-stops-at-2-to-the-63" => count.max((count + 1 + count / 2).min(1 << 63) - 1),
@@ -134,6 +170,7 @@ fn add_one(bytes: &mut [u8]) {
 // Steps.
 
 struct Run<'a> {
+    no_station: bool,
     columns: u32,
     numbers: Vec<u32>,
     list: [&'a [u8]; 4],
@@ -148,6 +185,7 @@ impl<'a> Run<'a> {
             _ => number as u32,
         };
         Run {
+            no_station: false,
             columns,
             numbers: numbers(inputs[0], 4).into_iter().map(number).collect(),
             list: [inputs[1], inputs[2], inputs[3], inputs[4]],
@@ -217,7 +255,7 @@ impl<'a> Run<'a> {
         self.steps().iter().any(|step| matches!(step[0], UNION | INTERSECT))
     }
 
-    /// 10, then 1, 2, 3, or in a wrong order.
+    /// 15, then 10, then 1, 2, 3, or in a wrong order.
     fn check(&self) -> Result<(), u32> {
         let lists = [Column::new(0, &self.list), Column::new(1, &self.second)];
         let ignored = is("recipe-second-list-not-tested")
@@ -244,18 +282,21 @@ impl<'a> Run<'a> {
             _ => lent != wanted,
         };
         let conditions = [
+            (15, self.no_station),
             (10, self.is_malformed()),
             (1, lists.iter().any(Column::bad_offsets)),
             (2, lists.iter().any(Column::short_bitmap) || short_arguments),
             (3, unequal_lists || unequal_arguments),
         ];
         let order = match defect() {
-            "recipe-1-before-10" => [1, 0, 2, 3],
-            "recipe-10-after-3" => [1, 2, 3, 0],
-            "recipe-3-before-10" => [3, 0, 1, 2],
-            "2-before-1" => [0, 2, 1, 3],
-            "3-before-2" => [0, 1, 3, 2],
-            _ => [0, 1, 2, 3],
+            "recipe-15-after-10" => [1, 0, 2, 3, 4],
+            "recipe-15-after-3" => [1, 2, 3, 4, 0],
+            "recipe-1-before-10" => [0, 2, 1, 3, 4],
+            "recipe-10-after-3" => [0, 2, 3, 4, 1],
+            "recipe-3-before-10" => [0, 4, 1, 2, 3],
+            "2-before-1" => [0, 1, 3, 2, 4],
+            "3-before-2" => [0, 1, 2, 4, 3],
+            _ => [0, 1, 2, 3, 4],
         };
         let first = order.into_iter().map(|at| conditions[at]).find(|(_, holds)| *holds);
         first.map_or(Ok(()), |(number, _)| Err(number))

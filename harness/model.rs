@@ -14,7 +14,7 @@ pub type Element = Option<i64>;
 /// The elements of a row, or None for a null row.
 pub type Row = Option<Vec<Element>>;
 
-/// The number of a refusal, 1 to 10.
+/// The number of a refusal.
 pub type Refusal = u32;
 
 #[derive(Clone, Copy, PartialEq, Eq, Debug)]
@@ -712,10 +712,12 @@ pub const MOST_STEPS: usize = 32;
 
 pub const MOST_COLUMNS: u32 = 8;
 
-/// A recipe as it is lent: the numbers of its steps, how many argument columns there are, its two
-/// lists, and the one slice in which all its argument columns lie.
+/// A recipe as it is lent: the station that it is run for, the numbers of its steps, how many
+/// argument columns there are, its two lists, and the one slice in which all its argument columns
+/// lie.
 #[derive(Clone, Copy)]
 pub struct Recipe<'a> {
+    pub station: u32,
     pub numbers: &'a [u32],
     pub columns: u32,
     pub lists: &'a [ListColumn],
@@ -860,9 +862,11 @@ pub fn carry(
     Ok(carried)
 }
 
-/// The refusal of a recipe before its steps: 10 before all else, then 1, 2, 3.
+/// The refusal of a recipe before its steps: 15 for a station over 15, then 10, then 1, 2, 3.
 pub fn refusal_before_steps(recipe: &Recipe) -> Option<Refusal> {
-    if malformed(recipe.numbers, recipe.columns).is_empty() {
+    if recipe.station > 15 {
+        Some(15)
+    } else if malformed(recipe.numbers, recipe.columns).is_empty() {
         recipe_column_refusal(recipe)
     } else {
         Some(10)
@@ -881,14 +885,19 @@ pub fn recipe_outcome(recipe: &Recipe, room: [&[u64]; 3]) -> Result<ResultForm, 
     carry(&recipe_shown(recipe), fits).map(|rows| list_form(&rows))
 }
 
-/// An accepted call adds 1 to the first count, a refused one to the second, unless that count
-/// stands at its largest value.
-pub fn tally_after(tally: [u64; 2], accepted: bool) -> [u64; 2] {
-    let [finished, refused] = tally;
-    let one_more = |count: u64| if count == u64::MAX { count } else { count + 1 };
-    if accepted {
-        [one_more(finished), refused]
-    } else {
-        [finished, one_more(refused)]
+/// The stations that a recipe may be run for.
+pub const STATIONS: usize = 16;
+
+/// Recipes finished for each station in order, then recipes refused for each.
+pub type Tally = [u64; 2 * STATIONS];
+
+/// An accepted call adds 1 to the finished recipes of its station, a refused one to the refused,
+/// unless that count stands at its largest value.
+pub fn tally_after(tally: Tally, station: u32, accepted: bool) -> Tally {
+    let of_station = if accepted { station as usize } else { STATIONS + station as usize };
+    let mut after = tally;
+    if after[of_station] < u64::MAX {
+        after[of_station] += 1;
     }
+    after
 }

@@ -6,7 +6,7 @@ use crate::compare::Checker;
 use crate::entry::{Case, Content, Entry, Input};
 use crate::generate::{input_of, lend, random_element, random_layouts, Column, Room};
 use crate::model::{self, ListColumn, Role, Shown};
-use crate::recipe_generate::{code_of, RecipeCall};
+use crate::recipe_generate::{code_of, random_station, RecipeCall};
 use crate::rng::Rng;
 
 /// Values lent beside no offsets, and the bytes of their bitmap; nine values take two bytes.
@@ -49,8 +49,8 @@ fn recipe_without_rows(entry: Entry, steps: usize, rng: &mut Rng) -> Input {
     };
     let numbers = (0..steps).flat_map(step).collect();
     let lists = [Vec::new(), Vec::new()];
-    let columns = columns as u32;
-    let call = RecipeCall { numbers, columns, lists, arguments: Vec::new() };
+    let (station, columns) = (random_station(rng), columns as u32);
+    let call = RecipeCall { station, numbers, columns, lists, arguments: Vec::new() };
     call.laid_out(&random_layouts(entry, rng), rng)
 }
 
@@ -132,7 +132,7 @@ fn wanted(none: &Input, case: &Case) -> u32 {
     let no_slot = match none.entry {
         Entry::AnyValue | Entry::Element => false,
         Entry::ListRepeat => offsets(0) || offsets(2),
-        Entry::Recipe(_) => {
+        Entry::Recipe { .. } => {
             let steps = none.numbers.len() / 4;
             steps > 1 && offsets(0) || steps > 2 && offsets(4) || offsets(8)
         }

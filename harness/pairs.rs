@@ -24,6 +24,8 @@ enum Wanted {
     Short(usize, Option<usize>),
     /// 10, malformed in this one way, and with the condition of 3 or without it.
     Malformed(usize, bool),
+    /// 15, with the condition of 10 or without it.
+    NoStation(bool),
 }
 
 /// The first step, a later even and a later odd one, and the last: the steps before it and behind.
@@ -51,6 +53,7 @@ impl Wanted {
             all.extend(VALUES_AT.map(|(slice, step)| Wanted::Short(slice, Some(step))));
             let ways = 0..WAYS.len();
             all.extend(ways.flat_map(|way| [false, true].map(|both| Wanted::Malformed(way, both))));
+            all.extend([false, true].map(Wanted::NoStation));
         }
         all
     }
@@ -63,6 +66,7 @@ impl Wanted {
             Wanted::Refused(number, _) => Some(number),
             Wanted::Short(..) => Some(9),
             Wanted::Malformed(..) => Some(10),
+            Wanted::NoStation(_) => Some(15),
         }
     }
 
@@ -71,7 +75,7 @@ impl Wanted {
             Wanted::Any => rng.pick(&[Room::Exact, Room::Longer(3), Room::Any]),
             Wanted::Accepted | Wanted::Refused(..) => rng.pick(&[Room::Exact, Room::Longer(3)]),
             Wanted::Short(slice, _) => Room::Short(slice, rng.pick(&[0, 2])),
-            Wanted::Unequal(_) | Wanted::Malformed(..) => Room::Any,
+            Wanted::Unequal(_) | Wanted::Malformed(..) | Wanted::NoStation(_) => Room::Any,
         }
     }
 }
@@ -156,7 +160,9 @@ fn operation_shown(entry: Entry, wanted: Wanted, rng: &mut Rng) -> Shown {
             shown
         }
         Wanted::Accepted => random_shown(entry, shape, rng),
-        Wanted::Malformed(..) => unreachable!("an operation has no recipe"),
+        Wanted::Malformed(..) | Wanted::NoStation(_) => {
+            unreachable!("an operation has no recipe")
+        }
     }
 }
 
@@ -203,17 +209,24 @@ fn make_unequal(entry: Entry, shown: &mut Shown, column: Column, rng: &mut Rng) 
 fn recipe_call(wanted: Wanted, rng: &mut Rng) -> RecipeCall {
     let shape = shape_with_rows(rng);
     match wanted {
-        Wanted::Any if rng.chance(1, 400) => RecipeCall::new(&random_recipe(large_shape(rng), rng)),
-        Wanted::Any => RecipeCall::new(&random_recipe(shape, rng)),
-        Wanted::Accepted => RecipeCall::new(&accepted_recipe(shape, random_steps(rng), rng)),
+        Wanted::Any if rng.chance(1, 400) => {
+            RecipeCall::new(&random_recipe(large_shape(rng), rng), rng)
+        }
+        Wanted::Any => RecipeCall::new(&random_recipe(shape, rng), rng),
+        Wanted::Accepted => RecipeCall::new(&accepted_recipe(shape, random_steps(rng), rng), rng),
         Wanted::Refused(number, steps) => refused_call(number, steps, rng),
         Wanted::Short(slice, step) => filling_call(slice, step, rng),
         Wanted::Unequal(column) => {
-            let mut call = RecipeCall::new(&random_recipe(shape, rng));
+            let mut call = RecipeCall::new(&random_recipe(shape, rng), rng);
             make_call_unequal(&mut call, column, rng);
             call
         }
         Wanted::Malformed(way, both) => malformed_call(way, both, rng),
+        Wanted::NoStation(malformed) => {
+            let mut call = RecipeCall::new(&random_recipe(shape, rng), rng);
+            call.numbers.extend(malformed.then_some(0));
+            RecipeCall { station: no_station(rng), ..call }
+        }
     }
 }
 
@@ -222,7 +235,7 @@ fn refused_call(number: u32, [before, behind]: [usize; 2], rng: &mut Rng) -> Rec
     loop {
         let shape = RowShape { longest: 4, ..shape_with_rows(rng) };
         if let Some(shown) = refused_recipe(shape, before, number, behind, rng) {
-            return RecipeCall::new(&shown);
+            return RecipeCall::new(&shown, rng);
         }
     }
 }
@@ -240,7 +253,7 @@ fn filling_call(slice: usize, step: Option<usize>, rng: &mut Rng) -> RecipeCall 
         let shown = accepted_recipe(shape_with_rows(rng), steps, rng);
         let (slots, first) = most_slots(&shown, slice);
         if slots > 0 && step.is_none_or(|step| step == first) {
-            return RecipeCall::new(&shown);
+            return RecipeCall::new(&shown, rng);
         }
     }
 }
@@ -284,7 +297,7 @@ fn malformed_call(way: usize, both: bool, rng: &mut Rng) -> RecipeCall {
     loop {
         let count = if both { rng.below(10) } else { 7 + rng.below(20) };
         let shape = RowShape { count, ..shape_with_rows(rng) };
-        let mut call = RecipeCall::new(&random_recipe(shape, rng));
+        let mut call = RecipeCall::new(&random_recipe(shape, rng), rng);
         let mut input = call.laid_out(&[Layout::default()], rng);
         WAYS[way](&mut input, rng);
         (call.columns, call.numbers) = (columns_of(&input), input.numbers);

@@ -1159,19 +1159,22 @@ pub fn check_recipe(
         offsets_of(outputs[8]),
         values_of(outputs[10]),
     ];
-    if outputs[12].len() < 16 {
+    if outputs[12].len() < 256 {
         return Err(100);
     }
     check_sizes(&numbers, counts, 32)
 }
 
-fn add_to_tally(tally: &mut [u8], finished: bool) {
-    let count = &mut tally.as_chunks_mut::<8>().0[usize::from(!finished)];
+/// Sixteen counts finished, then sixteen refused.
+fn add_to_tally(tally: &mut [u8], station: u32, finished: bool) {
+    let at = station as usize + if finished { 0 } else { 16 };
+    let count = &mut tally.as_chunks_mut::<8>().0[at];
     *count = u64::from_le_bytes(*count).saturating_add(1).to_le_bytes();
 }
 
 /// A recipe as its entry answers it, given what runs it on the trays and the output.
 pub fn recipe_by(
+    station: u32,
     inputs: [&[u8]; 11],
     mut outputs: [&mut [u8]; 13],
     counts: &mut [u8],
@@ -1180,8 +1183,11 @@ pub fn recipe_by(
     let checked = check_recipe(&inputs, &outputs, counts);
     let [written @ .., tally] = &mut outputs;
     let result = checked.and_then(|()| {
+        if station > 15 {
+            return Err(15);
+        }
         let result = run(inputs, written.each_mut().map(|slice| &mut **slice));
-        add_to_tally(tally, result.is_ok());
+        add_to_tally(tally, station, result.is_ok());
         result
     });
     outputs[..8].iter_mut().for_each(|slice| slice.fill(0));
@@ -1189,12 +1195,13 @@ pub fn recipe_by(
 }
 
 pub fn recipe(
+    station: u32,
     columns: u32,
     inputs: [&[u8]; 11],
     outputs: [&mut [u8]; 13],
     counts: &mut [u8],
 ) -> u32 {
-    recipe_by(inputs, outputs, counts, |inputs, outputs| {
+    recipe_by(station, inputs, outputs, counts, |inputs, outputs| {
         let [numbers, l0, l1, l2, l3, s0, s1, s2, s3, arguments, argument_bits] = inputs;
         let [o0, o1, o2, o3, t0, t1, t2, t3, r0, r1, r2, r3] = outputs;
         let lent = RecipeColumns {

@@ -10,9 +10,9 @@ pub use crate::mock::LIBRARY;
 #[cfg(not(mock))]
 use crate::library::Library;
 
-/// The safe function of an entry: the code, if it takes one, or the number of columns, then the
-/// names of its input slices, then those of its output slices; the counts come last, and only the
-/// tally behind them.
+/// The safe function of an entry: the code, if it takes one, or the station and the number of
+/// columns, then the names of its input slices, then those of its output slices; the counts come
+/// last, and only the tally behind them.
 #[cfg(not(mock))]
 macro_rules! entry {
     (list) => {
@@ -46,7 +46,7 @@ macro_rules! entry {
             [out_offsets out_rows inner_offsets inner_rows out_values out_elements] }
     };
     (recipe) => {
-        entry! { recipe = duthlan_recipe (columns)
+        entry! { recipe = duthlan_recipe (station columns)
             [numbers offsets rows values elements
              second_offsets second_rows second_values second_elements arguments argument_bits]
             [one_offsets one_rows one_values one_elements
@@ -54,10 +54,10 @@ macro_rules! entry {
              out_offsets out_rows out_values out_elements]
             tally }
     };
-    ($name:ident = $symbol:ident ($($code:ident)?)
+    ($name:ident = $symbol:ident ($($code:ident)*)
         [$($input:ident)+] [$($output:ident)+] $($tally:ident)?) => {
         fn $name(
-            $($code: u32,)?
+            $($code: u32,)*
             [$($input),+]: [&[u8]; [$(stringify!($input)),+].len()],
             [$($output,)+ $($tally)?]: [
                 &mut [u8];
@@ -67,7 +67,7 @@ macro_rules! entry {
         ) -> u32 {
             extern "C" {
                 fn $symbol(
-                    $($code: u32,)?
+                    $($code: u32,)*
                     $($input: *const u8, _: usize,)+
                     $($output: *mut u8, _: usize,)+
                     counts: *mut u8, _: usize,
@@ -78,7 +78,7 @@ macro_rules! entry {
             // another.
             unsafe {
                 $symbol(
-                    $($code,)?
+                    $($code,)*
                     $($input.as_ptr(), $input.len(),)+
                     $($output.as_mut_ptr(), $output.len(),)+
                     counts.as_mut_ptr(), counts.len(),

@@ -5,7 +5,7 @@ use crate::coverage::{argument_layouts, list_layouts, row_count, slices_at_size}
 use crate::coverage::{shared_3, shared_9, ARGUMENT_LAYOUTS, LIST_LAYOUTS, ROW_COUNTS, SHARED};
 use crate::entry::{Case, Entry, Expected, Input, RECIPE_RESULT, TALLY, TALLY_BYTES, TRAYS};
 use crate::generate::{Column, Harm};
-use crate::model::{self, Malformed, Place, RecipeRefusal, RecipeShown, CODES};
+use crate::model::{self, Malformed, Place, RecipeRefusal, RecipeShown, CODES, STATIONS};
 
 /// A kind and a subject.
 type Met = (&'static str, String);
@@ -56,6 +56,10 @@ pub fn met(case: &Case, expected: &Expected) -> Vec<Met> {
         return met;
     }
     slices_at_size(case).into_iter().for_each(|name| add("at size", name.to_string()));
+    add("station", station_met(case.entry.recipe().0, number));
+    if number == 15 {
+        return met;
+    }
     tally_met(case, number == 0).into_iter().for_each(|name| add("tally", name.to_string()));
     let input = case.decode();
     match number {
@@ -92,7 +96,7 @@ fn shared_10(way: &str) -> String {
 
 // Tallies.
 
-const TALLIES: [&str; 8] = [
+const TALLIES: [&str; 10] = [
     "finished at its largest, accepted",
     "finished one below its largest, accepted",
     "finished 0, accepted",
@@ -100,12 +104,18 @@ const TALLIES: [&str; 8] = [
     "refused one below its largest, refused",
     "refused 0, refused",
     "both at their largest",
-    "longer than two counts",
+    "another station's finished at their largest, accepted",
+    "another station's refused at their largest, refused",
+    "longer than its counts",
 ];
 
 fn tally_met(case: &Case, accepted: bool) -> Vec<&'static str> {
-    let [finished, refused] = case.tally();
+    let (tally, station) = (case.tally(), case.entry.recipe().0 as usize);
+    let (finished, refused) = (tally[station], tally[STATIONS + station]);
     let largest = u64::MAX;
+    let at_largest = |counts: &[u64]| {
+        counts.iter().enumerate().any(|(other, count)| other != station && *count == largest)
+    };
     let holds = [
         accepted && finished == largest,
         accepted && finished == largest - 1,
@@ -114,9 +124,34 @@ fn tally_met(case: &Case, accepted: bool) -> Vec<&'static str> {
         !accepted && refused == largest - 1,
         !accepted && refused == 0,
         finished == largest && refused == largest,
+        accepted && finished < largest && at_largest(&tally[..STATIONS]),
+        !accepted && refused < largest && at_largest(&tally[STATIONS..]),
         case.outputs[TALLY].len() > TALLY_BYTES,
     ];
     TALLIES.into_iter().zip(holds).filter(|(_, holds)| *holds).map(|(name, _)| name).collect()
+}
+
+// Stations.
+
+/// Stations that there are not, which must be named.
+const NO_STATIONS: [u32; 4] = [16, 17, 256, u32::MAX];
+
+fn station_met(station: u32, number: u32) -> String {
+    let outcome = match number {
+        0 => "finished",
+        15 if !NO_STATIONS.contains(&station) => return "another over 15: 15".to_string(),
+        15 => "15",
+        _ => "refused",
+    };
+    format!("{station}: {outcome}")
+}
+
+fn demanded_stations() -> Vec<Met> {
+    let mut all: Vec<String> = NO_STATIONS.iter().map(|none| station_met(*none, 15)).collect();
+    for station in 0..STATIONS as u32 {
+        all.extend([0, 10].map(|number| station_met(station, number)));
+    }
+    all.into_iter().map(|subject| ("station", subject)).collect()
 }
 
 // Malformed recipes.
@@ -342,16 +377,17 @@ fn lent_as(steps: &str, slice: &str, name: &str) -> Met {
 
 /// The answers that a recipe can be given. Its unions cannot exceed 2147483647 elements here, but
 /// the counts of its resizes can.
-const ANSWERS: [u32; 13] = [0, 1, 2, 3, 4, 5, 6, 7, 8, 9, 10, 100, 101];
+const ANSWERS: [u32; 14] = [0, 1, 2, 3, 4, 5, 6, 7, 8, 9, 10, 15, 100, 101];
 
 /// The order in which they come where several conditions hold; 4 to 8 are those of one step.
 fn demanded_orders(entry: Entry) -> Vec<String> {
     let rank = |number: u32| match number {
         100 | 101 => number - 100,
-        10 => 2,
-        1..=3 => 2 + number,
-        9 => 7,
-        _ => 6,
+        15 => 2,
+        10 => 3,
+        1..=3 => 3 + number,
+        9 => 8,
+        _ => 7,
     };
     let mut orders = Vec::new();
     for first in &ANSWERS[1..] {
@@ -440,9 +476,12 @@ fn demanded_lent(entry: Entry) -> Vec<Met> {
 }
 
 /// The answers that pairs of layouts must share: all but 1, 2 and the entry's own.
+fn shared_answers() -> Vec<u32> {
+    ANSWERS.into_iter().filter(|number| matches!(number, 0 | 3..=10 | 15)).collect()
+}
+
 fn demanded_shared(entry: Entry) -> Vec<Met> {
-    let numbers = ANSWERS.into_iter().filter(|number| matches!(number, 0 | 3..=10));
-    let mut all: Vec<String> = numbers.map(|number| number.to_string()).collect();
+    let mut all: Vec<String> = shared_answers().iter().map(u32::to_string).collect();
     all.extend([Column::List(1), Column::Argument(0)].map(|column| shared_3(column, entry)));
     all.extend(entry.outputs()[..TALLY].iter().map(|kind| shared_9(kind.name)));
     for (kind, subject) in demanded_refusals() {
@@ -459,13 +498,14 @@ fn demanded_shared(entry: Entry) -> Vec<Met> {
 
 /// Everything that a whole run must reach for recipes.
 pub fn demanded() -> Vec<Met> {
-    let entry = Entry::Recipe(0);
+    let entry = Entry::RECIPE;
     let mut all: Vec<Met> = Vec::new();
     for number in ANSWERS {
         all.push(("answer", number.to_string()));
         all.push(("trays dirty before", number.to_string()));
     }
     all.extend(TALLIES.map(|name| ("tally", name.to_string())));
+    all.extend(demanded_stations());
     all.extend(COLUMN_USES.map(|name| ("columns", name.to_string())));
     all.extend(ROW_COUNTS.map(|(_, name)| ("rows", name.to_string())));
     for column in ["list", "second list"] {

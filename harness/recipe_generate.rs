@@ -4,7 +4,8 @@
 use crate::entry::{Case, Entry, Input, MOST_VALUES, TALLY, TALLY_BYTES};
 use crate::generate::{full_columns, lay_out, lay_out_argument, random_element, random_lists};
 use crate::generate::{refuse_row, room_for, shuffle, Layout, Room, RowShape, MOST_BITMAP_BYTES};
-use crate::model::{self, Element, Made, Operation, RecipeShown, Row, Shown, CODES};
+use crate::model::{self, Element, Made, Operation, RecipeShown, Row, Shown, Tally};
+use crate::model::{CODES, STATIONS};
 use crate::rng::Rng;
 
 // Steps.
@@ -253,10 +254,22 @@ pub fn random_recipe(shape: RowShape, rng: &mut Rng) -> RecipeShown {
 
 // Calls.
 
-/// What the call of a recipe shows, malformed or not, of equal row counts or not: its numbers, how
-/// many argument columns it has, what both lists show, and the values in the one slice of its
-/// argument columns.
+pub fn random_station(rng: &mut Rng) -> u32 {
+    rng.below(STATIONS) as u32
+}
+
+/// A station that there is not: the next ones, or such as a part of whose bits names one.
+pub fn no_station(rng: &mut Rng) -> u32 {
+    let part = 1 << (4 + rng.below(28));
+    let far = part | random_station(rng);
+    rng.pick(&[16, 16, 17, far, u32::MAX])
+}
+
+/// What the call of a recipe shows, malformed or not, of equal row counts or not: its station, its
+/// numbers, how many argument columns it has, what both lists show, and the values in the one slice
+/// of its argument columns.
 pub struct RecipeCall {
+    pub station: u32,
     pub numbers: Vec<u32>,
     pub columns: u32,
     pub lists: [Vec<Row>; 2],
@@ -264,8 +277,10 @@ pub struct RecipeCall {
 }
 
 impl RecipeCall {
-    pub fn new(shown: &RecipeShown) -> RecipeCall {
+    /// The call for some station.
+    pub fn new(shown: &RecipeShown, rng: &mut Rng) -> RecipeCall {
         RecipeCall {
+            station: random_station(rng),
             numbers: shown.steps.concat(),
             columns: shown.columns.len() as u32,
             lists: shown.lists.clone(),
@@ -284,7 +299,7 @@ impl RecipeCall {
         let mut next = || turns.next().expect("at least one layout");
         let lists = self.lists.iter().map(|rows| lay_out(rows, next(), rng)).collect();
         Input {
-            entry: Entry::Recipe(self.columns),
+            entry: Entry::Recipe { station: self.station, columns: self.columns },
             numbers: self.numbers.clone(),
             lists,
             arguments: vec![lay_out_argument(&self.arguments, next(), rng)],
@@ -294,7 +309,7 @@ impl RecipeCall {
 
 /// The columns of a recipe's call; the layouts are used in turn.
 pub fn recipe_input(shown: &RecipeShown, layouts: &[Layout], rng: &mut Rng) -> Input {
-    RecipeCall::new(shown).laid_out(layouts, rng)
+    RecipeCall::new(shown, rng).laid_out(layouts, rng)
 }
 
 /// The slots that the steps take in tray one, tray two and the output, up to one that is refused;
@@ -322,7 +337,7 @@ pub fn recipe_slots(input: &Input) -> Vec<usize> {
 }
 
 /// Counts at, near and far from the places where one more carries, or cannot be.
-fn random_count(rng: &mut Rng) -> u64 {
+pub fn random_count(rng: &mut Rng) -> u64 {
     let carries = [0, 255, 65535, 4294967295, i64::MAX as u64, u64::MAX - 1, u64::MAX, u64::MAX];
     if rng.chance(1, 2) {
         rng.pick(&carries)
@@ -331,12 +346,12 @@ fn random_count(rng: &mut Rng) -> u64 {
     }
 }
 
-pub fn tally_bytes(counts: [u64; 2]) -> Vec<u8> {
-    counts.iter().flat_map(|count| count.to_le_bytes()).collect()
+pub fn tally_bytes(tally: Tally) -> Vec<u8> {
+    tally.iter().flat_map(|count| count.to_le_bytes()).collect()
 }
 
 fn random_tally(rng: &mut Rng) -> Vec<u8> {
-    let mut tally = tally_bytes([random_count(rng), random_count(rng)]);
+    let mut tally = tally_bytes(std::array::from_fn(|_| random_count(rng)));
     let more = rng.pick(&[0, 0, 1, 8, 9]);
     tally.extend(rng.bytes(more));
     assert!(tally.len() >= TALLY_BYTES, "a tally that is long enough");

@@ -13,11 +13,12 @@ use crate::pairs;
 use crate::recipe_generate::*;
 use crate::recipe_lengths;
 use crate::rng::Rng;
+use crate::stations::{self, set_tally, tally_with};
 use crate::strides;
 use crate::worked;
 
 /// Each group with its part of the random calls; those that take long come last.
-pub const ALL: [(&str, Run, u64); 17] = [
+pub const ALL: [(&str, Run, u64); 19] = [
     ("random recipes", random_recipes, 14),
     ("layouts of the same rows", pairs::same_rows, 10),
     ("refused steps", refused_steps, 8),
@@ -26,9 +27,11 @@ pub const ALL: [(&str, Run, u64); 17] = [
     ("order of refusals", order_of_refusals, 6),
     ("tray and output lengths", lengths, 6),
     ("tallies", tallies, 1),
+    ("one tally through many calls", stations::chains, 1),
     ("answers of the entry", entry_answers, 1),
     ("random bytes", random_bytes, 6),
     ("worked cases", worked::recipes, 0),
+    ("every station, exhaustive", stations::every_station, 0),
     ("trays and output of every length, exhaustive", recipe_lengths::every_slice, 0),
     ("strides in a step", strides::every_stride_of_a_step, 0),
     ("no offsets, exhaustive", no_offsets::every_form_of_recipes, 0),
@@ -52,7 +55,7 @@ fn some_shape(rng: &mut Rng) -> RowShape {
 }
 
 pub fn laid_out(shown: &RecipeShown, rng: &mut Rng) -> Input {
-    let layouts = random_layouts(Entry::Recipe(0), rng);
+    let layouts = random_layouts(Entry::RECIPE, rng);
     recipe_input(shown, &layouts, rng)
 }
 
@@ -160,7 +163,7 @@ fn spoil_code(input: &mut Input, rng: &mut Rng) {
 
 fn spoil_column_count(input: &mut Input, rng: &mut Rng) {
     let columns = rng.pick(&[9, 9, 9, 10, 16, 256, 264, 1 << 31, u32::MAX]);
-    input.entry = Entry::Recipe(columns);
+    input.entry = input.entry.with_columns(columns);
 }
 
 /// Lends values for all columns, unless these are too many.
@@ -175,8 +178,7 @@ fn suit_arguments(input: &mut Input) {
 }
 
 pub fn columns_of(input: &Input) -> u32 {
-    let Entry::Recipe(columns) = input.entry else { panic!("the call of a recipe") };
-    columns
+    input.entry.recipe().1
 }
 
 fn spoil_used_number(input: &mut Input, rng: &mut Rng) {
@@ -273,7 +275,7 @@ fn order_of_refusals(checker: &mut Checker, entry: Entry, rng: &mut Rng, calls: 
             continue;
         };
         require_number(checker, &refused.case, 0, "made to be accepted, and yet refused");
-        for number in [9, of_step, 3, 2, 1, 10, 101, 100] {
+        for number in [9, of_step, 3, 2, 1, 10, 15, 101, 100] {
             if !rng.chance(1, 3) && refused.add(number, rng) {
                 check_first(checker, entry, &refused.case, &refused.holding);
             }
@@ -308,11 +310,12 @@ impl Refused {
             }
             9 => shorten_some_slice(&mut self.case, rng),
             10 => rng.pick(&WAYS)(&mut self.input, rng),
+            15 => self.input.entry = self.input.entry.with_station(no_station(rng)),
             100 => drop(make_ragged(&mut self.case, rng)),
             101 => drop(over_size(&mut self.case, rng)),
             _ => self.input = recipe_input(&self.finished.refused, &[self.layout], rng),
         }
-        if number != 9 && number <= 10 {
+        if number != 9 && number <= 15 {
             self.case.inputs = self.input.encode();
             self.case.entry = self.input.entry;
         }
@@ -367,25 +370,7 @@ const COUNTS: [u64; 10] = [
     u64::MAX,
 ];
 
-fn set_tally(case: &mut Case, counts: [u64; 2]) {
-    case.outputs[TALLY][..TALLY_BYTES].copy_from_slice(&tally_bytes(counts));
-}
-
-/// One tally through a hundred calls: it counts them all.
-fn one_tally(checker: &mut Checker, entry: Entry, rng: &mut Rng) {
-    let mut tally = [0, 0];
-    for call in 1..=100 {
-        let input = random_input(entry, shape_with_rows(rng), rng);
-        let mut case = lend_recipe(&input, Room::Any, rng);
-        set_tally(&mut case, tally);
-        let after = checker.check(&case).tally.unwrap_or(tally);
-        checker.require(after[0] + after[1] == call, &case, "a call that was not counted");
-        tally = after;
-    }
-}
-
-fn tallies(checker: &mut Checker, entry: Entry, rng: &mut Rng, calls: u64) {
-    one_tally(checker, entry, rng);
+fn tallies(checker: &mut Checker, _entry: Entry, rng: &mut Rng, calls: u64) {
     while checker.calls < calls.max(300) {
         for finished in COUNTS {
             for refused in COUNTS {
@@ -397,7 +382,8 @@ fn tallies(checker: &mut Checker, entry: Entry, rng: &mut Rng, calls: u64) {
                 }
                 let room = rng.pick(&[Room::Exact, Room::Short(8, 0)]);
                 let mut case = lend_recipe(&input, room, rng);
-                set_tally(&mut case, [finished, refused]);
+                let station = input.entry.recipe().0;
+                set_tally(&mut case, tally_with(station, [finished, refused], rng));
                 checker.check(&case);
             }
         }
@@ -494,7 +480,8 @@ fn random_bytes(checker: &mut Checker, _entry: Entry, rng: &mut Rng, calls: u64)
 
 fn random_case(rng: &mut Rng) -> Case {
     let (rows, columns) = (rng.below(4), rng.pick(&[0, 2, 4, 4, 4, 8, 9]));
-    let entry = Entry::Recipe(columns);
+    let station = if rng.chance(1, 16) { no_station(rng) } else { random_station(rng) };
+    let entry = Entry::Recipe { station, columns };
     let arguments = rows * columns as usize;
     let slice = |(at, kind)| random_slice(kind, if at == 9 { arguments } else { rows }, rng);
     let inputs = entry.inputs().into_iter().enumerate().map(slice).collect();

@@ -6,10 +6,10 @@
 
 use crate::compare::{Checker, Observed};
 use crate::entry::{encode_i32, encode_i64, Case as LentCase, Entry, Expected, Input};
-use crate::entry::{TALLY, TALLY_BYTES};
 use crate::generate::{lend, Room};
-use crate::model::{ArgumentColumn, ListColumn, Operation, UNDER_NULL};
+use crate::model::{ArgumentColumn, ListColumn, Operation, Tally, UNDER_NULL};
 use crate::rng::Rng;
+use crate::stations::set_tally;
 
 // The notation.
 
@@ -792,7 +792,7 @@ const OF_REFUSED_STEPS: &[RecipeCase] = &[
 fn recipe_from_text((name, steps, lists, columns, wanted): &RecipeCase) -> Worked {
     let columns: Vec<Vec<Item>> = columns.iter().map(|text| parse(text)).collect();
     let items = columns.concat();
-    let entry = Entry::Recipe(columns.len() as u32);
+    let entry = Entry::Recipe { station: 5, columns: columns.len() as u32 };
     Worked {
         name: format!("recipe ({name})"),
         input: Input {
@@ -808,7 +808,7 @@ fn recipe_from_text((name, steps, lists, columns, wanted): &RecipeCase) -> Worke
 /// Recipes that the notation does not give.
 fn laid_out_recipes() -> Vec<Worked> {
     let recipe = |name: &str, columns: u32, numbers: &[u32], lists, arguments, wanted: &str| {
-        let (entry, numbers) = (Entry::Recipe(columns), numbers.to_vec());
+        let (entry, numbers) = (Entry::Recipe { station: 5, columns }, numbers.to_vec());
         Worked {
             name: format!("recipe ({name})"),
             input: Input { entry, numbers, lists, arguments: vec![arguments] },
@@ -861,6 +861,13 @@ fn laid_out_recipes() -> Vec<Worked> {
     ]
 }
 
+/// The bytes of a tally with these counts for station 3, between others.
+fn tally_of_3(finished: i64, refused: i64) -> Vec<u8> {
+    let finished = [10, 11, 12, finished, 14, 15, 16, 17, 18, 19, 20, 21, 22, 23, 24, 25];
+    let refused = [-1, 31, 32, refused, 34, 35, 36, 37, 38, 39, 40, 41, 42, 43, 44, 45];
+    [encode_i64(&finished), encode_i64(&refused)].concat()
+}
+
 /// A recipe as it lies in the slices: union, then resize to 2 with 2, of [1,-], a null row over 8,8
 /// and [4], beside [5], [6] and [4].
 fn recipe_as_bytes(tray_values: usize) -> LentCase {
@@ -868,9 +875,9 @@ fn recipe_as_bytes(tray_values: usize) -> LentCase {
     let tray_one = [dirty(16), dirty(1), dirty(8 * tray_values), dirty(1)];
     let tray_two = [dirty(4), dirty(0), dirty(8), dirty(2)];
     let output = [dirty(20), dirty(1), dirty(40), dirty(1)];
-    let tally = [encode_i64(&[-1, 3]), dirty(1)].concat();
+    let tally = [tally_of_3(-1, 3), dirty(1)].concat();
     LentCase {
-        entry: Entry::Recipe(1),
+        entry: Entry::Recipe { station: 3, columns: 1 },
         inputs: vec![
             encode_i32(&[9, 0, 0, 0, 6, 0, 0, 0]),
             encode_i32(&[1, 3, 5, 6]),
@@ -890,7 +897,7 @@ fn recipe_as_bytes(tray_values: usize) -> LentCase {
 }
 
 /// The union takes four values in tray one: with four slots the recipe goes through, with three it
-/// gets 9. The count of finished recipes stands at its largest value.
+/// gets 9. The count of recipes finished for its station stands at its largest value.
 fn recipes_as_bytes() -> [(LentCase, Expected); 2] {
     let zeros = |lengths: [usize; 8]| lengths.map(|bytes| vec![0; bytes]);
     let result = [
@@ -898,14 +905,14 @@ fn recipes_as_bytes() -> [(LentCase, Expected); 2] {
         vec![0b101],
         encode_i64(&[1, -9223372036854775808, 4, 2]),
         vec![0b1101],
-        encode_i64(&[-1, 3]),
+        tally_of_3(-1, 3),
     ];
     let accepted = Expected {
         number: 0,
         written: [&zeros([16, 1, 32, 1, 4, 0, 8, 2])[..], &result].concat(),
         counts: encode_i64(&[3, 4, 1, 1]),
     };
-    let no_result = [vec![], vec![], vec![], vec![], encode_i64(&[-1, 4])];
+    let no_result = [vec![], vec![], vec![], vec![], tally_of_3(-1, 4)];
     let refused = Expected {
         number: 9,
         written: [&zeros([16, 1, 24, 1, 4, 0, 8, 2])[..], &no_result].concat(),
@@ -914,17 +921,34 @@ fn recipes_as_bytes() -> [(LentCase, Expected); 2] {
     [(recipe_as_bytes(4), accepted), (recipe_as_bytes(3), refused)]
 }
 
-/// Recipes before which 41 were finished and 6 refused.
+/// A tally with these counts for station 5, and others about it.
+fn tally_of_5(finished: u64, refused: u64) -> Tally {
+    std::array::from_fn(|at| match at {
+        5 => finished,
+        21 => refused,
+        4 | 6 | 20 | 22 => u64::MAX,
+        _ => at as u64,
+    })
+}
+
+/// Recipes for station 5, before which 41 were finished for it and 6 refused; once more each for a
+/// station that there is not.
 pub fn recipes(checker: &mut Checker, _entry: Entry, rng: &mut Rng, _calls: u64) {
     let written = OF_STEPS.iter().chain(OF_REFUSED_STEPS).map(recipe_from_text);
     for worked in written.chain(laid_out_recipes()) {
         for room in [Room::Exact, Room::Longer(2)] {
             let mut case = lend(&worked.input, room, rng);
-            case.outputs[TALLY][..TALLY_BYTES].copy_from_slice(&encode_i64(&[41, 6]));
-            let tally = if worked.result.number == 0 { [42, 6] } else { [41, 7] };
+            let before = tally_of_5(41, 6);
+            set_tally(&mut case, before);
+            let accepted = worked.result.number == 0;
+            let tally = if accepted { tally_of_5(42, 6) } else { tally_of_5(41, 7) };
             let wanted = Observed { tally: Some(tally), ..worked.result.clone() };
             let observed = checker.check(&case);
             checker.require(observed == wanted, &case, &worked.name);
+            case.entry = case.entry.with_station(16);
+            let wanted = Observed { tally: Some(before), ..refused(15) };
+            let observed = checker.check(&case);
+            checker.require(observed == wanted, &case, &format!("{}, station 16", worked.name));
         }
     }
     for (case, wanted) in recipes_as_bytes() {

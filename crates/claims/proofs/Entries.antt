@@ -9,19 +9,21 @@ use native.Mathlib.Omega.{arith}
 use contract.Lifetimes.{Lfts}
 use lib.Dec.{ltb}
 use denote.Ref.{now}
-use Rattle.model.specs.Basics.{pick, any, Lent, given}
+use Rattle.model.specs.Basics.{pick, any, Lent, given, All}
 use Rattle.model.specs.Column.{Elem, Row, Column, Arguments}
 use Rattle.model.specs.Form.{Room, ValueRoom, RepeatRoom, Outer}
 use Rattle.model.specs.Limits.{narrow}
 use Rattle.model.specs.Rows.{unary, setOp, onLent}
 use Rattle.model.specs.Outcome.{Outcome, refused, made, listOutcome, anyValueOutcome, elementOutcome, repeatOutcome}
-use Rattle.model.specs.Recipe.{recipeOutcome}
-use Rattle.model.specs.Call.{Call, End, Formed, Alike, list, anyValue, element, listRepeat, recipe, end, listEnd, valueEnd, repeatEnd, recipeEnd, listNumbers, listBitmaps, answerOf, written}
+use Rattle.model.specs.Recipe.{recipeOutcome, stationed}
+use Rattle.model.specs.Tally.{Tally, moved}
+use Rattle.model.specs.Call.{Call, End, Formed, Alike, list, anyValue, element, listRepeat, recipe, end, listEnd, valueEnd, repeatEnd, recipeEnd, listNumbers, listBitmaps, answerOf, written, tallyTaken, moveIn}
 use Rattle.model.specs.Contract.{Slice}
 use Rattle.model.specs.declared.Unary.{Unary}
 use Rattle.model.specs.declared.SetOp.{SetOp}
 use Rattle.model.proofs.Agreement.{agreement}
 use Rattle.model.proofs.OutcomeLaws.{gate-open, gate-shut}
+use Rattle.model.proofs.Stations.{end-moves}
 use Rattle.ops.specs.Ops.{callOf}
 use Rattle.ops.specs.declared.ListOp.{ListOp}
 use Rattle.wire.specs.Bytes.{nats, bytesOf, bytesOfCounts}
@@ -30,7 +32,8 @@ use Rattle.entry.specs.Inner.{numberIn, countsIn}
 use Rattle.entry_codes.specs.Calls.{unaryOf, unaryCall, setOf, setCall, withOf, withCall}
 use Rattle.entry_repeat.specs.Repeat.{RepeatReturned}
 use Rattle.entry_recipe.specs.Recipe.{recipeSizeRefusal, tallyAfter}
-use Rattle.tally_bytes.specs.Bytes.{tallyIn}
+use Rattle.tally_bytes.specs.Bytes.{tallyIn, withTally}
+use Rattle.tally_bytes.proofs.ReadBack.{read-back}
 use Rattle.recipes.specs.Recipes.{recipe as recipeOf}
 use Rattle.duthlan.proofs.duthlan_list.Reads as OneList
 use Rattle.duthlan.proofs.duthlan_list_with.Reads as ListWith
@@ -114,7 +117,7 @@ size-far ss counts need = far-or (any ragged ss || ltb counts need) 100 _ (omega
 
 recipe-far : (ss : List Numbers) (counts tally : ℕ) → Far (recipeSizeRefusal ss counts tally)
 unfolding recipeSizeRefusal
-recipe-far ss counts tally = far-or (ltb tally 16) 100 _ (omega arith) (size-far ss counts 32)
+recipe-far ss counts tally = far-or (ltb tally 256) 100 _ (omega arith) (size-far ss counts 32)
 
 below : {A L : Type 0} (f : L → Outcome A) (l : L) (k n : ℕ) → Far k → n ≡ numberOf (entered (given f) k l) → n < 100 → k ≡ 0
 unfolding entered numberOf
@@ -187,14 +190,14 @@ pub repeats : (κs : Lfts 13) (c : ByteSlices) (x p : BytePair) (o : ByteSlices)
 unfolding end
 repeats κs c x p o cs n h b = repeat-taken b _ (size-far _ _ _) p o cs (repeatOutcome narrow (bytesColumn c) (bytesArguments x)) h
 
--- ns are the recipe's numbers, l and m the trays, t the tally
-pub recipes : (κs : Lfts 25) (k k′ : ℕ) (ns : Slice ℕ) (c d : ByteSlices) (x : BytePair) (l m o : ByteSlices) (cs t : Slice ℕ) (n : ℕ)
-    → Recipe.Post κs (k, (ns .entry, enter4 c (enter4 d (enter2 x (enter4 l (enter4 m (enter4 o (cs .entry, (t .entry, tt)))))))))
-    n (k′, (ns .exit, leave4 c (leave4 d (leave2 x (leave4 l (leave4 m (leave4 o (cs .exit, (t .exit, tt)))))))))
-    → n < 100 → RecipeBytes (end narrow (recipe (recipeOf (nats 4 (now (ns .entry))) k) (bytesColumn c) (bytesColumn d) (bytesArguments x) (roomIn l) (roomIn m) (roomIn o) (tallyIn (now (t .entry))))) n l m o cs t
+-- s is the station, ns are the recipe's numbers, l and m the trays, t the tally
+pub recipes : (κs : Lfts 25) (s s′ k k′ : ℕ) (ns : Slice ℕ) (c d : ByteSlices) (x : BytePair) (l m o : ByteSlices) (cs t : Slice ℕ) (n : ℕ)
+    → Recipe.Post κs (s, (k, (ns .entry, enter4 c (enter4 d (enter2 x (enter4 l (enter4 m (enter4 o (cs .entry, (t .entry, tt))))))))))
+    n (s′, (k′, (ns .exit, leave4 c (leave4 d (leave2 x (leave4 l (leave4 m (leave4 o (cs .exit, (t .exit, tt))))))))))
+    → n < 100 → RecipeBytes (end narrow (recipe s (recipeOf (nats 4 (now (ns .entry))) k) (bytesColumn c) (bytesColumn d) (bytesArguments x) (roomIn l) (roomIn m) (roomIn o) (tallyIn (now (t .entry))))) n l m o cs t
 unfolding end recipeEnd listEnd overTally tallyAfter
-recipes κs k k′ ns c d x l m o cs t n h b =
-    let f = recipeOutcome narrow (recipeOf (nats 4 (now (ns .entry))) k) (bytesColumn c) (bytesColumn d) (bytesArguments x) (roomIn l) (roomIn m) in
+recipes κs s s′ k k′ ns c d x l m o cs t n h b =
+    let f : Room → Outcome (List Row) = λ r. stationed s (recipeOutcome narrow (recipeOf (nats 4 (now (ns .entry))) k) (bytesColumn c) (bytesColumn d) (bytesArguments x) (roomIn l) (roomIn m) r) in
     let a = list-taken b _ (recipe-far _ _ _) o cs f refl (h .0) in
     record {
       answer = record { answer = record { number = a .answer .number; counts = a .answer .counts }; offsets = a .offsets; rows = a .rows; values = a .values; elements = a .elements };
@@ -202,3 +205,12 @@ recipes κs k k′ ns c d x l m o cs t n h b =
       two = record { offsets = h .2 .0; rows = h .2 .1; values = h .2 .2; elements = h .2 .3 };
       tally = rw (below f (roomIn o) _ n (recipe-far _ _ _) (h .0 .number) b) at (h .3);
     }
+
+-- the tally's bytes, after a call that took the tally in them, hold the tally that the call gives
+pub recipes-gave : (q : Call Column Arguments) {n : ℕ} {l m o : ByteSlices} {cs : Slice ℕ} (t : Slice ℕ) → All (λ (b : ℕ). b < 256) (now (t .entry)) → tallyTaken q ≡ given (tallyIn (now (t .entry)))
+    → RecipeBytes (end narrow q) n l m o cs t → end narrow q .tally ≡ given (tallyIn (now (t .exit)))
+unfolding overTally
+recipes-gave q t a h r =
+    let g = end-moves narrow q (tallyIn (now (t .entry))) h in
+    let e : now (t .exit) ≡ withTally (moved (moveIn narrow q) (tallyIn (now (t .entry)))) (now (t .entry)) = r .tally ∙ ap (λ (x : Lent Tally). overTally x (now (t .entry))) g in
+    g ∙ ap given (sym (ap tallyIn e ∙ read-back (moveIn narrow q) (now (t .entry)) a))

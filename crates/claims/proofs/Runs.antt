@@ -1,16 +1,23 @@
--- Demand 3 over the code, in one place: `demand-3` is the claim, over any two runs. Each line after it says of a public function of
--- `lists`, and of `run_recipe`, that what its contract, F.Post, says of a call makes the call a run. If a contract said less of its
--- answer, written results, trays or tally than the definitions, its line would not hold. Entries.antt does the same for the C entries.
-use Prim.Native.Nat.{ℕ}
+-- Demand 3 over the code, in one place: `demand-3` is the claim, over any two runs; `sums-grow` is the claim of Note 10 over many calls. Each
+-- line after them says of a public function of `lists`, and of `run_recipe`, that what its contract, F.Post, says of a call makes the call
+-- a run. If a contract said less of its answer, written results, trays or tally than the definitions, its line would not hold. Entries.antt
+-- does the same for the C entries.
+use Prim.Native.Nat.{ℕ, _+_}
+use mathlib.Core.Path.{_≡_}
+use mathlib.Core.List.{List, map}
 use contract.Lifetimes.{Lfts}
 use denote.Ref.{now}
+use Rattle.model.specs.Basics.{given}
 use Rattle.model.specs.Column.{Column, Arguments}
 use Rattle.model.specs.Limits.{narrow}
 use Rattle.model.specs.Rows.{unary, setOp, slice, resize, replace, remove}
-use Rattle.model.specs.Call.{Call, anyValue, element, listRepeat, End, Formed, Alike}
+use Rattle.model.specs.Call.{Call, anyValue, element, listRepeat, End, Formed, Alike, end, moveIn, Chain, finishedBy, refusedBy}
 use Rattle.model.specs.Contract.{Slice, lentIf}
 use Rattle.model.specs.Run.{Run, listRun, anyValueRun, elementRun, repeatRun, recipeRun}
+use Rattle.model.specs.Tally.{Sixteen, While}
+use Rattle.model.specs.Tally as M
 use Rattle.model.proofs.Agreement.{Agree, runs-agree}
+use Rattle.model.proofs.Stations.{recipes-split, run-gives}
 use Rattle.model.specs.declared.ListAnswer.{ListAnswer}
 use Rattle.model.specs.declared.RepeatAnswer.{RepeatAnswer}
 use Rattle.model.specs.declared.ValueAnswer.{ValueAnswer}
@@ -36,10 +43,20 @@ use Rattle.recipes.proofs.run_recipe.Reads as Recipe
 use Rattle.claims.specs.Slots.{Slices, Pair, lentColumn, lentPair, entry4, exit4, entry2, exit2, ListRuns, ValueRuns, RepeatRuns, RecipeRuns}
 
 -- "Take any two runs of one operation or one recipe, whatever its steps and whichever of them, if any, is refused.": two runs on
--- well-formed columns, alike in what is shown, in arguments, lengths lent and tally, end in the same, and that is what the definitions
+-- well-formed columns, alike in what is shown, in arguments, lengths lent, station and tally, end in the same, and that is what the definitions
 -- give from what is shown alone
 pub demand-3 : {q q′ : Call Column Arguments} {e e′ : End} → Run narrow q e → Run narrow q′ e′ → Formed q → Formed q′ → Alike q q′ → Agree narrow q q′ e e′
 demand-3 r r′ f f′ a = runs-agree narrow r r′ f f′ a
+
+-- "Where each call takes the tally the last one gave, and while no count has reached its largest value, the sums over stations grow by
+-- the calls made, split by outcome" (Note 10 of document 02): of any recipes, the first taking t and the last giving u. What a run gave
+-- is what its call gives (`gave`), so runs are calls of such a chain; Entries.antt says so of the C entry (`recipes-gave`).
+pub sums-grow : {t u : M.Tally} (qs : List (Call Column Arguments)) → Chain narrow t qs u → Sixteen t → While (map (moveIn narrow) qs) t
+    → (M.total (u .finished) ≡ M.total (t .finished) + M.total (map (finishedBy narrow) qs)) × (M.total (u .refused) ≡ M.total (t .refused) + M.total (map (refusedBy narrow) qs))
+sums-grow qs c z w = recipes-split narrow qs c z w
+
+pub gave : {q : Call Column Arguments} {e : End} {t : M.Tally} → Run narrow q e → e .tally ≡ given t → end narrow q .tally ≡ given t
+gave r h = run-gives narrow r h
 
 -- c is the list lent, x, y and z the argument columns, o the output, a the answer
 
@@ -93,8 +110,9 @@ pub repeats : (κs : Lfts 12) (c : Slices) (x b : Pair) (o : Slices) (a : Repeat
     → RepeatRuns (listRepeat (lentColumn c) (lentPair x)) a b o
 repeats κs c x b o a h = repeatRun h
 
--- ns are the recipe's numbers, k how many argument columns there are, c and d the lists, l and m the trays, t the tally that goes in
-pub run-recipe : (κs : Lfts 22) (t t′ : Tally) (ns : Slice ℕ) (k k′ : ℕ) (c d : Slices) (x : Pair) (l m o : Slices) (a : RecipeAnswer)
-    → Recipe.Post κs (t, (ns .entry, (k, entry4 c (entry4 d (entry2 x (entry4 l (entry4 m (entry4 o tt)))))))) a (t′, (ns .exit, (k′, exit4 c (exit4 d (exit2 x (exit4 l (exit4 m (exit4 o tt))))))))
-    → RecipeRuns (recipe (now (ns .entry)) k) c d x l m o t a
-run-recipe κs t t′ ns k k′ c d x l m o a h = recipeRun (h .0) (h .1 .0) (h .1 .1 .0) (h .1 .1 .1)
+-- t is the tally that goes in, s the station, ns are the recipe's numbers, k how many argument columns there are, c and d the lists, l and
+-- m the trays
+pub run-recipe : (κs : Lfts 22) (t t′ : Tally) (s s′ : ℕ) (ns : Slice ℕ) (k k′ : ℕ) (c d : Slices) (x : Pair) (l m o : Slices) (a : RecipeAnswer)
+    → Recipe.Post κs (t, (s, (ns .entry, (k, entry4 c (entry4 d (entry2 x (entry4 l (entry4 m (entry4 o tt))))))))) a (t′, (s′, (ns .exit, (k′, exit4 c (exit4 d (exit2 x (exit4 l (exit4 m (exit4 o tt)))))))))
+    → RecipeRuns s (recipe (now (ns .entry)) k) c d x l m o t a
+run-recipe κs t t′ s s′ ns k k′ c d x l m o a h = recipeRun (h .0) (h .1 .0) (h .1 .1 .0) (h .1 .1 .1)

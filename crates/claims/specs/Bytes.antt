@@ -9,7 +9,7 @@ use Rattle.model.specs.Column.{Column, Arguments}
 use Rattle.model.specs.Call.{End}
 use Rattle.model.specs.Contract.{Slice}
 use Rattle.model.specs.Form.{Room, ValueRoom, RepeatRoom, over}
-use Rattle.model.specs.Recipe.{Tally}
+use Rattle.model.specs.Tally.{Tally}
 use Rattle.wire.specs.Bytes.{bytesOf4, bytesOf8, bytesOfCounts}
 use Rattle.entry.specs.Entry.{decoded, decodedArguments, bytesRoom, bytesValueRoom}
 use Rattle.entry.specs.Inner.{numberIn, countsIn}

@@ -78,10 +78,10 @@ RepeatRuns q a b o =
     (q (repeatRoomOf (b .values) (b .bits) (o .offsets) (o .rows) (o .values) (o .elements)))
     (repeatRunEnd a (now (b .values .exit)) (now (b .bits .exit)) (now (o .offsets .exit)) (now (o .rows .exit)) (now (o .values .exit)) (now (o .elements .exit)))
 
--- a recipe p on the lists c and d with arguments x, through the trays l and m into o; t is the tally that went in
-abbrev pub RecipeRuns : Recipe → Slices → Slices → Pair → Slices → Slices → Slices → Tally → RecipeAnswer → Type 0
-RecipeRuns p c d x l m o t a =
-    Run narrow (recipe p (lentColumn c) (lentColumn d) (lentPair x) (slicesRoom l) (slicesRoom m) (slicesRoom o) (tallyOf t))
+-- a recipe p of station s on the lists c and d with arguments x, through the trays l and m into o; t is the tally that went in
+abbrev pub RecipeRuns : ℕ → Recipe → Slices → Slices → Pair → Slices → Slices → Slices → Tally → RecipeAnswer → Type 0
+RecipeRuns s p c d x l m o t a =
+    Run narrow (recipe s p (lentColumn c) (lentColumn d) (lentPair x) (slicesRoom l) (slicesRoom m) (slicesRoom o) (tallyOf t))
     (recipeRunEnd (a .answer)
     (now (o .offsets .exit)) (now (o .rows .exit)) (now (o .values .exit)) (now (o .elements .exit))
     (now (l .offsets .exit)) (now (l .rows .exit)) (now (l .values .exit)) (now (l .elements .exit))

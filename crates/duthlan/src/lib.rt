@@ -169,13 +169,14 @@ pub extern "C" fn duthlan_list_repeat(
     )
 }
 
-// A recipe: its numbers, four bytes each, on the first list; the second list serves union and intersect; as many argument columns as
-// `columns` says. The two trays are zero afterwards, whatever comes. The tally is two counts of eight bytes at the front of `tally`,
-// recipes finished and recipes refused; a call that the entry itself refuses is not counted, and 100 is also for a short `tally`.
+// A recipe for a station, 0 to 15: its numbers, four bytes each, on the first list; the second list serves union and intersect; as many
+// argument columns as `columns` says. The two trays are zero afterwards, whatever comes. The tally is the first 256 bytes of `tally`, eight
+// a count: the finished counts of stations 0 to 15, then their refused counts; a call that the entry itself refuses is not counted, and
+// 100 is also for a short `tally`.
 #[no_mangle]
 #[rattlefmt::skip]
 pub extern "C" fn duthlan_recipe(
-    columns: u32, numbers: &[u8],
+    station: u32, columns: u32, numbers: &[u8],
     offsets: &[u8], rows: &[u8], values: &[u8], elements: &[u8],
     second_offsets: &[u8], second_rows: &[u8], second_values: &[u8], second_elements: &[u8],
     arguments: &[u8], argument_bits: &[u8],
@@ -184,10 +185,10 @@ pub extern "C" fn duthlan_recipe(
     out_offsets: &mut [u8], out_rows: &mut [u8], out_values: &mut [u8], out_elements: &mut [u8],
     counts: &mut [u8], tally: &mut [u8],
 ) -> u32
-    ensures { λ n. ⌜ RecipeEntry (recipeIn columns numbers offsets rows values elements «second_offsets» «second_rows» «second_values» «second_elements» arguments «argument_bits») (recipeSizes (size numbers) (size arguments) ++ pairSizes (size offsets) (size values) (size «second_offsets») (size «second_values»)) n «one_offsets» «one_rows» «one_values» «one_elements» «two_offsets» «two_rows» «two_values» «two_elements» «out_offsets» «out_rows» «out_values» «out_elements» counts tally ⌝ }
+    ensures { λ n. ⌜ RecipeEntry station (recipeIn station columns numbers offsets rows values elements «second_offsets» «second_rows» «second_values» «second_elements» arguments «argument_bits») (recipeSizes (size numbers) (size arguments) ++ pairSizes (size offsets) (size values) (size «second_offsets») (size «second_values»)) n «one_offsets» «one_rows» «one_values» «one_elements» «two_offsets» «two_rows» «two_values» «two_elements» «out_offsets» «out_rows» «out_values» «out_elements» counts tally ⌝ }
 {
     entry_recipe::enter(
-        columns, numbers,
+        station, columns, numbers,
         offsets, rows, values, elements,
         second_offsets, second_rows, second_values, second_elements,
         arguments, argument_bits,

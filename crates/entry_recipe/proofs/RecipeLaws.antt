@@ -10,7 +10,7 @@ use Rattle.model.specs.Column.{Row, Column, Arguments}
 use Rattle.model.specs.Form.{Room}
 use Rattle.model.specs.Limits.{narrow}
 use Rattle.model.specs.Outcome.{Outcome}
-use Rattle.model.specs.Recipe.{Recipe, recipeOutcome}
+use Rattle.model.specs.Recipe.{Recipe, recipeOutcome, stationed}
 use Rattle.entry.specs.Entry.{Numbers, listSizes, mostOffsets, mostValues, sizeRefusal}
 use Rattle.entry.specs.Inner.{ListFits}
 use Rattle.entry.proofs.SizeLaws.{Fits, Sized, sized, pick-none}
@@ -20,17 +20,17 @@ use Rattle.entry_recipe.specs.Recipe.{recipeSizes, pairSizes, recipeSize
 
 -- ---- the sizes
 
-pub tally-short : (ss : List Numbers) (c t : ℕ) → t < 16 → 100 ≡ recipeSizeRefusal ss c t
+pub tally-short : (ss : List Numbers) (c t : ℕ) → t < 256 → 100 ≡ recipeSizeRefusal ss c t
 unfolding recipeSizeRefusal
-tally-short ss c t h = rw (lt-ltb t 16 h)
+tally-short ss c t h = rw (lt-ltb t 256 h)
 
-pub tally-long : (ss : List Numbers) (c t : ℕ) {r : ℕ} → 16 ≤ t → r ≡ sizeRefusal ss c 32 → r ≡ recipeSizeRefusal ss c t
+pub tally-long : (ss : List Numbers) (c t : ℕ) {r : ℕ} → 256 ≤ t → r ≡ sizeRefusal ss c 32 → r ≡ recipeSizeRefusal ss c t
 unfolding recipeSizeRefusal
-tally-long ss c t h e = rw (le-ltb t 16 h) e
+tally-long ss c t h e = rw (le-ltb t 256 h) e
 
-pub recipe-sized : (ss : List Numbers) (c t : ℕ) → recipeSizeRefusal ss c t ≡ 0 → (16 ≤ t) × Sized ss c 32
+pub recipe-sized : (ss : List Numbers) (c t : ℕ) → recipeSizeRefusal ss c t ≡ 0 → (256 ≤ t) × Sized ss c 32
 unfolding recipeSizeRefusal
-recipe-sized ss c t h = let p = pick-none (ltb t 16) 100 (sizeRefusal ss c 32) (omega arith) h in (ltb-false t 16 (p .0), sized ss c 32 (p .1))
+recipe-sized ss c t h = let p = pick-none (ltb t 256) 100 (sizeRefusal ss c 32) (omega arith) h in (ltb-false t 256 (p .0), sized ss c 32 (p .1))
 
 -- the arrays have places for all numbers
 pub all-fit : (bns ba bo bv bso bsv po pv qo qv lo lv : ℕ) → All Fits (((recipeSizes bns ba ++ pairSizes bo bv bso bsv) ++ pairSizes po pv qo qv) ++ listSizes lo lv)
@@ -46,16 +46,16 @@ all-fit bns ba bo bv bso bsv po pv qo qv lo lv (more f1 (more f2 (more f3 (more 
 pub trays-fit : {ho hv io iv a b c d : ℕ} → ho ≡ a → hv ≡ b → io ≡ c → iv ≡ d → TraysFit a b c d → TraysFit ho hv io iv
 trays-fit p q r s h = rw (p, q, r, s) h
 
-pub same-trays : (r : Recipe) (c d : Column) (e : Arguments) {a a′ b b′ : Room} (o : Room) → a ≡ a′ → b ≡ b′ → recipeOutcome narrow r c d e a b o ≡ recipeOutcome narrow r c d e a′ b′ o
-same-trays r c d e o f g = rw (f, g)
+pub same-trays : (s : ℕ) (r : Recipe) (c d : Column) (e : Arguments) {a a′ b b′ : Room} (o : Room) → a ≡ a′ → b ≡ b′ → stationed s (recipeOutcome narrow r c d e a b o) ≡ stationed s (recipeOutcome narrow r c d e a′ b′ o)
+same-trays s r c d e o f g = rw (f, g)
 
--- ---- the tally; r is what the code found k to be
+-- ---- the tally of a call for station n; r is what the code found k to be
 
-module _ (x : Outcome (List Row)) {k r : ℕ} (e : r ≡ k) where
-  pub not-counted : {s : List ℕ} → (r ≡ 0 → ⊥) → s ≡ tallyAfter k x s
+module _ (n : ℕ) (x : Outcome (List Row)) {k r : ℕ} (e : r ≡ k) where
+  pub not-counted : {s : List ℕ} → (r ≡ 0 → ⊥) → s ≡ tallyAfter k n x s
   unfolding tallyAfter
-  not-counted n = rw (← e, ne-eqb _ 0 n)
+  not-counted z = rw (← e, ne-eqb _ 0 z)
 
-  pub counted : (s : List ℕ) {s′ : List ℕ} → r ≡ 0 → s′ ≡ talliedIn x s → s′ ≡ tallyAfter k x s
+  pub counted : (s : List ℕ) {s′ : List ℕ} → r ≡ 0 → s′ ≡ talliedIn n x s → s′ ≡ tallyAfter k n x s
   unfolding tallyAfter
   counted s z h = rw (← e, z) h

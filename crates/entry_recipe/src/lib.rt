@@ -64,7 +64,7 @@ fn recipe_refusal(
 ) -> u32
     ensures { λ r. ⌜ r ≡ recipeSizeRefusal (((recipeSizes numbers arguments ++ pairSizes offsets values «second_offsets» «second_values») ++ pairSizes «one_offsets» «one_values» «two_offsets» «two_values») ++ listSizes «out_offsets» «out_values») counts tally ⌝ }
 {
-    if tally < 16 {
+    if tally < 256 {
         return 100;
     }
     let ragged = is_recipe_ragged(numbers, arguments)
@@ -94,7 +94,7 @@ fn clear_four(a: &mut [u8], b: &mut [u8], c: &mut [u8], d: &mut [u8])
 // Tests the sizes, clears the trays' numbers, runs the recipe, which clears the trays' bitmaps, and encodes the tally and what is counted.
 #[rattlefmt::skip]
 pub fn enter(
-    columns: u32, numbers: &[u8],
+    station: u32, columns: u32, numbers: &[u8],
     offsets: &[u8], rows: &[u8], values: &[u8], elements: &[u8],
     second_offsets: &[u8], second_rows: &[u8], second_values: &[u8], second_elements: &[u8],
     arguments: &[u8], argument_bits: &[u8],
@@ -103,7 +103,7 @@ pub fn enter(
     out_offsets: &mut [u8], out_rows: &mut [u8], out_values: &mut [u8], out_elements: &mut [u8],
     counts: &mut [u8], tally: &mut [u8],
 ) -> u32
-    ensures { λ n. ⌜ RecipeEntry (recipeIn columns numbers offsets rows values elements «second_offsets» «second_rows» «second_values» «second_elements» arguments «argument_bits») (recipeSizes (size numbers) (size arguments) ++ pairSizes (size offsets) (size values) (size «second_offsets») (size «second_values»)) n «one_offsets» «one_rows» «one_values» «one_elements» «two_offsets» «two_rows» «two_values» «two_elements» «out_offsets» «out_rows» «out_values» «out_elements» counts tally ⌝ }
+    ensures { λ n. ⌜ RecipeEntry station (recipeIn station columns numbers offsets rows values elements «second_offsets» «second_rows» «second_values» «second_elements» arguments «argument_bits») (recipeSizes (size numbers) (size arguments) ++ pairSizes (size offsets) (size values) (size «second_offsets») (size «second_values»)) n «one_offsets» «one_rows» «one_values» «one_elements» «two_offsets» «two_rows» «two_values» «two_elements» «out_offsets» «out_rows» «out_values» «out_elements» counts tally ⌝ }
 {
     let k = recipe_refusal(
         numbers.len(),
@@ -130,7 +130,7 @@ pub fn enter(
     let mut o = [0i32; sizes::MOST_OFFSETS];
     let mut v = [0i64; sizes::MOST_VALUES];
     let done = recipe_bytes::run(
-        before, columns, ho, hv, io, iv, mo, mv, numbers,
+        before, station, columns, ho, hv, io, iv, mo, mv, numbers,
         offsets, rows, values, elements,
         second_offsets, second_rows, second_values, second_elements,
         arguments, argument_bits,

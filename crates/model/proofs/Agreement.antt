@@ -36,7 +36,7 @@ same-shown (alikeList l s) = cc (same-call s)
 same-shown (alikeAnyValue l e) = cc (same-rows e)
 same-shown (alikeElement l e f) = cc (same-rows e, same-arguments f)
 same-shown (alikeListRepeat l e f) = cc (same-rows e, same-arguments f)
-same-shown (alikeRecipe p a b o t e f g) = cc (same-rows e, same-rows f, same-arguments g)
+same-shown (alikeRecipe s p a b o t e f g) = cc (same-rows e, same-rows f, same-arguments g)
 
 -- a call on well-formed columns ends in what they show
 from-shown : (L : Limits) (q : Call Column Arguments) → Formed q → end L q ≡ endShown L (shown q)
@@ -45,7 +45,7 @@ from-shown L (list q l) f = rw (gate-open _ _ (formed-columns (f .lists) (f .arg
 from-shown L (anyValue c l) f = rw (gate-open _ _ (formed-columns (f .lists) (f .arguments)))
 from-shown L (element c a l) f = rw (gate-open _ _ (formed-columns (f .lists) (f .arguments)))
 from-shown L (listRepeat c a l) f = rw (gate-open _ _ (formed-columns (f .lists) (f .arguments)))
-from-shown L (recipe p c d e a b o t) f = rw (gate-open _ _ (formed-columns (f .lists) (f .arguments)))
+from-shown L (recipe s p c d e a b o t) f = rw (gate-open _ _ (formed-columns (f .lists) (f .arguments)))
 
 -- what demand 3 says of two calls that are alike, the first of which ends in e and the second in e′
 pub record Agree (L : Limits) (q q′ : Call Column Arguments) (e e′ : End) : Type 0 where

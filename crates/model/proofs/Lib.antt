@@ -5,4 +5,5 @@ pub mod OutcomeLaws
 pub mod FormLaws
 pub mod RunLaws
 pub mod Agreement
+pub mod Stations
 pub mod Cases

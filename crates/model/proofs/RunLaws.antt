@@ -9,7 +9,7 @@ use lib.IntN.{ℤ}
 use Rattle.model.specs.Bitmap.{bytesFor, pack}
 use Rattle.model.specs.Limits.{Limits}
 use Rattle.model.specs.Column.{Elem, Row, Column, Arguments}
-use Rattle.model.specs.Recipe.{Tally, tallied}
+use Rattle.model.specs.Tally.{Tally, tallied}
 use Rattle.model.specs.Form.{Room, isVal, isRow, valueOf, Outer, isOuter, outerLength, inner, flat, lengthOf, over, offsetsFrom, formOffsets, formRows, formValues, formElements}
 use Rattle.model.specs.Outcome.{Outcome, refused, made}
 use Rattle.model.specs.Call.{Call, answerOf, written, End, listNumbers, listBitmaps, listEnd, valueEnd, repeatEnd, recipeEnd, end}
@@ -86,10 +86,10 @@ module _ {o o′ : List ℤ} {r r′ : List ℕ} {io io′ : List ℤ} {ir ir′
 -- ---- a recipe's answer, trays and tally
 
 module _ {o o′ : List ℤ} {r r′ : List ℕ} {v v′ : List ℤ} {e e′ : List ℕ} {ao : List ℤ} {ar : List ℕ} {av : List ℤ} {ae : List ℕ} {bo : List ℤ} {br : List ℕ} {bv : List ℤ} {be : List ℕ} where
-  recipe-run : (x : Outcome (List Row)) (a : ListAnswer) (l m : Room) (t t′ : Tally) → ListMeets x a o o′ r r′ v v′ e e′ → Zeroed l ao ar av ae → Zeroed m bo br bv be → t′ ≡ tallied x t
-      → recipeRunEnd a o′ r′ v′ e′ ao ar av ae bo br bv be t′ ≡ recipeEnd x l m t
+  recipe-run : (s : ℕ) (x : Outcome (List Row)) (a : ListAnswer) (l m : Room) (t t′ : Tally) → ListMeets x a o o′ r r′ v v′ e e′ → Zeroed l ao ar av ae → Zeroed m bo br bv be → t′ ≡ tallied s x t
+      → recipeRunEnd a o′ r′ v′ e′ ao ar av ae bo br bv be t′ ≡ recipeEnd s x l m t
   unfolding recipeRunEnd recipeEnd listEnd
-  recipe-run x a l m t t′ h y z q = rw (list-run x a h, y .offsets, y .rows, y .values, y .elements, z .offsets, z .rows, z .values, z .elements, q)
+  recipe-run s x a l m t t′ h y z q = rw (list-run x a h, y .offsets, y .rows, y .values, y .elements, z .offsets, z .rows, z .values, z .elements, q)
 
 pub run-ends : (L : Limits) {q : Call Column Arguments} {e : End} → Run L q e → e ≡ end L q
 unfolding end
@@ -97,4 +97,4 @@ run-ends L (listRun h) = list-run _ _ h
 run-ends L (anyValueRun h) = value-run _ _ h
 run-ends L (elementRun h) = value-run _ _ h
 run-ends L (repeatRun h) = repeat-run _ _ h
-run-ends L (recipeRun h y z q) = recipe-run _ _ _ _ _ _ h y z q
+run-ends L (recipeRun h y z q) = recipe-run _ _ _ _ _ _ _ h y z q

@@ -1,27 +1,32 @@
 -- Any call, what it ends in, and when two calls are alike. Document 01, "Agreement", and demand 3.
 use Prim.Native.Nat.{ℕ}
+use mathlib.Core.Bool.{Bool, true, false, not, _&&_}
 use mathlib.Core.List.{List, [], _∷_, map}
+use mathlib.Core.Path.{_≡_}
 use lib.ListN.{length, replicate}
 use lib.IntN.{ℤ, pos}
+use lib.Dec.{ltb}
 use Rattle.model.specs.Basics.{Lent, absent, given, All}
 use Rattle.model.specs.Limits.{Limits}
 use Rattle.model.specs.Column.{Elem, Row, Column, Arguments, rowsOf, shownBy, WellFormed, WellFormedᵃ, EqualRows, EqualArguments}
 use Rattle.model.specs.Form.{Room, ValueRoom, RepeatRoom, Outer, isOuter, outerLength, inner, flat, offsetsFrom, formOffsets, formRows, formValues, formElements, nullRows, nullElems}
-use Rattle.model.specs.Bitmap.{pack, nulls}
+use Rattle.model.specs.Bitmap.{bit, pack, nulls}
 use Rattle.model.specs.Rows.{ListCall, unary, setOp, slice, resize, replace, remove, onCall, listsIn, argumentsIn}
 use Rattle.model.specs.Outcome.{Outcome, refused, made, listOutcome, listShown, anyValueOutcome, anyValueShown, elementOutcome, elementShown, repeatOutcome, repeatShown}
-use Rattle.model.specs.Recipe.{Recipe, Tally, recipeOutcome, recipeShown, tallied}
+use Rattle.model.specs.Recipe.{Recipe, recipeOutcome, recipeShown, stationed}
+use Rattle.model.specs.Tally.{Tally, Move, nobody, moveOf, tallied}
 use Rattle.model.specs.declared.Unary.{Unary}
 use Rattle.model.specs.declared.SetOp.{SetOp}
 
--- a call: its operation with the lists and argument columns it takes, the lengths lent for results and trays, and a recipe's tally
+-- a call: its operation with the lists and argument columns it takes, the lengths lent for results and trays, and a recipe's
+-- station and tally
 pub data Call (C A : Type 0) : Type 0 where
   list : ListCall C A → Room → Call C A
   anyValue : C → ValueRoom → Call C A
   element : C → A → ValueRoom → Call C A
   listRepeat : C → A → RepeatRoom → Call C A
-  -- recipe, first list, second list, argument columns, tray one, tray two, output
-  recipe : Recipe → C → C → A → Room → Room → Room → Tally → Call C A
+  -- station, recipe, first list, second list, argument columns, tray one, tray two, output
+  recipe : ℕ → Recipe → C → C → A → Room → Room → Room → Tally → Call C A
 
 -- what is shown of a call
 unfoldable pub shown : Call Column Arguments → Call (List Row) (List Elem)
@@ -29,21 +34,21 @@ shown (list q l) = list (onCall rowsOf shownBy q) l
 shown (anyValue c l) = anyValue (rowsOf c) l
 shown (element c a l) = element (rowsOf c) (shownBy a) l
 shown (listRepeat c a l) = listRepeat (rowsOf c) (shownBy a) l
-shown (recipe p c d e a b o t) = recipe p (rowsOf c) (rowsOf d) (shownBy e) a b o t
+shown (recipe s p c d e a b o t) = recipe s p (rowsOf c) (rowsOf d) (shownBy e) a b o t
 
 unfoldable pub listsOf : {C A : Type 0} → Call C A → List C
 listsOf (list q l) = listsIn q
 listsOf (anyValue c l) = c ∷ []
 listsOf (element c a l) = c ∷ []
 listsOf (listRepeat c a l) = c ∷ []
-listsOf (recipe p c d e a b o t) = c ∷ d ∷ []
+listsOf (recipe s p c d e a b o t) = c ∷ d ∷ []
 
 unfoldable pub argumentsOf : {C A : Type 0} → Call C A → List A
 argumentsOf (list q l) = argumentsIn q
 argumentsOf (anyValue c l) = []
 argumentsOf (element c a l) = a ∷ []
 argumentsOf (listRepeat c a l) = a ∷ []
-argumentsOf (recipe p c d e a b o t) = e ∷ []
+argumentsOf (recipe s p c d e a b o t) = e ∷ []
 
 -- an answer: the number of a refusal, or all counts
 pub data Answer : Type 0 where
@@ -105,16 +110,16 @@ repeatEnd x =
     (written (λ os. offsetsFrom 0 (map outerLength os)) x ∷ written (λ os. formOffsets (inner os)) x ∷ written (λ os. formValues (flat (inner os))) x ∷ [])
     (written (λ os. pack (map isOuter os)) x ∷ written (λ os. formRows (inner os)) x ∷ written (λ os. formElements (flat (inner os))) x ∷ [])
 
--- "Trays are all zero after any call."
-unfoldable pub recipeEnd : Outcome (List Row) → Room → Room → Tally → End
-recipeEnd x a b t =
+-- "Trays are all zero after any call.": of a call that names station s and comes to x
+unfoldable pub recipeEnd : ℕ → Outcome (List Row) → Room → Room → Tally → End
+recipeEnd s x a b t =
     record {
       answer = answerOf listCounts x;
       numbers = listNumbers x;
       bitmaps = listBitmaps x;
       tray-numbers = replicate (a .offsets) (pos 0) ∷ replicate (a .values) (pos 0) ∷ replicate (b .offsets) (pos 0) ∷ replicate (b .values) (pos 0) ∷ [];
       tray-bitmaps = replicate (a .rows) 0 ∷ replicate (a .elements) 0 ∷ replicate (b .rows) 0 ∷ replicate (b .elements) 0 ∷ [];
-      tally = given (tallied x t);
+      tally = given (tallied s x t);
     }
 
 -- what a call ends in, from the columns lent: contracts name the same outcomes
@@ -123,7 +128,7 @@ end L (list q l) = listEnd (listOutcome L q l)
 end L (anyValue c l) = valueEnd (anyValueOutcome c l)
 end L (element c a l) = valueEnd (elementOutcome L c a l)
 end L (listRepeat c a l) = repeatEnd (repeatOutcome L c a l)
-end L (recipe p c d e a b o t) = recipeEnd (recipeOutcome L p c d e a b o) a b t
+end L (recipe s p c d e a b o t) = recipeEnd s (stationed s (recipeOutcome L p c d e a b o)) a b t
 
 -- what demand 2's definitions give from what is shown alone
 unfoldable pub endShown : Limits → Call (List Row) (List Elem) → End
@@ -131,7 +136,7 @@ endShown L (list q l) = listEnd (listShown L q l)
 endShown L (anyValue ws l) = valueEnd (anyValueShown ws l)
 endShown L (element ws is l) = valueEnd (elementShown L ws is l)
 endShown L (listRepeat ws ns l) = repeatEnd (repeatShown L ws ns l)
-endShown L (recipe p ws rs es a b o t) = recipeEnd (recipeShown L p ws rs es a b o) a b t
+endShown L (recipe s p ws rs es a b o t) = recipeEnd s (stationed s (recipeShown L p ws rs es a b o)) a b t
 
 -- "If they start from well-formed columns"
 pub record Formed (q : Call Column Arguments) : Type 0 where
@@ -153,10 +158,51 @@ pub data SameCall : ListCall Column Arguments → ListCall Column Arguments → 
   sameRemove : {c d : Column} {a a′ n n′ : Arguments} → EqualRows c d → EqualArguments a a′ → EqualArguments n n′ → SameCall (remove c a n) (remove d a′ n′)
 
 -- two runs of one operation or one recipe on columns "that show equal rows, with equal arguments, equal slice lengths lent for
--- results and trays and an equal tally"
+-- results and trays and an equal tally"; "the two runs of demand 3 name the same" station
 pub data Alike : Call Column Arguments → Call Column Arguments → Type 0 where
   alikeList : {q q′ : ListCall Column Arguments} (l : Room) → SameCall q q′ → Alike (list q l) (list q′ l)
   alikeAnyValue : {c d : Column} (l : ValueRoom) → EqualRows c d → Alike (anyValue c l) (anyValue d l)
   alikeElement : {c d : Column} {a b : Arguments} (l : ValueRoom) → EqualRows c d → EqualArguments a b → Alike (element c a l) (element d b l)
   alikeListRepeat : {c d : Column} {a b : Arguments} (l : RepeatRoom) → EqualRows c d → EqualArguments a b → Alike (listRepeat c a l) (listRepeat d b l)
-  alikeRecipe : {c c′ d d′ : Column} {e e′ : Arguments} (p : Recipe) (a b o : Room) (t : Tally) → EqualRows c c′ → EqualRows d d′ → EqualArguments e e′ → Alike (recipe p c d e a b o t) (recipe p c′ d′ e′ a b o t)
+  alikeRecipe : {c c′ d d′ : Column} {e e′ : Arguments} (s : ℕ) (p : Recipe) (a b o : Room) (t : Tally) → EqualRows c c′ → EqualRows d d′ → EqualArguments e e′ → Alike (recipe s p c d e a b o t) (recipe s p c′ d′ e′ a b o t)
+
+-- the tally that a call takes
+unfoldable pub tallyTaken : {C A : Type 0} → Call C A → Lent Tally
+tallyTaken (list q l) = absent
+tallyTaken (anyValue c l) = absent
+tallyTaken (element c a l) = absent
+tallyTaken (listRepeat c a l) = absent
+tallyTaken (recipe s p c d e a b o t) = given t
+
+-- what a call does to it
+unfoldable pub moveIn : Limits → Call Column Arguments → Move
+moveIn L (list q l) = nobody
+moveIn L (anyValue c l) = nobody
+moveIn L (element c a l) = nobody
+moveIn L (listRepeat c a l) = nobody
+moveIn L (recipe s p c d e a b o t) = moveOf s (stationed s (recipeOutcome L p c d e a b o))
+
+-- does a call name one of the sixteen stations
+unfoldable pub namesStation : {C A : Type 0} → Call C A → Bool
+namesStation (list q l) = false
+namesStation (anyValue c l) = false
+namesStation (element c a l) = false
+namesStation (listRepeat c a l) = false
+namesStation (recipe s p c d e a b o t) = not (ltb 15 s)
+
+unfoldable pub accepted : Answer → Bool
+accepted (refusal k) = false
+accepted (counts ns) = true
+
+-- "the calls made, split by outcome; calls naming no such station .. are left out": 1 for a call that was accepted, and for one that was refused
+abbrev pub finishedBy : Limits → Call Column Arguments → ℕ
+finishedBy L q = bit (namesStation q && accepted (end L q .answer))
+
+abbrev pub refusedBy : Limits → Call Column Arguments → ℕ
+refusedBy L q = bit (namesStation q && not (accepted (end L q .answer)))
+
+-- calls of recipes, "each call takes the tally the last one gave": the first takes t, the last gives u
+pub data Chain (L : Limits) : Tally → List (Call Column Arguments) → Tally → Type 0 where
+  none : {t : Tally} → Chain L t [] t
+  next : {q : Call Column Arguments} {qs : List (Call Column Arguments)} {t t′ u : Tally}
+      → tallyTaken q ≡ given t → end L q .tally ≡ given t′ → Chain L t′ qs u → Chain L t (q ∷ qs) u

@@ -9,6 +9,7 @@ pub mod Rows
 pub mod Refusals
 pub mod Outcome
 pub mod Recipe
+pub mod Tally
 pub mod Call
 pub mod Contract
 pub mod Inner

@@ -1,12 +1,12 @@
--- Recipes, which the port adds: a chain of list operations through two lent trays. Document 01, "Recipes". A recipe, a tray and a
--- tally are document 01's own terms.
+-- Recipes, which the port adds: a chain of list operations through two lent trays. Document 01, "Recipes". A recipe and a tray are
+-- document 01's own terms; the tally stands in Tally.antt.
 use Prim.Native.Nat.{ℕ, _+_, _*_, _/_, _%_}
 use mathlib.Core.Bool.{Bool, not, _||_}
 use mathlib.Core.List.{List, [], _∷_}
 use lib.ListN.{length, getD}
 use lib.Dec.{ltb, leb, eqb}
 use Rattle.model.specs.Basics.{pick, tab, any, absent, given}
-use Rattle.model.specs.Limits.{Limits, largest}
+use Rattle.model.specs.Limits.{Limits}
 use Rattle.model.specs.Column.{Elem, nul, Row, Column, Arguments, rowsOf, shownBy}
 use Rattle.model.specs.Form.{Room}
 use Rattle.model.specs.Rows.{ListCall, unary, setOp, slice, resize, replace, remove}
@@ -114,16 +114,6 @@ unfoldable pub recipeOutcome : Limits → Recipe → Column → Column → Argum
 recipeOutcome L p c d e a b o =
     gate (pick (malformed p) 10 0) (gate (columnsRefusal (c ∷ d ∷ []) (e ∷ [])) (formedRecipe L p (rowsOf c) (rowsOf d) (shownBy e) a b o))
 
--- "two unsigned 64-bit counts, recipes finished and recipes refused, each stopping at its largest value"
-pub record Tally : Type 0 where
-  pub finished : ℕ
-  pub refused : ℕ
-
--- one more, unless the count stands at its largest value
-unfoldable pub oneMore : ℕ → ℕ
-oneMore n = pick (ltb n largest) (n + 1) n
-
--- "An accepted call adds 1 to the first count, a refused one, 10 included, 1 to the second"
-unfoldable pub tallied : {A : Type 0} → Outcome A → Tally → Tally
-tallied (refused k) t = record { finished = t .finished; refused = oneMore (t .refused) }
-tallied (made a) t = record { finished = oneMore (t .finished); refused = t .refused }
+-- Note 10 of document 02: "Answers: 15, a station over 15; it precedes 10": before what the call comes to otherwise
+unfoldable pub stationed : {A : Type 0} → ℕ → Outcome A → Outcome A
+stationed s x = gate (pick (ltb 15 s) 15 0) x

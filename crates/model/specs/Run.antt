@@ -14,7 +14,8 @@ use Rattle.model.specs.Rows.{ListCall}
 use Rattle.model.specs.Outcome.{listOutcome, anyValueOutcome, elementOutcome, repeatOutcome}
 use Rattle.model.specs.Call.{Call, list, anyValue, element, listRepeat, recipe, End, refusal, counts, operationEnd}
 use Rattle.model.specs.Contract.{ListMeets, ValueMeets, RepeatMeets, Zeroed}
-use Rattle.model.specs.Recipe.{Recipe, Tally, recipeOutcome, tallied}
+use Rattle.model.specs.Recipe.{Recipe, recipeOutcome, stationed}
+use Rattle.model.specs.Tally.{Tally, tallied}
 use Rattle.model.specs.declared.ListAnswer.{ListAnswer}
 use Rattle.model.specs.declared.ListAnswer.the-variants as L
 use Rattle.model.specs.declared.RepeatAnswer.{RepeatAnswer}
@@ -61,6 +62,6 @@ pub data Run (L : Limits) : Call Column Arguments → End → Type 0 where
       → ValueMeets (elementOutcome L c x l) a v v′ r r′ → Run L (element c x l) (valueRunEnd a v′ r′)
   repeatRun : {c : Column} {x : Arguments} {l : RepeatRoom} {a : RepeatAnswer} {o o′ : List ℤ} {r r′ : List ℕ} {io io′ : List ℤ} {ir ir′ : List ℕ} {v v′ : List ℤ} {e e′ : List ℕ}
       → RepeatMeets (repeatOutcome L c x l) a o o′ r r′ io io′ ir ir′ v v′ e e′ → Run L (listRepeat c x l) (repeatRunEnd a o′ r′ io′ ir′ v′ e′)
-  recipeRun : {p : Recipe} {c d : Column} {x : Arguments} {l m n : Room} {t t′ : Tally} {a : ListAnswer} {o o′ : List ℤ} {r r′ : List ℕ} {v v′ : List ℤ} {e e′ : List ℕ} {ao : List ℤ} {ar : List ℕ} {av : List ℤ} {ae : List ℕ} {bo : List ℤ} {br : List ℕ} {bv : List ℤ} {be : List ℕ}
-      → ListMeets (recipeOutcome L p c d x l m n) a o o′ r r′ v v′ e e′ → Zeroed l ao ar av ae → Zeroed m bo br bv be → t′ ≡ tallied (recipeOutcome L p c d x l m n) t
-      → Run L (recipe p c d x l m n t) (recipeRunEnd a o′ r′ v′ e′ ao ar av ae bo br bv be t′)
+  recipeRun : {s : ℕ} {p : Recipe} {c d : Column} {x : Arguments} {l m n : Room} {t t′ : Tally} {a : ListAnswer} {o o′ : List ℤ} {r r′ : List ℕ} {v v′ : List ℤ} {e e′ : List ℕ} {ao : List ℤ} {ar : List ℕ} {av : List ℤ} {ae : List ℕ} {bo : List ℤ} {br : List ℕ} {bv : List ℤ} {be : List ℕ}
+      → ListMeets (stationed s (recipeOutcome L p c d x l m n)) a o o′ r r′ v v′ e e′ → Zeroed l ao ar av ae → Zeroed m bo br bv be → t′ ≡ tallied s (stationed s (recipeOutcome L p c d x l m n)) t
+      → Run L (recipe s p c d x l m n t) (recipeRunEnd a o′ r′ v′ e′ ao ar av ae bo br bv be t′)

@@ -7,7 +7,7 @@ use wire::fill_u32;
 ghost use Prim.Native.Nat.{_/_, _≤_};
 ghost use Rattle.entry.specs.Inner.{ListRuns};
 ghost use Rattle.model.specs.Contract.{room};
-ghost use Rattle.model.specs.Recipe.{tallied};
+ghost use Rattle.model.specs.Tally.{tallied};
 ghost use Rattle.recipe_bytes.specs.Inner.{InputsFit, TraysFit};
 ghost use Rattle.recipe_bytes.specs.Recipe.{Zero, recipeIn, trayRoom};
 ghost use Rattle.entry.specs.Entry.{size};
@@ -34,7 +34,7 @@ fn get_numbers(numbers: &[u8], ns: &mut [u32])
 // two io and iv, all in arrays here.
 #[rattlefmt::skip]
 pub fn run(
-    tally: Tally, columns: u32, ho: usize, hv: usize, io: usize, iv: usize, mo: usize, mv: usize, numbers: &[u8],
+    tally: Tally, station: u32, columns: u32, ho: usize, hv: usize, io: usize, iv: usize, mo: usize, mv: usize, numbers: &[u8],
     offsets: &[u8], rows: &[u8], values: &[u8], elements: &[u8],
     second_offsets: &[u8], second_rows: &[u8], second_values: &[u8], second_elements: &[u8],
     arguments: &[u8], argument_bits: &[u8],
@@ -46,9 +46,9 @@ pub fn run(
     requires trays { ⌜ TraysFit ho hv io iv ⌝ }
     requires offsets { ⌜ mo ≤ length (now o) ⌝ }
     requires values { ⌜ mv ≤ length (now v) ⌝ }
-    ensures { λ a. ⌜ ListRuns (recipeIn columns numbers offsets rows values elements «second_offsets» «second_rows» «second_values» «second_elements» arguments «argument_bits» (trayRoom ho «one_rows» hv «one_elements») (trayRoom io «two_rows» iv «two_elements»)) mo mv (a .answer) o «out_rows» v «out_elements» ⌝ }
+    ensures { λ a. ⌜ ListRuns (recipeIn station columns numbers offsets rows values elements «second_offsets» «second_rows» «second_values» «second_elements» arguments «argument_bits» (trayRoom ho «one_rows» hv «one_elements») (trayRoom io «two_rows» iv «two_elements»)) mo mv (a .answer) o «out_rows» v «out_elements» ⌝ }
     ensures { λ _. ⌜ Zero «one_rows» × Zero «one_elements» × Zero «two_rows» × Zero «two_elements» ⌝ }
-    ensures { λ a. ⌜ tallyOf (a .tally) ≡ tallied (recipeIn columns numbers offsets rows values elements «second_offsets» «second_rows» «second_values» «second_elements» arguments «argument_bits» (trayRoom ho «one_rows» hv «one_elements») (trayRoom io «two_rows» iv «two_elements») (room mo (size «out_rows») mv (size «out_elements»))) (tallyOf tally) ⌝ }
+    ensures { λ a. ⌜ tallyOf (a .tally) ≡ tallied station (recipeIn station columns numbers offsets rows values elements «second_offsets» «second_rows» «second_values» «second_elements» arguments «argument_bits» (trayRoom ho «one_rows» hv «one_elements») (trayRoom io «two_rows» iv «two_elements») (room mo (size «out_rows») mv (size «out_elements»))) (tallyOf tally) ⌝ }
 {
     let mut ns = [0u32; MOST_NUMBERS];
     let mut lo = [0i32; sizes::MOST_OFFSETS];
@@ -71,7 +71,8 @@ pub fn run(
     let pv = second_values.len() / 8;
     let na = arguments.len() / 8;
     recipes::run_recipe(
-        tally, &ns[..nn], columns as usize, &lo[..no], rows, &lv[..nv], elements,
+        tally, station, &ns[..nn], columns as usize,
+        &lo[..no], rows, &lv[..nv], elements,
         &so[..po], second_rows, &sv[..pv], second_elements,
         &la[..na], argument_bits,
         &mut ao[..ho], one_rows, &mut av[..hv], one_elements,

@@ -8,14 +8,14 @@ use Rattle.model.specs.Contract.{Slice, lent, lentArguments}
 use Rattle.model.specs.Form.{Room}
 use Rattle.model.specs.Limits.{narrow}
 use Rattle.model.specs.Outcome.{Outcome}
-use Rattle.model.specs.Recipe.{Recipe, recipeOutcome}
+use Rattle.model.specs.Recipe.{Recipe, recipeOutcome, stationed}
 use Rattle.recipe_refusal.specs.Refused as refused
 
 abbrev pub recipe : List ℕ → ℕ → Recipe
 recipe = refused.recipe
 
--- what a recipe comes to for the lengths of tray one, tray two and the output, of slices as the call begins: how many argument
--- columns, the recipe's numbers, the first list, the second list, and the argument columns
-abbrev pub recipeLent : ℕ → Slice ℕ → Slice ℤ → Slice ℕ → Slice ℤ → Slice ℕ → Slice ℤ → Slice ℕ → Slice ℤ → Slice ℕ → Slice ℤ → Slice ℕ → Room → Room → Room → Outcome (List Row)
-recipeLent columns ns o r v e so sr sv se a b =
-    recipeOutcome narrow (recipe (now (ns .entry)) columns) (lent o r v e) (lent so sr sv se) (lentArguments a b)
+-- what a recipe comes to for the lengths of tray one, tray two and the output, of slices as the call begins: the station, how many
+-- argument columns, the recipe's numbers, the first list, the second list, and the argument columns
+abbrev pub recipeLent : ℕ → ℕ → Slice ℕ → Slice ℤ → Slice ℕ → Slice ℤ → Slice ℕ → Slice ℤ → Slice ℕ → Slice ℤ → Slice ℕ → Slice ℤ → Slice ℕ → Room → Room → Room → Outcome (List Row)
+recipeLent station columns ns o r v e so sr sv se a b l m n =
+    stationed station (recipeOutcome narrow (recipe (now (ns .entry)) columns) (lent o r v e) (lent so sr sv se) (lentArguments a b) l m n)

@@ -1,19 +1,21 @@
 // Recipes: chains of list operations through two lent trays, with a tally. A recipe, a tray and a tally are document 01's own terms.
 mod call;
 
+use model::ListAnswer;
 use tally::RecipeAnswer;
 use tally::Tally;
 ghost use Rattle.model.specs.Contract.{Clears, ListAnswers, roomOf};
-ghost use Rattle.model.specs.Recipe.{tallied};
+ghost use Rattle.model.specs.Tally.{tallied};
 ghost use Rattle.recipes.specs.Recipes.{recipeLent};
 ghost use Rattle.tally.specs.Tallies.{tallyOf};
 ghost use mathlib.Core.Path.{_≡_};
 
-// Runs a recipe: its numbers, four a step, on the first list; the second list serves union and intersect; the argument columns, as
-// many as `columns` says, lie one after another in one slice with one bitmap. The trays are zero afterwards, whatever comes.
+// Runs a recipe for a station, 0 to 15: its numbers, four a step, on the first list; the second list serves union and intersect; the
+// argument columns, as many as `columns` says, lie one after another in one slice with one bitmap. The trays are zero afterwards, whatever
+// comes.
 #[rattlefmt::skip]
 pub fn run_recipe<'a>(
-    tally: Tally, numbers: &[u32], columns: usize,
+    tally: Tally, station: u32, numbers: &[u32], columns: usize,
     offsets: &[i32], rows: &[u8], values: &'a [i64], elements: &[u8],
     second_offsets: &[i32], second_rows: &[u8], second_values: &'a [i64], second_elements: &[u8],
     arguments: &[i64], argument_bits: &[u8],
@@ -21,21 +23,25 @@ pub fn run_recipe<'a>(
     two_offsets: &mut [i32], two_rows: &mut [u8], two_values: &mut [i64], two_elements: &mut [u8],
     out_offsets: &mut [i32], out_rows: &mut [u8], out_values: &mut [i64], out_elements: &mut [u8],
 ) -> RecipeAnswer
-    ensures { λ a. ⌜ ListAnswers (recipeLent columns numbers offsets rows values elements «second_offsets» «second_rows» «second_values» «second_elements» arguments «argument_bits» (roomOf «one_offsets» «one_rows» «one_values» «one_elements») (roomOf «two_offsets» «two_rows» «two_values» «two_elements»)) (a .answer) «out_offsets» «out_rows» «out_values» «out_elements» ⌝ }
+    ensures { λ a. ⌜ ListAnswers (recipeLent station columns numbers offsets rows values elements «second_offsets» «second_rows» «second_values» «second_elements» arguments «argument_bits» (roomOf «one_offsets» «one_rows» «one_values» «one_elements») (roomOf «two_offsets» «two_rows» «two_values» «two_elements»)) (a .answer) «out_offsets» «out_rows» «out_values» «out_elements» ⌝ }
     ensures { λ _. ⌜ Clears «one_offsets» «one_rows» «one_values» «one_elements» ⌝ }
     ensures { λ _. ⌜ Clears «two_offsets» «two_rows» «two_values» «two_elements» ⌝ }
-    ensures { λ a. ⌜ tallyOf (a .tally) ≡ tallied (recipeLent columns numbers offsets rows values elements «second_offsets» «second_rows» «second_values» «second_elements» arguments «argument_bits» (roomOf «one_offsets» «one_rows» «one_values» «one_elements») (roomOf «two_offsets» «two_rows» «two_values» «two_elements») (roomOf «out_offsets» «out_rows» «out_values» «out_elements»)) (tallyOf tally) ⌝ }
+    ensures { λ a. ⌜ tallyOf (a .tally) ≡ tallied station (recipeLent station columns numbers offsets rows values elements «second_offsets» «second_rows» «second_values» «second_elements» arguments «argument_bits» (roomOf «one_offsets» «one_rows» «one_values» «one_elements») (roomOf «two_offsets» «two_rows» «two_values» «two_elements») (roomOf «out_offsets» «out_rows» «out_values» «out_elements»)) (tallyOf tally) ⌝ }
 {
-    let answer = call::attempt(
-        numbers, columns,
-        offsets, rows, 0, values, elements, 0,
-        second_offsets, second_rows, 0, second_values, second_elements, 0,
-        arguments, argument_bits, 0,
-        one_offsets, one_rows, one_values, one_elements,
-        two_offsets, two_rows, two_values, two_elements,
-        out_offsets, out_rows, out_values, out_elements,
-    );
+    let answer = if station > 15 {
+        ListAnswer::Refused(15)
+    } else {
+        call::attempt(
+            numbers, columns,
+            offsets, rows, 0, values, elements, 0,
+            second_offsets, second_rows, 0, second_values, second_elements, 0,
+            arguments, argument_bits, 0,
+            one_offsets, one_rows, one_values, one_elements,
+            two_offsets, two_rows, two_values, two_elements,
+            out_offsets, out_rows, out_values, out_elements,
+        )
+    };
     copies::clear(one_offsets, one_rows, one_values, one_elements);
     copies::clear(two_offsets, two_rows, two_values, two_elements);
-    tally::settle(tally, answer)
+    tally::settle(tally, station, answer)
 }

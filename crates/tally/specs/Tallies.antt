@@ -3,8 +3,8 @@ use Prim.Native.Nat.{ℕ}
 use mathlib.Core.List.{List}
 use Rattle.model.specs.Call.{Answer, refusal, counts}
 use Rattle.model.specs.Outcome.{Outcome, refused, made}
-use Rattle.model.specs.Recipe.{tallied}
-use Rattle.model.specs.Recipe as R
+use Rattle.model.specs.Tally.{tallied}
+use Rattle.model.specs.Tally as R
 use Rattle.tally.specs.declared.Tally.{Tally}
 
 abbrev pub tallyOf : Tally → R.Tally
@@ -15,6 +15,6 @@ unfoldable pub outcomeOf : Answer → Outcome (List ℕ)
 outcomeOf (refusal k) = refused k
 outcomeOf (counts ns) = made ns
 
--- the tally after an answer: the rule is `tallied`
-abbrev pub talliedBy : Answer → R.Tally → R.Tally
-talliedBy a t = tallied (outcomeOf a) t
+-- the tally after an answer to a call that names station s: the rule is `tallied`
+abbrev pub talliedBy : ℕ → Answer → R.Tally → R.Tally
+talliedBy s a t = tallied s (outcomeOf a) t

@@ -264,7 +264,7 @@ ss e =
     ++ listSizes (length (a .out-offsets .now)) (length (a .out-values .now))
 
 -- the sizes have passed
-passed : (e : tie.Else1) → (16 ≤ length (S e .args .tally .now)) × Sized (ss e) (length (S e .args .counts .now)) 32
+passed : (e : tie.Else1) → (256 ≤ length (S e .args .tally .now)) × Sized (ss e) (length (S e .args .counts .now)) 32
 passed e = recipe-sized _ _ _ (sym (recipe-refusal-of-else1 e .recipe-refusal .ensures) ∙ e .if1 .left)
 
 recipe-refusal-requires : tie.Need-recipe-refusal-requires
@@ -321,7 +321,7 @@ returns c =
       list-refused _ (size-refused _ _ refl k t),
       (x .0, y .0, x .1 .0, y .1 .0),
       (x .1 .1 .0, y .1 .1 .0, x .1 .1 .1, y .1 .1 .1),
-      not-counted _ k t,
+      not-counted _ _ k t,
     )
 
 get-tally-requires : tie.Need-get-tally-requires
@@ -355,43 +355,43 @@ put-list-requires c κs =
     let a = S e .args in
     let f = all-fit (length (a .numbers .now)) (length (a .arguments .now)) (length (a .offsets .now)) (length (a .values .now)) (length (a .second-offsets .now)) (length (a .second-values .now)) (length (a .one-offsets .now)) (length (a .one-values .now)) (length (a .two-offsets .now)) (length (a .two-values .now)) (length (a .out-offsets .now)) (length (a .out-values .now)) (passed e .1 .fit) in
     let r = run-of-put-list-arg3 c .run in
-    ready (r .ensures .0) (rw (r .kept .1 .1 .1 .1 .1 .1 .1 .1 .1 .1 .1 .1 .1 .1 .1 .1 .1 .1 .1 .1 .1 .1 .1 .0) (f .2 .offsets)) (rw (r .kept .1 .1 .1 .1 .1 .1 .1 .1 .1 .1 .1 .1 .1 .1 .1 .1 .1 .1 .1 .1 .1 .1 .1 .1 .1 .0) (f .2 .values)) refl refl (passed e .1 .counts)
+    ready (r .ensures .0) (rw (r .kept .1 .1 .1 .1 .1 .1 .1 .1 .1 .1 .1 .1 .1 .1 .1 .1 .1 .1 .1 .1 .1 .1 .1 .1 .0) (f .2 .offsets)) (rw (r .kept .1 .1 .1 .1 .1 .1 .1 .1 .1 .1 .1 .1 .1 .1 .1 .1 .1 .1 .1 .1 .1 .1 .1 .1 .1 .1 .0) (f .2 .values)) refl refl (passed e .1 .counts)
 
 same-length-9 : tie.Need-same-length-9
 same-length-9 c = clear-four-of-slice-known32 c .clear-four .kept .0
 
 same-length-10 : tie.Need-same-length-10
-same-length-10 c = run-of-slice-known32 c .run .kept .1 .1 .1 .1 .1 .1 .1 .1 .1 .1 .1 .1 .1 .1 .1 .1 .1 .1 .1 .0
+same-length-10 c = run-of-slice-known32 c .run .kept .1 .1 .1 .1 .1 .1 .1 .1 .1 .1 .1 .1 .1 .1 .1 .1 .1 .1 .1 .1 .0
 
 same-length-11 : tie.Need-same-length-11
 same-length-11 c = clear-four-of-slice-known32 c .clear-four .kept .1 .0
 
 same-length-12 : tie.Need-same-length-12
-same-length-12 c = run-of-slice-known32 c .run .kept .1 .1 .1 .1 .1 .1 .1 .1 .1 .1 .1 .1 .1 .1 .1 .1 .1 .1 .1 .1 .0
+same-length-12 c = run-of-slice-known32 c .run .kept .1 .1 .1 .1 .1 .1 .1 .1 .1 .1 .1 .1 .1 .1 .1 .1 .1 .1 .1 .1 .1 .0
 
 same-length-13 : tie.Need-same-length-13
 same-length-13 c = clear-four-of-slice-known32 c .clear-four .kept .1 .1 .0
 
 same-length-14 : tie.Need-same-length-14
-same-length-14 c = run-of-slice-known32 c .run .kept .1 .1 .1 .1 .1 .1 .1 .1 .1 .1 .1 .1 .1 .1 .1 .1 .1 .1 .1 .1 .1 .0
+same-length-14 c = run-of-slice-known32 c .run .kept .1 .1 .1 .1 .1 .1 .1 .1 .1 .1 .1 .1 .1 .1 .1 .1 .1 .1 .1 .1 .1 .1 .0
 
 same-length-15 : tie.Need-same-length-15
 same-length-15 c = clear-four-of-slice-known32 c .clear-four .kept .1 .1 .1 .0
 
 same-length-16 : tie.Need-same-length-16
-same-length-16 c = run-of-slice-known32 c .run .kept .1 .1 .1 .1 .1 .1 .1 .1 .1 .1 .1 .1 .1 .1 .1 .1 .1 .1 .1 .1 .1 .1 .0
+same-length-16 c = run-of-slice-known32 c .run .kept .1 .1 .1 .1 .1 .1 .1 .1 .1 .1 .1 .1 .1 .1 .1 .1 .1 .1 .1 .1 .1 .1 .1 .0
 
 same-length-17 : tie.Need-same-length-17
 same-length-17 c = put-list-of-slice-known32 c .put-list .kept .1 .1 .1 .0
 
 same-length-18 : tie.Need-same-length-18
-same-length-18 c = run-of-slice-known32 c .run .kept .1 .1 .1 .1 .1 .1 .1 .1 .1 .1 .1 .1 .1 .1 .1 .1 .1 .1 .1 .1 .1 .1 .1 .1 .0
+same-length-18 c = run-of-slice-known32 c .run .kept .1 .1 .1 .1 .1 .1 .1 .1 .1 .1 .1 .1 .1 .1 .1 .1 .1 .1 .1 .1 .1 .1 .1 .1 .1 .0
 
 same-length-19 : tie.Need-same-length-19
 same-length-19 c = put-list-of-slice-known32 c .put-list .kept .1 .1 .1 .1 .0
 
 same-length-20 : tie.Need-same-length-20
-same-length-20 c = run-of-slice-known32 c .run .kept .1 .1 .1 .1 .1 .1 .1 .1 .1 .1 .1 .1 .1 .1 .1 .1 .1 .1 .1 .1 .1 .1 .1 .1 .1 .1 .0
+same-length-20 c = run-of-slice-known32 c .run .kept .1 .1 .1 .1 .1 .1 .1 .1 .1 .1 .1 .1 .1 .1 .1 .1 .1 .1 .1 .1 .1 .1 .1 .1 .1 .1 .1 .0
 
 same-length-21 : tie.Need-same-length-21
 same-length-21 c = put-list-of-slice-known32 c .put-list .kept .1 .1 .1 .1 .1 .0
@@ -407,11 +407,11 @@ returns-2 c =
     let m = run-of-slice-known32 c .run .ensures in
     let one = same-room _ _ (offsets-in-of-slice-known32 c .offsets-in .ensures) (values-in-of-slice-known32 c .values-in .ensures) in
     let two = same-room _ _ (offsets-in2-of-slice-known32 c .offsets-in2 .ensures) (values-in2-of-slice-known32 c .values-in2 .ensures) in
-    let h = same-trays _ _ _ _ _ one two in (
+    let h = same-trays _ _ _ _ _ _ one two in (
       list-as (called _ _ refl k (e .if1 .left) ∙ h) (list-returns (m .0) (put-list-of-slice-known32 c .put-list .ensures)),
       (x .0, m .1 .0 .0, x .1 .0, m .1 .0 .1),
       (x .1 .1 .0, m .1 .0 .2, x .1 .1 .1, m .1 .0 .3),
-      counted _ k _ (e .if1 .left) (tally-put _ (put-tally-of-slice-known32 c .put-tally .ensures) (m .1 .1) (get-tally-of-slice-known32 c .get-tally .ensures) h),
+      counted _ _ k _ (e .if1 .left) (tally-put _ _ (put-tally-of-slice-known32 c .put-tally .ensures) (m .1 .1) (get-tally-of-slice-known32 c .get-tally .ensures) h),
     )
 
 pub enter-spec : {M : Type 1} → statement M

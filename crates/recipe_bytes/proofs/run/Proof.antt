@@ -307,34 +307,34 @@ run-recipe-requires : tie.Need-run-recipe-requires
 run-recipe-requires c κs = search needs
 
 same-length : tie.Need-same-length
-same-length c = run-recipe-of-slice-known12 c .run-recipe .kept .1 .1 .1 .1 .1 .1 .1 .1 .1 .1 .1 .1 .1 .1 .0
+same-length c = run-recipe-of-slice-known12 c .run-recipe .kept .1 .1 .1 .1 .1 .1 .1 .1 .1 .1 .1 .1 .1 .1 .1 .0
 
 same-length-2 : tie.Need-same-length-2
-same-length-2 c = run-recipe-of-slice-known12 c .run-recipe .kept .1 .1 .1 .1 .1 .1 .1 .1 .1 .1 .1 .1 .1 .1 .1 .1 .0
+same-length-2 c = run-recipe-of-slice-known12 c .run-recipe .kept .1 .1 .1 .1 .1 .1 .1 .1 .1 .1 .1 .1 .1 .1 .1 .1 .1 .0
 
 same-length-3 : tie.Need-same-length-3
-same-length-3 c = run-recipe-of-slice-known12 c .run-recipe .kept .1 .1 .1 .1 .1 .1 .1 .1 .1 .1 .1 .1 .1 .1 .1 .1 .1 .1 .0
+same-length-3 c = run-recipe-of-slice-known12 c .run-recipe .kept .1 .1 .1 .1 .1 .1 .1 .1 .1 .1 .1 .1 .1 .1 .1 .1 .1 .1 .1 .0
 
 same-length-4 : tie.Need-same-length-4
-same-length-4 c = run-recipe-of-slice-known12 c .run-recipe .kept .1 .1 .1 .1 .1 .1 .1 .1 .1 .1 .1 .1 .1 .1 .1 .1 .1 .1 .1 .1 .0
+same-length-4 c = run-recipe-of-slice-known12 c .run-recipe .kept .1 .1 .1 .1 .1 .1 .1 .1 .1 .1 .1 .1 .1 .1 .1 .1 .1 .1 .1 .1 .1 .0
 
 same-length-5 : tie.Need-same-length-5
 same-length-5 c =
     let k = run-recipe-of-slice-known12 c .run-recipe in
     let s = start-of-slice-known12 c in
-    whole (k .last .1 .1 .1 .1 .1 .1 .1 .1 .1 .1 .1 .1 .1 .1 .1 .1 .1 .1 .1 .1 .1 .0) (s .args .o .now) (s .args .mo) (s .pre .1 .1 .0) (k .kept .1 .1 .1 .1 .1 .1 .1 .1 .1 .1 .1 .1 .1 .1 .1 .1 .1 .1 .1 .1 .1 .0)
+    whole (k .last .1 .1 .1 .1 .1 .1 .1 .1 .1 .1 .1 .1 .1 .1 .1 .1 .1 .1 .1 .1 .1 .1 .0) (s .args .o .now) (s .args .mo) (s .pre .1 .1 .0) (k .kept .1 .1 .1 .1 .1 .1 .1 .1 .1 .1 .1 .1 .1 .1 .1 .1 .1 .1 .1 .1 .1 .1 .0)
 
 same-length-6 : tie.Need-same-length-6
-same-length-6 c = run-recipe-of-slice-known12 c .run-recipe .kept .1 .1 .1 .1 .1 .1 .1 .1 .1 .1 .1 .1 .1 .1 .1 .1 .1 .1 .1 .1 .1 .1 .0
+same-length-6 c = run-recipe-of-slice-known12 c .run-recipe .kept .1 .1 .1 .1 .1 .1 .1 .1 .1 .1 .1 .1 .1 .1 .1 .1 .1 .1 .1 .1 .1 .1 .1 .0
 
 same-length-7 : tie.Need-same-length-7
 same-length-7 c =
     let k = run-recipe-of-slice-known12 c .run-recipe in
     let s = start-of-slice-known12 c in
-    whole (k .last .1 .1 .1 .1 .1 .1 .1 .1 .1 .1 .1 .1 .1 .1 .1 .1 .1 .1 .1 .1 .1 .1 .1 .0) (s .args .v .now) (s .args .mv) (s .pre .1 .1 .1) (k .kept .1 .1 .1 .1 .1 .1 .1 .1 .1 .1 .1 .1 .1 .1 .1 .1 .1 .1 .1 .1 .1 .1 .1 .0)
+    whole (k .last .1 .1 .1 .1 .1 .1 .1 .1 .1 .1 .1 .1 .1 .1 .1 .1 .1 .1 .1 .1 .1 .1 .1 .1 .0) (s .args .v .now) (s .args .mv) (s .pre .1 .1 .1) (k .kept .1 .1 .1 .1 .1 .1 .1 .1 .1 .1 .1 .1 .1 .1 .1 .1 .1 .1 .1 .1 .1 .1 .1 .1 .0)
 
 same-length-8 : tie.Need-same-length-8
-same-length-8 c = run-recipe-of-slice-known12 c .run-recipe .kept .1 .1 .1 .1 .1 .1 .1 .1 .1 .1 .1 .1 .1 .1 .1 .1 .1 .1 .1 .1 .1 .1 .1 .1 .0
+same-length-8 c = run-recipe-of-slice-known12 c .run-recipe .kept .1 .1 .1 .1 .1 .1 .1 .1 .1 .1 .1 .1 .1 .1 .1 .1 .1 .1 .1 .1 .1 .1 .1 .1 .1 .0
 
 returns : tie.Need-returns
 returns c =
@@ -348,9 +348,9 @@ returns c =
     let one = same-room _ _ (length-take-le _ _ (p .one-offsets)) (length-take-le _ _ (p .one-values)) in
     let two = same-room _ _ (length-take-le _ _ (p .two-offsets)) (length-take-le _ _ (p .two-values)) in
     let out = same-room _ _ (length-take-le _ _ (q .0)) (length-take-le _ _ (q .1)) in
-    let e = recipe-decoded (s .args .columns) _ _ _ _ _ (get-numbers-of-slice-known12 c .get-numbers .ensures) (d .offsets) (d .values) (b .offsets) (b .values) (get-values-of-slice-known12 c .get-values .ensures) one two out in (
-      list-ran (s .args .mo) (s .args .mv) (s .args .o .now) (s .args .v .now) (m .0) (k .kept .1 .1 .1 .1 .1 .1 .1 .1 .1 .1 .1 .1 .1 .1 .1 .1 .1 .1 .1 .1 .1 .0) (k .kept .1 .1 .1 .1 .1 .1 .1 .1 .1 .1 .1 .1 .1 .1 .1 .1 .1 .1 .1 .1 .1 .1 .1 .0) (q .0) (q .1) e,
-      ((m .1 .0 .rows, m .1 .0 .elements, m .1 .1 .0 .rows, m .1 .1 .0 .elements), tallied-as _ e (m .1 .1 .1)),
+    let e = recipe-decoded (s .args .station) (s .args .columns) _ _ _ _ _ (get-numbers-of-slice-known12 c .get-numbers .ensures) (d .offsets) (d .values) (b .offsets) (b .values) (get-values-of-slice-known12 c .get-values .ensures) one two out in (
+      list-ran (s .args .mo) (s .args .mv) (s .args .o .now) (s .args .v .now) (m .0) (k .kept .1 .1 .1 .1 .1 .1 .1 .1 .1 .1 .1 .1 .1 .1 .1 .1 .1 .1 .1 .1 .1 .1 .0) (k .kept .1 .1 .1 .1 .1 .1 .1 .1 .1 .1 .1 .1 .1 .1 .1 .1 .1 .1 .1 .1 .1 .1 .1 .1 .0) (q .0) (q .1) e,
+      ((m .1 .0 .rows, m .1 .0 .elements, m .1 .1 .0 .rows, m .1 .1 .0 .elements), tallied-as _ _ e (m .1 .1 .1)),
     )
 
 pub run-spec : {M : Type 1} → statement M

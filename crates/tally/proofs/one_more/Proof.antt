@@ -1,7 +1,7 @@
 use borrow.Author.Tests.{lt-ltb, le-ltb}
 use native.Mathlib.Omega.{arith}
 use Rattle.model.specs.Limits.{largest}
-use Rattle.model.specs.Recipe.{oneMore}
+use Rattle.model.specs.Tally.{oneMore}
 use borrow.Author.Needs.{needs}
 use Rattle.tally.proofs.one_more.Statement.{statement}
 use Rattle.tally.proofs.one_more.Tie as tie

@@ -1,6 +1,6 @@
 use mathlib.Core.Path.{refl}
 use Rattle.model.specs.Contract.{told}
-use Rattle.model.specs.Recipe.{tallied}
+use Rattle.model.specs.Tally.{moveOf, outcomeAt}
 use Rattle.tally.specs.Tallies.{outcomeOf}
 use borrow.Author.Needs.{needs}
 use Rattle.tally.proofs.settle.Statement.{statement}
@@ -19,11 +19,11 @@ with-finished-requires : tie.Need-with-finished-requires
 with-finished-requires c κs = search needs
 
 returns : tie.Need-returns
-unfolding told outcomeOf tallied
+unfolding told outcomeOf moveOf outcomeAt
 returns c = (refl, rw (c .with-refused .ensures, c .before .enum-told .given .1))
 
 returns-2 : tie.Need-returns-2
-unfolding told outcomeOf tallied
+unfolding told outcomeOf moveOf outcomeAt
 returns-2 c = (refl, rw (c .with-finished .ensures, c .before .enum-told2 .given .1))
 
 pub settle-spec : {M : Type 1} → statement M

@@ -1,17 +1,17 @@
--- The two counts, in the tally's order.
+-- The counts, in the tally's order.
+use native.Mathlib.Omega.{arith}
 use Rattle.tally_bytes.proofs.TallyLaws.{tally-is}
-use borrow.Author.Needs.{needs}
 use Rattle.tally_bytes.proofs.get_tally.Statement.{statement}
 use Rattle.tally_bytes.proofs.get_tally.Tie as tie
 
-get-u64-requires : tie.Need-get-u64-requires
-get-u64-requires c κs = search needs
+get-counts-requires : tie.Need-get-counts-requires
+get-counts-requires c κs = omega arith
 
-get-u64-requires-2 : tie.Need-get-u64-requires-2
-get-u64-requires-2 c κs = search needs
+get-counts-requires-2 : tie.Need-get-counts-requires-2
+get-counts-requires-2 c κs = omega arith
 
 returns : tie.Need-returns
-returns c = tally-is _ (c .before .get-u64 .ensures) (c .get-u642 .ensures)
+returns c = tally-is _ (c .before .get-counts .ensures) (c .get-counts2 .ensures)
 
 pub get-tally-spec : {M : Type 1} → statement M
-get-tally-spec = tie.close (tie.spec get-u64-requires get-u64-requires-2 returns)
+get-tally-spec = tie.close (tie.spec get-counts-requires get-counts-requires-2 returns)

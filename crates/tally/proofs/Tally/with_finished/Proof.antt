@@ -1,12 +1,41 @@
+use Rattle.tally.specs.Tallies.{tallyOf}
+use Rattle.tally.proofs.TallyLaws.{no-station, finished-stored}
 use borrow.Author.Needs.{needs}
 use Rattle.tally.proofs.Tally.with_finished.Statement.{statement}
 use Rattle.tally.proofs.Tally.with_finished.Tie as tie
 
-one-more-requires : tie.Need-one-more-requires
-one-more-requires c κs = search needs
-
 returns : tie.Need-returns
-returns c = rw (c .one-more .ensures)
+returns c = no-station _ _ _ (c .if1 .taken)
+
+mul-n : tie.Need-mul-n
+mul-n c = search needs
+
+element-copy-out-n : tie.Need-element-copy-out-n
+element-copy-out-n c = search needs
+
+one-more-requires : tie.Need-one-more-requires
+one-more-requires c κs = tt
+
+mul-next : tie.Need-mul-next
+mul-next c = search needs
+
+element-write-next : tie.Need-element-write-next
+element-write-next c = search needs
+
+returns-2 : tie.Need-returns-2
+returns-2 c =
+    let e = c .before .before in
+    let a = e .before .args in
+    finished-stored (a .station) (tallyOf (a .self)) (e .if1 .left) (c .one-more .ensures)
 
 pub with-finished-spec : {M : Type 1} → statement M
-with-finished-spec = tie.close (tie.spec one-more-requires returns)
+with-finished-spec =
+    tie.close
+    (tie.spec
+    returns
+    mul-n
+    element-copy-out-n
+    one-more-requires
+    mul-next
+    element-write-next
+    returns-2)

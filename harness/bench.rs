@@ -112,8 +112,10 @@ fn columns_of(
     roles.iter().enumerate().map(column).collect()
 }
 
-fn layout_of(nulls: Nulls) -> Layout {
+fn layout_of(nulls: Nulls, start: u32) -> Layout {
     Layout {
+        rows_start: start,
+        elements_start: start,
         absent_bitmaps: nulls == Nulls::NoBitmaps,
         under_null_rows: usize::from(nulls == Nulls::OneInEight),
         numbers_under_nulls: true,
@@ -121,9 +123,10 @@ fn layout_of(nulls: Nulls) -> Layout {
     }
 }
 
-fn load(entry: Entry, length: usize, nulls: Nulls) -> Case {
+/// A call with all its bitmaps from this bit.
+fn load(entry: Entry, length: usize, nulls: Nulls, start: u32) -> Case {
     if entry.is_recipe() {
-        return load_recipe(length, nulls);
+        return load_recipe(length, nulls, start);
     }
 
     let mut rng = Rng::new(1, "bench");
@@ -133,7 +136,8 @@ fn load(entry: Entry, length: usize, nulls: Nulls) -> Case {
     if entry.lists() == 2 {
         lists.push(right_of(&lists[0], nulls, &mut rng));
     }
-    let input = input_of(entry, &Shown { lists, arguments }, &[layout_of(nulls)], &mut rng);
+    let layout = layout_of(nulls, start);
+    let input = input_of(entry, &Shown { lists, arguments }, &[layout], &mut rng);
     lend(&input, Room::Exact, &mut rng)
 }
 
@@ -161,13 +165,13 @@ const RECIPE: [[u32; 4]; 8] = [
     [0, 0, 0, 0],
 ];
 
-fn load_recipe(length: usize, nulls: Nulls) -> Case {
+fn load_recipe(length: usize, nulls: Nulls, start: u32) -> Case {
     let mut rng = Rng::new(1, "bench");
     let rows = rows_of(Entry::of(Operation::Resize), length, nulls, &mut rng);
     let second = right_of(&rows, nulls, &mut rng);
     let columns = columns_of(&RECIPE_ROLES, &rows, length, nulls, &mut rng);
     let shown = RecipeShown { steps: RECIPE.to_vec(), lists: [rows, second], columns };
-    let input = recipe_input(&shown, &[layout_of(nulls)], &mut rng);
+    let input = recipe_input(&shown, &[layout_of(nulls, start)], &mut rng);
     lend_recipe(&input, Room::Exact, &mut rng)
 }
 
@@ -177,7 +181,8 @@ fn time(library: &Library, case: &mut Case, repeats: u128) -> f64 {
     let mut outputs: Vec<&mut [u8]> = case.outputs.iter_mut().map(Vec::as_mut_slice).collect();
     let start = Instant::now();
     for _ in 0..repeats {
-        let answer = library.call(case.entry, black_box(&inputs), &mut outputs, &mut case.counts);
+        let (lent, starts) = (black_box(&inputs), black_box(&case.starts));
+        let answer = library.call(case.entry, lent, starts, &mut outputs, &mut case.counts);
         assert_eq!(black_box(answer), 0, "a benchmark call is accepted");
     }
     start.elapsed().as_nanos() as f64 / repeats as f64
@@ -201,14 +206,19 @@ fn check_equal(libraries: &[&Library], case: &Case) {
 }
 
 /// Times the port, which is the first library, and the others beside it.
-fn print_line(name: &str, libraries: &[&Library], entry: Entry, length: usize, nulls: Nulls) {
-    let mut case = load(entry, length, nulls);
+fn print_line(
+    name: &str,
+    libraries: &[&Library],
+    entry: Entry,
+    (length, nulls, start): (usize, Nulls, u32),
+) {
+    let mut case = load(entry, length, nulls, start);
     check_equal(libraries, &case);
     let repeats = repeats_for(libraries, &mut case);
     let mut least = vec![f64::INFINITY; libraries.len()];
-    let start = Instant::now();
+    let begun = Instant::now();
     for round in 0..MOST_ROUNDS {
-        if round >= LEAST_ROUNDS && start.elapsed() > LINE_TIME {
+        if round >= LEAST_ROUNDS && begun.elapsed() > LINE_TIME {
             break;
         }
         for (least, library) in least.iter_mut().zip(libraries) {
@@ -217,7 +227,7 @@ fn print_line(name: &str, libraries: &[&Library], entry: Entry, length: usize, n
     }
     let offsets = usize::from(entry.is_recipe());
     let rows = case.inputs[offsets].len() / 4 - 1;
-    print!("{name:<22} {length:>6} {rows:>6} {:>7}", nulls.name());
+    print!("{name:<22} {length:>6} {rows:>6} {:>7} {start:>5}", nulls.name());
     for time in &least {
         print!(" {:>10.2}", time / 1000.0);
     }
@@ -230,13 +240,16 @@ fn print_line(name: &str, libraries: &[&Library], entry: Entry, length: usize, n
 fn print_lines(name: &str, libraries: &[&Library], entry: Entry) {
     for length in [8, 100, 4000] {
         for nulls in Nulls::ALL {
-            print_line(name, libraries, entry, length, nulls);
+            print_line(name, libraries, entry, (length, nulls, 0));
+            if nulls != Nulls::NoBitmaps {
+                print_line(name, libraries, entry, (length, nulls, 3));
+            }
         }
     }
 }
 
 fn print_heading(times: &[&str], ratios: &[&str]) {
-    print!("{:<22} {:>6} {:>6} {:>7}", "operation", "length", "rows", "nulls");
+    print!("{:<22} {:>6} {:>6} {:>7} {:>5}", "operation", "length", "rows", "nulls", "start");
     times.iter().for_each(|name| print!(" {name:>10}"));
     ratios.iter().for_each(|name| print!(" {name:>9}"));
     println!();
@@ -248,6 +261,7 @@ pub fn print(port: &Library) {
     );
     println!("in place: the plain Rust reads and writes numbers where they lie");
     println!("decoded: it decodes into arrays on the stack, and encodes, as the port does");
+    println!("start: the starting bit of all bitmaps lent");
     println!("the buffers are not cleared between calls");
     print_heading(&["port", "in place", "decoded"], &["/in place", "/decoded"]);
     for entry in port.operations() {

@@ -95,13 +95,16 @@ pub struct Checker<'a> {
     group: String,
     pub calls: u64,
     pub differences: u64,
+    /// Whether it is recorded what the calls reach.
+    pub records: bool,
     pub coverage: Coverage,
 }
 
 impl<'a> Checker<'a> {
     pub fn new(library: &'a Library, replay: String, trace: bool, stop: bool) -> Checker<'a> {
         let (group, coverage) = (String::new(), Coverage::default());
-        Checker { library, replay, trace, stop, group, calls: 0, differences: 0, coverage }
+        let (calls, differences, records) = (0, 0, true);
+        Checker { library, replay, trace, stop, group, calls, differences, records, coverage }
     }
 
     pub fn start_group(&mut self, name: &str) {
@@ -116,7 +119,9 @@ impl<'a> Checker<'a> {
         kind: &'static str,
         subject: impl Into<Cow<'static, str>>,
     ) {
-        self.coverage.count(case.entry.name(), kind, subject);
+        if self.records {
+            self.coverage.count(case.entry.name(), kind, subject);
+        }
     }
 
     /// Makes the call and compares everything with the model.
@@ -126,7 +131,9 @@ impl<'a> Checker<'a> {
             eprintln!("{}: call {}", self.group, self.calls);
         }
         let expected = case.expected();
-        self.record_coverage(case, &expected);
+        if self.records {
+            self.record_coverage(case, &expected);
+        }
         let inputs = Arena::new(case.inputs.iter());
         let lent = Arena::new(case.outputs.iter().chain([&case.counts]));
         let mut inputs_after = inputs.clone();
@@ -163,16 +170,24 @@ impl<'a> Checker<'a> {
         };
         let start = first.start();
         self.require(start.is_some(), first, "a pair of which a column is not well-formed");
-        let met = coverage::shared_met(first, first.expected().number);
+        let met = match self.records {
+            true => coverage::shared_met(first, first.expected().number),
+            false => Vec::new(),
+        };
         for (other, other_answer) in others {
             self.require(other.start() == start, other, "a pair that starts from unequal things");
             if answer != other_answer {
                 let fault = format!("answers differ: {answer:?} and {other_answer:?}");
                 self.report(first, &[fault]);
                 self.report(other, &["the second of these".to_string()]);
-            } else if first.inputs != other.inputs {
+            } else if self.records
+                && (&first.inputs, &first.starts) != (&other.inputs, &other.starts)
+            {
                 met.iter().for_each(|subject| self.covered(other, SHARED, subject.clone()));
                 for subject in coverage::offsets_apart(first, other, answer.number) {
+                    self.covered(other, SHARED, subject);
+                }
+                for subject in coverage::starts_apart(first, other, answer.number) {
                     self.covered(other, SHARED, subject);
                 }
             }
@@ -209,6 +224,9 @@ impl<'a> Checker<'a> {
         self.covered(case, "answer", expected.number.to_string());
         for subject in coverage::no_offsets_met(case, expected.number) {
             self.covered(case, "no offsets", subject);
+        }
+        for subject in coverage::starts_met(case, expected.number) {
+            self.covered(case, "start", subject);
         }
         if case.entry.is_recipe() {
             return self.record_recipe(case, expected);
@@ -266,7 +284,7 @@ impl<'a> Checker<'a> {
 fn call(library: &Library, case: &Case, inputs: &mut Arena, outputs: &mut Arena) -> u32 {
     let mut slices = outputs.slices_mut();
     let (counts, outputs) = slices.split_last_mut().expect("counts are always lent");
-    library.call(case.entry, &inputs.slices(), outputs, counts)
+    library.call(case.entry, &inputs.slices(), &case.starts, outputs, counts)
 }
 
 /// The slots of the values that an accepted call writes.
@@ -370,8 +388,11 @@ fn show(kind: SliceKind, bytes: &[u8]) -> String {
 
 fn print_case(case: &Case) {
     println!("  operation {} ({:?})", case.entry.name(), case.entry);
+    let mut starts = case.starts.iter();
     for (kind, bytes) in case.entry.inputs().into_iter().zip(&case.inputs) {
-        println!("  {}: {}", kind.name, show(kind, bytes));
+        let start = if kind.content == Content::Bits { starts.next() } else { None };
+        let start = start.map_or(String::new(), |start| format!(" from bit {start}"));
+        println!("  {}: {}{start}", kind.name, show(kind, bytes));
     }
     for (kind, bytes) in case.entry.outputs().iter().zip(&case.outputs) {
         println!("  {} before: {}", kind.name, show(*kind, bytes));

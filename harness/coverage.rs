@@ -10,8 +10,8 @@ use crate::entry::{decode_i64, Case, Content, Entry, Expected, Input, SliceKind}
 use crate::generate::{Column, Harm};
 use crate::library::Library;
 use crate::model::{
-    self, bitmap_bytes, is_too_short, is_valid, ArgumentColumn, Element, ListColumn, Made,
-    Operation, Role, Row, Shown, UNDER_NULL,
+    self, is_valid, ArgumentColumn, Bitmap, Element, ListColumn, Made, Operation, Role, Row, Shown,
+    UNDER_NULL,
 };
 use crate::recipe_coverage;
 use crate::strides;
@@ -64,7 +64,7 @@ pub fn row_count(input: &Input) -> Option<&'static str> {
 
 // Layouts.
 
-pub const LIST_LAYOUTS: [&str; 19] = [
+pub const LIST_LAYOUTS: [&str; 20] = [
     "no offsets",
     "no offsets beside values",
     "no offsets beside an element bitmap",
@@ -79,6 +79,7 @@ pub const LIST_LAYOUTS: [&str; 19] = [
     "another number under a null element",
     "valid -9223372036854775808 beside a null",
     "spare bit set",
+    "bit before the start set",
     "row bitmap just long enough",
     "element bitmap just long enough",
     "bitmap longer than needed",
@@ -86,18 +87,20 @@ pub const LIST_LAYOUTS: [&str; 19] = [
     "absent element bitmap",
 ];
 
-pub const ARGUMENT_LAYOUTS: [&str; 8] = [
+pub const ARGUMENT_LAYOUTS: [&str; 9] = [
     "0 under a null",
     "-9223372036854775808 under a null",
     "negative number under a null",
     "number beyond 32 bits under a null",
     "spare bit set",
+    "bit before the start set",
     "bitmap just long enough",
     "bitmap longer than needed",
     "absent bitmap",
 ];
 
-const UNTAKEN_LAYOUTS: [&str; 3] = [
+const UNTAKEN_LAYOUTS: [&str; 4] = [
+    "untaken column from a bit over 7",
     "untaken column of another length",
     "untaken column with a short bitmap",
     "untaken column with a null",
@@ -124,11 +127,12 @@ fn layout_name(column: Column, entry: Entry, name: &str) -> String {
 fn untaken_layouts(input: &Input) -> impl Iterator<Item = &'static str> + use<'_> {
     let rows = input.lists[0].row_count();
     input.arguments[input.taken().len()..].iter().flat_map(move |one| {
-        let short = is_too_short(&one.bits, one.values.len());
+        let short = one.bits.is_too_short(one.values.len());
         let holds = [
+            one.bits.starts_over_7(),
             one.values.len() != rows,
             short,
-            !short && (0..one.values.len()).any(|row| !is_valid(&one.bits, row)),
+            !short && (0..one.values.len()).any(|row| !one.bits.is_valid(row)),
         ];
         chosen(UNTAKEN_LAYOUTS, holds)
     })
@@ -140,23 +144,23 @@ pub fn list_layouts(list: &ListColumn) -> Vec<&'static str> {
     let first = list.offsets.first().copied().unwrap_or(0);
     let last = list.offsets.last().copied().unwrap_or(0);
     let places = |row: usize| list.offsets[row] as usize..list.offsets[row + 1] as usize;
-    let shown = || (0..rows).filter(|row| is_valid(&list.rows, *row)).flat_map(places);
+    let shown = || (0..rows).filter(|row| list.rows.is_valid(*row)).flat_map(places);
     let hides = |is: &dyn Fn(i64) -> bool| {
-        shown().any(|place| !is_valid(&list.elements, place) && is(list.values[place]))
+        shown().any(|place| !list.elements.is_valid(place) && is(list.values[place]))
     };
-    let is_valid_at = |place: usize| is_valid(&list.elements, place);
+    let is_valid_at = |place: usize| list.elements.is_valid(place);
     let has_both = |row: usize| {
-        is_valid(&list.rows, row)
+        list.rows.is_valid(row)
             && places(row).any(|place| !is_valid_at(place))
             && places(row).any(|place| is_valid_at(place) && list.values[place] == UNDER_NULL)
     };
     let holds = [
         none,
         none && !list.values.is_empty(),
-        none && !list.values.is_empty() && !list.elements.is_empty(),
+        none && !list.values.is_empty() && !list.elements.bytes.is_empty(),
         !none && first == 0,
         first > 0,
-        (0..rows).any(|row| !is_valid(&list.rows, row) && !places(row).is_empty()),
+        (0..rows).any(|row| !list.rows.is_valid(row) && !places(row).is_empty()),
         list.offsets.windows(2).any(|pair| pair[0] == pair[1]),
         !none && last as usize == list.values.len(),
         !none && (last as usize) < list.values.len(),
@@ -165,11 +169,12 @@ pub fn list_layouts(list: &ListColumn) -> Vec<&'static str> {
         hides(&|number| number != 0 && number != UNDER_NULL),
         (0..rows).any(has_both),
         has_spare_bit(&list.rows, rows) || has_spare_bit(&list.elements, list.values.len()),
+        has_bit_before(&list.rows) || has_bit_before(&list.elements),
         is_exact(&list.rows, rows),
         is_exact(&list.elements, list.values.len()),
         is_longer(&list.rows, rows) || is_longer(&list.elements, list.values.len()),
-        rows > 0 && list.rows.is_empty(),
-        first < last && list.elements.is_empty(),
+        rows > 0 && list.rows.bytes.is_empty(),
+        first < last && list.elements.bytes.is_empty(),
     ];
     chosen(LIST_LAYOUTS, holds)
 }
@@ -177,7 +182,7 @@ pub fn list_layouts(list: &ListColumn) -> Vec<&'static str> {
 pub fn argument_layouts(argument: &ArgumentColumn) -> Vec<&'static str> {
     let rows = argument.values.len();
     let hides = |is: &dyn Fn(i64) -> bool| {
-        (0..rows).any(|row| !is_valid(&argument.bits, row) && is(argument.values[row]))
+        (0..rows).any(|row| !argument.bits.is_valid(row) && is(argument.values[row]))
     };
     let holds = [
         hides(&|number| number == 0),
@@ -185,24 +190,107 @@ pub fn argument_layouts(argument: &ArgumentColumn) -> Vec<&'static str> {
         hides(&|number| number < 0 && number != UNDER_NULL),
         hides(&|number| i32::try_from(number).is_err() && number != UNDER_NULL),
         has_spare_bit(&argument.bits, rows),
+        has_bit_before(&argument.bits),
         is_exact(&argument.bits, rows),
         is_longer(&argument.bits, rows),
-        rows > 0 && argument.bits.is_empty(),
+        rows > 0 && argument.bits.bytes.is_empty(),
     ];
     chosen(ARGUMENT_LAYOUTS, holds)
 }
 
 /// A 1 behind the last position, in its byte.
-fn has_spare_bit(bitmap: &[u8], positions: usize) -> bool {
-    positions % 8 != 0 && !bitmap.is_empty() && bitmap[positions / 8] >> (positions % 8) != 0
+fn has_spare_bit(bitmap: &Bitmap, positions: usize) -> bool {
+    let end = bitmap.start as usize + positions;
+    end % 8 != 0 && !bitmap.bytes.is_empty() && bitmap.bytes[end / 8] >> (end % 8) != 0
 }
 
-fn is_exact(bitmap: &[u8], positions: usize) -> bool {
-    !bitmap.is_empty() && bitmap.len() == bitmap_bytes(positions)
+/// A 1 before the starting bit.
+fn has_bit_before(bitmap: &Bitmap) -> bool {
+    bitmap.bytes.first().is_some_and(|byte| byte & !(0xff << bitmap.start) != 0)
 }
 
-fn is_longer(bitmap: &[u8], positions: usize) -> bool {
-    bitmap.len() > bitmap_bytes(positions)
+fn is_exact(bitmap: &Bitmap, positions: usize) -> bool {
+    !bitmap.bytes.is_empty() && bitmap.bytes.len() == bitmap.needed(positions)
+}
+
+fn is_longer(bitmap: &Bitmap, positions: usize) -> bool {
+    bitmap.bytes.len() > bitmap.needed(positions)
+}
+
+// Starting bits.
+
+/// Which starting bits a call met: of an accepted one each, beside a bitmap and without one; of one
+/// that is refused, that of the one bitmap which is a bit short, or starts over 7.
+pub fn starts_met(case: &Case, number: u32) -> Vec<String> {
+    let mut bitmaps = case.taken_bitmaps();
+    match number {
+        0 => bitmaps.retain(|(_, _, _, positions)| *positions > 0),
+        2 => bitmaps.retain(|(_, bytes, start, positions)| {
+            !bytes.is_empty() && bytes.len() * 8 < *start as usize + positions
+        }),
+        13 => bitmaps.retain(|(_, _, start, _)| *start > 7),
+        _ => return Vec::new(),
+    }
+    if number != 0 && bitmaps.len() != 1 {
+        return Vec::new();
+    }
+    let mut met = Vec::new();
+    for (name, bytes, start, positions) in bitmaps {
+        let is_absent = bytes.is_empty();
+        if number != 2 || bytes.len() * 8 + 1 == start as usize + positions {
+            met.push(start_name(name, start, is_absent, number));
+        }
+        if number == 13 && case.entry.is_recipe() && case.entry.recipe().1 == 0 {
+            met.push(format!("{name} of no columns over 7"));
+        }
+    }
+    met
+}
+
+fn start_name(bitmap: &str, start: u32, is_absent: bool, number: u32) -> String {
+    let absent = if is_absent { " absent" } else { "" };
+    match number {
+        13 => format!("{bitmap}{absent} over 7"),
+        2 => format!("{bitmap} from {start}, one bit short"),
+        _ => format!("{bitmap}{absent} from {start}"),
+    }
+}
+
+/// The bitmaps that two calls start at other bits, by the answer that they share.
+pub fn starts_apart(one: &Case, other: &Case, number: u32) -> Vec<String> {
+    let pairs = one.taken_bitmaps().into_iter().zip(other.taken_bitmaps());
+    let apart = pairs.filter(|((_, bytes, start, positions), (_, others, other_start, _))| {
+        start != other_start && *positions > 0 && !bytes.is_empty() && !others.is_empty()
+    });
+    let names: Vec<&str> = apart.map(|((name, ..), _)| name).collect();
+    let mut met: Vec<String> =
+        names.iter().map(|name| shared_starts(&format!(" of {name}"), number)).collect();
+    met.extend((!names.is_empty()).then(|| shared_starts("", number)));
+    met
+}
+
+fn shared_starts(of: &str, number: u32) -> String {
+    format!("starting bits{of}: {number}")
+}
+
+/// Every starting bit of every bitmap, and pairs of them; of a recipe's arguments also without
+/// columns.
+pub fn demanded_starts(entry: Entry, shared: &[u32]) -> Vec<(&'static str, String)> {
+    let mut all = Vec::new();
+    for SliceKind { name, .. } in entry.taken_bitmaps() {
+        for start in 0..8 {
+            all.push(("start", start_name(name, start, false, 0)));
+            all.push(("start", start_name(name, start, true, 0)));
+            all.push(("start", start_name(name, start, false, 2)));
+        }
+        all.extend([false, true].map(|absent| ("start", start_name(name, 8, absent, 13))));
+        all.push((SHARED, shared_starts(&format!(" of {name}"), 0)));
+    }
+    if entry.is_recipe() {
+        all.push(("start", "argument bits of no columns over 7".to_string()));
+    }
+    all.extend(shared.iter().map(|number| (SHARED, shared_starts("", *number))));
+    all
 }
 
 // No offsets.
@@ -1096,7 +1184,7 @@ fn demanded_of_rows(operation: Operation) -> Vec<&'static str> {
 pub fn answers(entry: Entry) -> Vec<u32> {
     let others = entry.lists() + entry.roles().len() > 1;
     let operation = entry.known_operation();
-    let mut answers = vec![0, 1, 2];
+    let mut answers = vec![0, 13, 1, 2];
     answers.extend(others.then_some(3));
     answers.extend(operation.refusals().iter().filter(|_| operation != Operation::Union));
     answers.extend([9, 100, 101]);
@@ -1110,7 +1198,7 @@ fn demanded_orders(entry: Entry) -> Vec<String> {
     let mut orders = Vec::new();
     let answers = answers(entry);
     let of_rows = |number: u32| (4..=8).contains(&number);
-    let rank = |number: u32| [102, 100, 101].iter().position(|one| *one == number).unwrap_or(3);
+    let rank = |number: u32| [102, 100, 101, 13].iter().position(|one| *one == number).unwrap_or(4);
     for first in answers.iter().copied().filter(|one| *one != 0) {
         for then in answers.iter().copied().filter(|one| *one != 0 && *one != first) {
             let comes_first = (rank(first), first) < (rank(then), then);
@@ -1127,15 +1215,16 @@ fn demanded_orders(entry: Entry) -> Vec<String> {
     orders
 }
 
-/// 1 before 2 before 3, each in every column in which it can hold.
+/// 13 before 1 before 2 before 3, each in every column in which it can hold.
 pub fn demanded_column_orders(entry: Entry) -> Vec<String> {
+    let rank = |number: u32| if number == 13 { 0 } else { number };
     let mut orders = Vec::new();
     let harms = Harm::of(entry);
     for one in &harms {
         for other in &harms {
             if let (Some(first), Some(then)) = (one.refusal(), other.refusal()) {
                 let (column, other_column) = (one.column.name(entry), other.column.name(entry));
-                if first < then {
+                if rank(first) < rank(then) {
                     orders.push(format!("{first} of {column} before {then} of {other_column}"));
                 }
             }
@@ -1146,9 +1235,13 @@ pub fn demanded_column_orders(entry: Entry) -> Vec<String> {
     orders
 }
 
-/// The answers that pairs of layouts must share: all but 1, 2 and the entry's own.
+/// The answers that pairs of layouts must share: all but 13, 1, 2 and the entry's own.
+fn shared_answers(entry: Entry) -> Vec<u32> {
+    answers(entry).into_iter().filter(|number| matches!(number, 0 | 3..=9)).collect()
+}
+
 fn demanded_shared(entry: Entry) -> Vec<String> {
-    let numbers = answers(entry).into_iter().filter(|number| matches!(number, 0 | 3..=9));
+    let numbers = shared_answers(entry).into_iter();
     let mut all: Vec<String> = numbers.map(|number| number.to_string()).collect();
     let others = Column::all(entry).into_iter().skip(1);
     all.extend(others.map(|column| shared_3(column, entry)));
@@ -1181,6 +1274,7 @@ fn demanded(entry: Entry) -> Vec<(&'static str, String)> {
     add("row", owned(&demanded_of_rows(entry.known_operation())));
     all.extend(demanded_no_offsets(entry));
     all.extend(demanded_null_slots());
+    all.extend(demanded_starts(entry, &shared_answers(entry)));
     all
 }
 

@@ -59,17 +59,21 @@ impl ListArrays {
     fn decode<'a>(
         &'a mut self,
         [offsets, rows, values, elements]: [&'a [u8]; 4],
+        [rows_start, elements_start]: [u32; 2],
     ) -> Column<'a, i32, i64> {
         let offsets = decode_i32(offsets, &mut self.offsets);
-        Column { offsets, rows, values: decode_i64(values, &mut self.values), elements }
+        let values = decode_i64(values, &mut self.values);
+        let (rows_start, elements_start) = (rows_start as usize, elements_start as usize);
+        Column { offsets, rows, rows_start, values, elements, elements_start }
     }
 }
 
 fn argument<'a>(
     [values, bits]: [&'a [u8]; 2],
+    start: u32,
     array: &'a mut [i64],
 ) -> Argument<'a, i64> {
-    Argument { values: decode_i64(values, array), bits, start: 0 }
+    Argument { values: decode_i64(values, array), bits, start: start as usize }
 }
 
 fn write_lists(
@@ -100,73 +104,106 @@ fn write_values(
     Ok(counts)
 }
 
-fn list(code: u32, inputs: [&[u8]; 4], outputs: [&mut [u8]; 4], counts: &mut [u8]) -> u32 {
+fn list(
+    code: u32,
+    inputs: [&[u8]; 4],
+    starts: [u32; 2],
+    outputs: [&mut [u8]; 4],
+    counts: &mut [u8],
+) -> u32 {
     let result = plain::check_list(code, &inputs, &outputs, counts).and_then(|()| {
         let mut arrays = ListArrays::ZERO;
-        let list = arrays.decode(inputs);
+        let list = arrays.decode(inputs, starts);
         write_lists(&Call { code, list, right: None, arguments: &[] }, outputs)
     });
     plain::answer(result, counts)
 }
 
-fn lists(code: u32, inputs: [&[u8]; 8], outputs: [&mut [u8]; 4], counts: &mut [u8]) -> u32 {
+fn lists(
+    code: u32,
+    inputs: [&[u8]; 8],
+    [s0, s1, s2, s3]: [u32; 4],
+    outputs: [&mut [u8]; 4],
+    counts: &mut [u8],
+) -> u32 {
     let result = plain::check_lists(code, &inputs, &outputs, counts).and_then(|()| {
         let [l0, l1, l2, l3, r0, r1, r2, r3] = inputs;
         let mut arrays = [ListArrays::ZERO; 2];
         let [left_arrays, right_arrays] = &mut arrays;
-        let list = left_arrays.decode([l0, l1, l2, l3]);
-        let right = Some(right_arrays.decode([r0, r1, r2, r3]));
+        let list = left_arrays.decode([l0, l1, l2, l3], [s0, s1]);
+        let right = Some(right_arrays.decode([r0, r1, r2, r3], [s2, s3]));
         write_lists(&Call { code, list, right, arguments: &[] }, outputs)
     });
     plain::answer(result, counts)
 }
 
-fn list_with(code: u32, inputs: [&[u8]; 10], outputs: [&mut [u8]; 4], counts: &mut [u8]) -> u32 {
+fn list_with(
+    code: u32,
+    inputs: [&[u8]; 10],
+    [s0, s1, s2, s3, s4]: [u32; 5],
+    outputs: [&mut [u8]; 4],
+    counts: &mut [u8],
+) -> u32 {
     let result = plain::check_list_with(code, &inputs, &outputs, counts).and_then(|taken| {
         let [offsets, rows, values, elements, first, b1, second, b2, third, b3] = inputs;
         let mut arrays = ListArrays::ZERO;
-        let list = arrays.decode([offsets, rows, values, elements]);
+        let list = arrays.decode([offsets, rows, values, elements], [s0, s1]);
         let (mut x, mut y, mut z) = ([0; MOST_ROWS], [0; MOST_ROWS], [0; MOST_ROWS]);
         let arguments = [
-            argument([first, b1], &mut x),
-            argument([second, b2], &mut y),
-            argument([third, b3], &mut z),
+            argument([first, b1], s2, &mut x),
+            argument([second, b2], s3, &mut y),
+            argument([third, b3], s4, &mut z),
         ];
         write_lists(&Call { code, list, right: None, arguments: &arguments[..taken] }, outputs)
     });
     plain::answer(result, counts)
 }
 
-fn any_value(inputs: [&[u8]; 4], outputs: [&mut [u8]; 2], counts: &mut [u8]) -> u32 {
+fn any_value(
+    inputs: [&[u8]; 4],
+    starts: [u32; 2],
+    outputs: [&mut [u8]; 2],
+    counts: &mut [u8],
+) -> u32 {
     let result = plain::check_any_value(&inputs, &outputs, counts).and_then(|()| {
         let mut arrays = ListArrays::ZERO;
-        let column = arrays.decode(inputs);
+        let column = arrays.decode(inputs, starts);
         let [values, rows] = outputs;
         write_values(values, |array| plain::write_any_values(column, array, rows))
     });
     plain::answer(result, counts)
 }
 
-fn element(inputs: [&[u8]; 6], outputs: [&mut [u8]; 2], counts: &mut [u8]) -> u32 {
+fn element(
+    inputs: [&[u8]; 6],
+    [s0, s1, s2]: [u32; 3],
+    outputs: [&mut [u8]; 2],
+    counts: &mut [u8],
+) -> u32 {
     let result = plain::check_element(&inputs, &outputs, counts).and_then(|()| {
         let [offsets, rows, values, elements, indexes, index_bits] = inputs;
         let mut arrays = ListArrays::ZERO;
-        let column = arrays.decode([offsets, rows, values, elements]);
+        let column = arrays.decode([offsets, rows, values, elements], [s0, s1]);
         let mut array = [0; MOST_ROWS];
-        let indexes = argument([indexes, index_bits], &mut array);
+        let indexes = argument([indexes, index_bits], s2, &mut array);
         let [values, rows] = outputs;
         write_values(values, |array| plain::write_elements(column, indexes, array, rows))
     });
     plain::answer(result, counts)
 }
 
-fn list_repeat(inputs: [&[u8]; 6], outputs: [&mut [u8]; 6], counts: &mut [u8]) -> u32 {
+fn list_repeat(
+    inputs: [&[u8]; 6],
+    [s0, s1, s2]: [u32; 3],
+    outputs: [&mut [u8]; 6],
+    counts: &mut [u8],
+) -> u32 {
     let result = plain::check_list_repeat(&inputs, &outputs, counts).and_then(|()| {
         let [offsets, rows, values, elements, times, times_bits] = inputs;
         let mut arrays = ListArrays::ZERO;
-        let column = arrays.decode([offsets, rows, values, elements]);
+        let column = arrays.decode([offsets, rows, values, elements], [s0, s1]);
         let mut array = [0; MOST_ROWS];
-        let times = argument([times, times_bits], &mut array);
+        let times = argument([times, times_bits], s2, &mut array);
         write_repeated(column, times, outputs)
     });
     plain::answer(result, counts)
@@ -206,6 +243,7 @@ fn recipe(
     station: u32,
     columns: u32,
     inputs: [&[u8]; 11],
+    [b0, b1, b2, b3, b4]: [u32; 5],
     outputs: [&mut [u8]; 13],
     counts: &mut [u8],
 ) -> u32 {
@@ -216,9 +254,9 @@ fn recipe(
         let [list, second, one, two] = &mut arrays;
         let mut array = [0; MOST_ARGUMENTS];
         let lent = RecipeColumns {
-            list: list.decode([l0, l1, l2, l3]),
-            second: second.decode([s0, s1, s2, s3]),
-            arguments: argument([values, bits], &mut array),
+            list: list.decode([l0, l1, l2, l3], [b0, b1]),
+            second: second.decode([s0, s1, s2, s3], [b2, b3]),
+            arguments: argument([values, bits], b4, &mut array),
         };
         let trays = [room(one, [o0, o1, o2, o3]), room(two, [t0, t1, t2, t3])];
         let mut results = ListArrays::ZERO;

@@ -8,6 +8,7 @@ use std::sync::OnceLock;
 /// any group may.
 const DEFECTS: &[(&str, &[&str])] = &[
     (ANY, COLUMN_DEFECTS),
+    (ANY, START_DEFECTS),
     (ANY, RESULT_DEFECTS),
     (ANY, ENTRY_DEFECTS),
     ("reverse", &["reverse-leaves-bits", "reverse-of-two-unchanged"]),
@@ -79,6 +80,7 @@ const DEFECTS: &[(&str, &[&str])] = &[
     ("slice", ARGUMENT_DEFECTS),
     ("slice", BOUND_DEFECTS),
     ("slice", STRIDE_DEFECTS),
+    ("slice", &["third-start-ignored"]),
     ("slice without stride", UNTAKEN_DEFECTS),
     ("slice without stride", BOUND_DEFECTS),
     ("slice without stride", &["absent-stride-follows-bounds", "absent-stride-read-from-third"]),
@@ -100,6 +102,7 @@ const DEFECTS: &[(&str, &[&str])] = &[
     ("resize without fill", &["absent-fill-is-0", "absent-fill-read-from-second"]),
     ("replace", ARGUMENT_DEFECTS),
     ("replace", LIMIT_DEFECTS),
+    ("replace", &["third-start-ignored"]),
     (
         "replace",
         &[
@@ -162,6 +165,8 @@ const DEFECTS: &[(&str, &[&str])] = &[
     (RECIPE, RECIPE_STEP_DEFECTS),
     (RECIPE, MALFORMED_DEFECTS),
     (RECIPE, RECIPE_COLUMN_DEFECTS),
+    (RECIPE, START_DEFECTS),
+    (RECIPE, RECIPE_START_DEFECTS),
     (RECIPE, TRAY_DEFECTS),
     (RECIPE, TALLY_DEFECTS),
     (RECIPE, STATION_DEFECTS),
@@ -211,6 +216,10 @@ const EVERYWHERE: &[&str] = &[
     "no-offsets-are-one-row",
     "null-slot-holds-0",
     "valid-smallest-becomes-null",
+    "start-ignored",
+    "start-ignored-in-coverage",
+    "13-after-1",
+    "13-not-beside-an-empty-bitmap",
     NULL_ROWS,
 ];
 
@@ -249,8 +258,48 @@ const COLUMN_DEFECTS: &[&str] = &[
     "9-before-2",
 ];
 
+/// Starting bits.
+const START_DEFECTS: &[&str] = &[
+    "row-start-ignored",
+    "element-start-ignored",
+    "argument-start-ignored",
+    "starts-of-a-list-exchanged",
+    "start-turns-in-its-byte",
+    "start-counted-from-the-highest",
+    "start-rounds-coverage-up",
+    "start-beside-no-bitmap-gives-nulls",
+    "start-7-refused",
+    "start-8-accepted",
+    "start-cut-to-a-byte",
+    "13-not-given",
+    "13-of-rows-only",
+    "13-of-arguments-not-given",
+    "13-after-2",
+    "13-after-3",
+    "result-from-the-starting-bit",
+];
+
+/// Starting bits in recipes, and more numbers than a recipe has.
+const RECIPE_START_DEFECTS: &[&str] = &[
+    "right-starts-ignored",
+    "13-of-right-not-given",
+    "recipe-13-before-10",
+    "recipe-13-before-15",
+    "recipe-13-of-arguments-only-with-columns",
+    "recipe-argument-start-of-first-column-only",
+    "recipe-trays-read-from-the-starting-bit",
+    "recipe-numbers-over-128-give-101",
+    "recipe-numbers-over-1024-give-101",
+    "recipe-many-numbers-not-in-tally",
+    "recipe-many-numbers-leave-trays",
+    "recipe-10-of-many-numbers-before-101",
+];
+
 /// The second list.
 const RIGHT_DEFECTS: &[&str] = &[
+    "right-starts-ignored",
+    "13-of-right-not-given",
+    "13-list-by-list",
     "right-no-offsets-refused",
     "right-no-offsets-bitmap-not-tested",
     "right-no-offsets-are-one-row",
@@ -271,6 +320,10 @@ const RIGHT_DEFECTS: &[&str] = &[
 
 /// More than one argument column.
 const ARGUMENT_DEFECTS: &[&str] = &[
+    "second-start-ignored",
+    "start-of-the-first-argument-for-all",
+    "13-of-second-argument-not-given",
+    "13-of-arguments-after-2",
     "second-bitmap-not-tested",
     "second-rows-not-counted",
     "2-and-3-column-by-column",
@@ -280,6 +333,7 @@ const ARGUMENT_DEFECTS: &[&str] = &[
 
 /// Columns that are lent and not taken.
 const UNTAKEN_DEFECTS: &[&str] = &[
+    "13-for-untaken-columns",
     "untaken-bitmap-tested",
     "untaken-rows-counted",
     "untaken-null-gives-null",

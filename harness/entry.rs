@@ -6,8 +6,8 @@
 //! in and come back, stand among the outputs.
 
 use crate::model::{
-    self, ArgumentColumn, ListColumn, Operation, Recipe, RecipeRefusal, ResultForm, Role, Shown,
-    Slots, Tally,
+    self, ArgumentColumn, Bitmap, ListColumn, Operation, Recipe, RecipeRefusal, ResultForm, Role,
+    Shown, Slots, Tally,
 };
 use std::ops::Range;
 
@@ -58,8 +58,8 @@ pub enum Content {
     Tally,
 }
 
-/// One slice of an entry: bytes a slot, and the most slots that the entry takes (bitmaps may have
-/// any length).
+/// One slice of an entry: bytes a slot, and the most slots that the entry takes (bitmaps and the
+/// numbers of a recipe may have any length).
 #[derive(Clone, Copy, Debug)]
 pub struct SliceKind {
     pub name: &'static str,
@@ -74,8 +74,7 @@ pub const MOST_VALUES: usize = 16384;
 /// The most lists in the outer rows of list-repeat.
 pub const MOST_INNER_ROWS: usize = 16384;
 
-/// The most numbers of a recipe, and the most values in its argument columns.
-pub const MOST_NUMBERS: usize = 1024;
+/// The most values in the argument columns of a recipe.
 pub const MOST_ARGUMENTS: usize = 32768;
 
 const fn offsets(name: &'static str, most_rows: usize) -> SliceKind {
@@ -132,7 +131,7 @@ const LIST_OF_LISTS_ANSWER: [SliceKind; 6] = [
 ];
 
 const RECIPE_INPUTS: [SliceKind; 11] = [
-    SliceKind { name: "numbers", content: Content::Numbers, width: 4, most: Some(MOST_NUMBERS) },
+    SliceKind { name: "numbers", content: Content::Numbers, width: 4, most: None },
     offsets("offsets", MOST_ROWS),
     bits("rows"),
     values("values"),
@@ -278,6 +277,20 @@ impl Entry {
         [&LISTS[..4 * self.lists()], self.argument_kinds()].concat()
     }
 
+    /// The bitmaps among the inputs, each of which comes with a starting bit.
+    pub fn bitmaps(self) -> Vec<SliceKind> {
+        let mut kinds = self.inputs();
+        kinds.retain(|kind| kind.content == Content::Bits);
+        kinds
+    }
+
+    /// Those of the columns that are looked at, which come first.
+    pub fn taken_bitmaps(self) -> Vec<SliceKind> {
+        let mut kinds = self.bitmaps();
+        kinds.truncate(2 * self.lists() + self.taken());
+        kinds
+    }
+
     pub fn outputs(self) -> &'static [SliceKind] {
         match self {
             Entry::List(_) | Entry::Lists(_) | Entry::ListWith(_) => &LIST_ANSWER,
@@ -357,44 +370,69 @@ impl Input {
         }
         for list in &self.lists {
             slices.push(encode_i32(&list.offsets));
-            slices.push(list.rows.clone());
+            slices.push(list.rows.bytes.clone());
             slices.push(encode_i64(&list.values));
-            slices.push(list.elements.clone());
+            slices.push(list.elements.bytes.clone());
         }
         for argument in &self.arguments {
             slices.push(encode_i64(&argument.values));
-            slices.push(argument.bits.clone());
+            slices.push(argument.bits.bytes.clone());
         }
         slices
     }
 
-    fn decode(entry: Entry, slices: &[Vec<u8>]) -> Input {
+    /// The bitmaps of all columns, in the order of the entry's inputs.
+    pub fn bitmaps(&self) -> Vec<&Bitmap> {
+        let lists = self.lists.iter().flat_map(|list| [&list.rows, &list.elements]);
+        lists.chain(self.arguments.iter().map(|argument| &argument.bits)).collect()
+    }
+
+    pub fn bitmaps_mut(&mut self) -> Vec<&mut Bitmap> {
+        let lists = self.lists.iter_mut().flat_map(|list| [&mut list.rows, &mut list.elements]);
+        lists.chain(self.arguments.iter_mut().map(|argument| &mut argument.bits)).collect()
+    }
+
+    /// The starting bits of all bitmaps, in their order.
+    pub fn starts(&self) -> Vec<u32> {
+        self.bitmaps().iter().map(|bitmap| bitmap.start).collect()
+    }
+
+    fn decode(entry: Entry, slices: &[Vec<u8>], starts: &[u32]) -> Input {
         let (numbers, columns) = slices.split_at(usize::from(entry.is_recipe()));
         let (lists, arguments) = columns.split_at(4 * entry.lists());
+        let mut starts = starts.iter().copied();
+        let mut bitmap = |bytes: &Vec<u8>| {
+            let start = starts.next().expect("a starting bit for each bitmap");
+            Bitmap { bytes: bytes.clone(), start }
+        };
         let list = |part: &[Vec<u8>]| ListColumn {
             offsets: decode_i32(&part[0]),
-            rows: part[1].clone(),
+            rows: bitmap(&part[1]),
             values: decode_i64(&part[2]),
-            elements: part[3].clone(),
+            elements: bitmap(&part[3]),
         };
+        let lists = lists.chunks(4).map(list).collect();
         let argument = |part: &[Vec<u8>]| ArgumentColumn {
             values: decode_i64(&part[0]),
-            bits: part[1].clone(),
+            bits: bitmap(&part[1]),
         };
+        let arguments = arguments.chunks(2).map(argument).collect();
         Input {
             entry,
             numbers: numbers.iter().flat_map(|bytes| decode_u32(bytes)).collect(),
-            lists: lists.chunks(4).map(list).collect(),
-            arguments: arguments.chunks(2).map(argument).collect(),
+            lists,
+            arguments,
         }
     }
 }
 
-/// One call: the bytes of each input, and what outputs and counts hold before it.
+/// One call: the bytes of each input, the starting bit of each bitmap among them, and what outputs
+/// and counts hold before it.
 #[derive(Clone, Debug)]
 pub struct Case {
     pub entry: Entry,
     pub inputs: Vec<Vec<u8>>,
+    pub starts: Vec<u32>,
     pub outputs: Vec<Vec<u8>>,
     pub counts: Vec<u8>,
 }
@@ -435,10 +473,42 @@ impl Expected {
 }
 
 impl Case {
+    /// The call with these columns.
+    pub fn new(input: &Input, outputs: Vec<Vec<u8>>, counts: Vec<u8>) -> Case {
+        let (entry, inputs, starts) = (input.entry, input.encode(), input.starts());
+        Case { entry, inputs, starts, outputs, counts }
+    }
+
+    /// Lends other columns.
+    pub fn lend(&mut self, input: &Input) {
+        (self.entry, self.inputs, self.starts) = (input.entry, input.encode(), input.starts());
+    }
+
     /// Every slice of the call but the counts, with its kind.
     pub fn slices(&self) -> Vec<(SliceKind, &Vec<u8>)> {
         let inputs = self.entry.inputs().into_iter().zip(&self.inputs);
         inputs.chain(self.entry.outputs().iter().copied().zip(&self.outputs)).collect()
+    }
+
+    /// The bitmaps of the columns that are looked at, each with its name, its bytes, its starting
+    /// bit and the positions that it is for.
+    pub fn taken_bitmaps(&self) -> Vec<(&'static str, &[u8], u32, usize)> {
+        let mut positions = 0;
+        let mut starts = self.starts.iter();
+        let mut bitmaps = Vec::new();
+        for (kind, bytes) in self.entry.inputs().into_iter().zip(&self.inputs) {
+            match kind.content {
+                Content::Offsets => positions = (bytes.len() / 4).max(1) - 1,
+                Content::Values | Content::RowValues => positions = bytes.len() / 8,
+                Content::Bits => {
+                    let start = *starts.next().expect("a starting bit for each bitmap");
+                    bitmaps.push((kind.name, bytes.as_slice(), start, positions));
+                }
+                Content::Numbers | Content::Tally => (),
+            }
+        }
+        bitmaps.truncate(self.entry.taken_bitmaps().len());
+        bitmaps
     }
 
     /// The answer that the entry gives before the columns are looked at.
@@ -459,7 +529,7 @@ impl Case {
     }
 
     pub fn decode(&self) -> Input {
-        Input::decode(self.entry, &self.inputs)
+        Input::decode(self.entry, &self.inputs, &self.starts)
     }
 
     /// What the call starts from; None where a column is not well-formed.

@@ -2,7 +2,7 @@
 
 use crate::entry::{decode_i32, decode_i64, encode_i32, encode_i64, Entry};
 use crate::library::Library;
-use crate::model::{self, ArgumentColumn, Element, ListColumn, Row};
+use crate::model::{self, ArgumentColumn, Bitmap, Element, ListColumn, Row};
 
 fn show_element(element: &Element) -> String {
     element.map_or("null".to_string(), |value| value.to_string())
@@ -22,15 +22,15 @@ fn show_rows(rows: &[Row]) -> String {
 fn column() -> ListColumn {
     ListColumn {
         offsets: vec![0, 3, 5, 5, 8],
-        rows: vec![0b1101],
+        rows: Bitmap::from_0(vec![0b1101]),
         values: vec![12, -3, 99, 40, 41, 7, 7, 9],
-        elements: vec![0b11111011],
+        elements: Bitmap::from_0(vec![0b11111011]),
     }
 }
 
 fn column_slices(column: &ListColumn) -> [Vec<u8>; 4] {
     let (offsets, values) = (encode_i32(&column.offsets), encode_i64(&column.values));
-    [offsets, column.rows.clone(), values, column.elements.clone()]
+    [offsets, column.rows.bytes.clone(), values, column.elements.bytes.clone()]
 }
 
 /// Calls a list operation, and gives the rows that come back with their counts.
@@ -40,11 +40,15 @@ fn call_list(library: &Library, entry: Entry, column: &ListColumn) -> (Vec<Row>,
     let mut counts = [0u8; 32];
     let inputs: Vec<&[u8]> = inputs.iter().map(Vec::as_slice).collect();
     let mut lent: Vec<&mut [u8]> = outputs.iter_mut().map(Vec::as_mut_slice).collect();
-    let answer = library.call(entry, &inputs, &mut lent, &mut counts);
+    let answer = library.call(entry, &inputs, &[0; 2], &mut lent, &mut counts);
     assert_eq!(answer, 0, "the example is accepted");
     let [offsets, rows, values, elements] = outputs;
-    let result =
-        ListColumn { offsets: decode_i32(&offsets), rows, values: decode_i64(&values), elements };
+    let result = ListColumn {
+        offsets: decode_i32(&offsets),
+        rows: Bitmap::from_0(rows),
+        values: decode_i64(&values),
+        elements: Bitmap::from_0(elements),
+    };
     (model::shown_rows(&result), decode_i64(&counts))
 }
 
@@ -63,9 +67,12 @@ fn call_values(
         inputs.extend([indexes.as_slice(), &[]]);
     }
     let (mut values, mut bits, mut counts) = (vec![0u8; 8 * rows], [0u8; 1], [0u8; 16]);
-    let answer = library.call(entry, &inputs, &mut [&mut values, &mut bits], &mut counts);
+    let starts = vec![0; inputs.len() / 2];
+    let outputs = &mut [&mut values[..], &mut bits];
+    let answer = library.call(entry, &inputs, &starts, outputs, &mut counts);
     assert_eq!(answer, 0, "the example is accepted");
-    let result = ArgumentColumn { values: decode_i64(&values), bits: bits.to_vec() };
+    let result =
+        ArgumentColumn { values: decode_i64(&values), bits: Bitmap::from_0(bits.to_vec()) };
     model::shown_arguments(&result)
 }
 

@@ -5,7 +5,9 @@ use crate::compare::Checker;
 use crate::entry::{Entry, Input};
 use crate::generate::{accepted_columns, random_rows, small_shape, RowShape};
 use crate::generate::{boundaries, input_of, lend, random_beside, random_layouts, Room};
-use crate::model::{shown_rows, Element, ListColumn, Operation, Role, Row, Shown, UNDER_NULL};
+use crate::model::{
+    shown_rows, Bitmap, Element, ListColumn, Operation, Role, Row, Shown, UNDER_NULL,
+};
 use crate::rng::Rng;
 
 /// Different values, among them 0 and the extremes; first what null slots of results hold.
@@ -132,9 +134,9 @@ pub fn short_columns(checker: &mut Checker, entry: Entry, rng: &mut Rng, _calls:
 
 fn check_every_bitmap(checker: &mut Checker, entry: Entry, mut list: ListColumn, rng: &mut Rng) {
     for rows in bitmaps(list.row_count()) {
-        list.rows = rows;
+        list.rows = starting(&rows, rng);
         for elements in bitmaps(list.values.len()) {
-            list.elements = elements;
+            list.elements = starting(&elements, rng);
             for place in 0..entry.lists() {
                 for _ in 0..draws(entry) {
                     check_beside(checker, entry, place, &list, &shown_rows(&list), rng);
@@ -142,6 +144,17 @@ fn check_every_bitmap(checker: &mut Checker, entry: Entry, mut list: ListColumn,
             }
         }
     }
+}
+
+/// The same bits from some bit on, with anything before them.
+fn starting(bytes: &[u8], rng: &mut Rng) -> Bitmap {
+    let start = rng.pick(&[0, 0, 0, 3, 4, 7]);
+    let mut bytes = bytes.to_vec();
+    if let (1.., [byte]) = (start, &bytes[..]) {
+        let bits = u16::from(*byte) << start | (rng.next() as u16 & !(0xffff << start));
+        bytes = bits.to_le_bytes().to_vec();
+    }
+    Bitmap { bytes, start }
 }
 
 /// How often columns are drawn beside one list.
@@ -160,8 +173,8 @@ pub fn short_offsets(checker: &mut Checker, entry: Entry, rng: &mut Rng, _calls:
                 let list = ListColumn {
                     offsets: offsets.clone(),
                     values: VALUES[..count].to_vec(),
-                    rows: rng.pick(&[&[][..], &[0xff], &[5]]).to_vec(),
-                    elements: rng.pick(&[&[][..], &[0xff], &[5]]).to_vec(),
+                    rows: short_bitmap(rng),
+                    elements: short_bitmap(rng),
                 };
                 let rows = vec![Some(vec![Some(7)]); slots.max(1) - 1];
                 for place in 0..entry.lists() {
@@ -170,6 +183,12 @@ pub fn short_offsets(checker: &mut Checker, entry: Entry, rng: &mut Rng, _calls:
             }
         }
     }
+}
+
+/// No bitmap, or one of a byte, from a bit at which it still covers four positions.
+fn short_bitmap(rng: &mut Rng) -> Bitmap {
+    let bytes = rng.pick(&[&[][..], &[0xff], &[5]]).to_vec();
+    Bitmap { bytes, start: rng.below(5) as u32 }
 }
 
 // Arguments beside one row.

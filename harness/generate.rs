@@ -2,7 +2,7 @@
 //! exactly long enough, longer, or one slot short.
 
 use crate::entry::{Case, Entry, Input, MOST_INNER_ROWS, MOST_VALUES};
-use crate::model::{self, bitmap_bytes, ArgumentColumn, Element, ListColumn, Made};
+use crate::model::{self, bitmap_bytes, ArgumentColumn, Bitmap, Element, ListColumn, Made};
 use crate::model::{Operation, Role, Row, Shown, UNDER_NULL};
 use crate::recipe_generate::{lend_recipe, no_station, random_recipe, recipe_input};
 use crate::rng::Rng;
@@ -99,6 +99,10 @@ pub struct Layout {
     pub absent_bitmaps: bool,
     /// No offsets where there are no rows.
     pub no_offsets: bool,
+    /// The starting bit of a row bitmap; before it anything stands.
+    pub rows_start: u32,
+    /// The same of an element bitmap and of the bitmap of an argument column.
+    pub elements_start: u32,
 }
 
 /// Each way alone, then all of them, without and with absent bitmaps and with no offsets.
@@ -113,6 +117,8 @@ pub fn layouts() -> Vec<Layout> {
         more_bitmap_bytes: 2,
         absent_bitmaps: false,
         no_offsets: false,
+        rows_start: 6,
+        elements_start: 2,
     };
     vec![
         plain,
@@ -127,10 +133,23 @@ pub fn layouts() -> Vec<Layout> {
         Layout { more_bitmap_bytes: 700, spare_bits: true, ..plain },
         Layout { absent_bitmaps: true, ..plain },
         Layout { no_offsets: true, ..plain },
+        Layout { rows_start: 3, elements_start: 5, ..plain },
+        Layout { rows_start: 7, elements_start: 1, absent_bitmaps: true, ..plain },
         all,
         Layout { absent_bitmaps: true, ..all },
         Layout { no_offsets: true, ..all },
     ]
+}
+
+/// A starting bit, 0 more often than the others.
+pub fn random_start(rng: &mut Rng) -> u32 {
+    rng.below(8).saturating_sub(rng.pick(&[0, 0, 0, 8])) as u32
+}
+
+/// A starting bit over 7: the next ones, such as are 0 to 7 in a part of their bits, and the last.
+pub fn start_over_7(rng: &mut Rng) -> u32 {
+    let far = (1 << (3 + rng.below(29))) | rng.below(8) as u32;
+    rng.pick(&[8, 8, 9, 15, 16, far, u32::MAX])
 }
 
 pub fn random_layout(rng: &mut Rng) -> Layout {
@@ -143,6 +162,8 @@ pub fn random_layout(rng: &mut Rng) -> Layout {
         more_bitmap_bytes: rng.pick(&[0, 0, 1, 5]),
         absent_bitmaps: rng.chance(1, 2),
         no_offsets: rng.chance(1, 2),
+        rows_start: random_start(rng),
+        elements_start: random_start(rng),
     }
 }
 
@@ -172,16 +193,20 @@ impl Places {
     }
 }
 
-fn bitmap_of(valid: &[bool], layout: Layout, rng: &mut Rng) -> Vec<u8> {
-    let mut bytes = vec![0; bitmap_bytes(valid.len())];
-    for (position, valid) in valid.iter().enumerate() {
-        bytes[position / 8] |= u8::from(*valid) << (position % 8);
+fn bitmap_of(valid: &[bool], start: u32, layout: Layout, rng: &mut Rng) -> Bitmap {
+    let end = start as usize + valid.len();
+    let mut bytes = vec![0; bitmap_bytes(end)];
+    if start > 0 {
+        bytes[0] = rng.next() as u8 & !(0xff << start);
     }
-    if layout.spare_bits && valid.len() % 8 != 0 {
-        bytes[valid.len() / 8] |= 0xff << (valid.len() % 8);
+    for (bit, valid) in (start as usize..).zip(valid) {
+        bytes[bit / 8] |= u8::from(*valid) << (bit % 8);
+    }
+    if layout.spare_bits && end % 8 != 0 {
+        bytes[end / 8] |= 0xff << (end % 8);
     }
     bytes.extend(rng.bytes(layout.more_bitmap_bytes));
-    bytes
+    Bitmap { bytes, start }
 }
 
 /// A column that shows these rows.
@@ -213,10 +238,18 @@ pub fn lay_out(rows: &[Row], layout: Layout, rng: &mut Rng) -> ListColumn {
     let all_elements_valid = rows.iter().flatten().flatten().all(Option::is_some);
     let absent_rows = layout.absent_bitmaps && valid_rows.iter().all(|valid| *valid);
     let absent_elements = layout.absent_bitmaps && all_elements_valid;
+    let Layout { rows_start, elements_start, .. } = layout;
+    let absent = |start: u32| Bitmap { bytes: Vec::new(), start };
     ListColumn {
         offsets,
-        rows: if absent_rows { Vec::new() } else { bitmap_of(&valid_rows, layout, rng) },
-        elements: if absent_elements { Vec::new() } else { bitmap_of(&places.valid, layout, rng) },
+        rows: match absent_rows {
+            true => absent(rows_start),
+            false => bitmap_of(&valid_rows, rows_start, layout, rng),
+        },
+        elements: match absent_elements {
+            true => absent(elements_start),
+            false => bitmap_of(&places.valid, elements_start, layout, rng),
+        },
         values: places.values,
     }
 }
@@ -228,7 +261,11 @@ pub fn lay_out_argument(shown: &[Element], layout: Layout, rng: &mut Rng) -> Arg
         places.push_shown(*element, layout, rng);
     }
     let absent = layout.absent_bitmaps && places.valid.iter().all(|valid| *valid);
-    let bits = if absent { Vec::new() } else { bitmap_of(&places.valid, layout, rng) };
+    let start = layout.elements_start;
+    let bits = match absent {
+        true => Bitmap { bytes: Vec::new(), start },
+        false => bitmap_of(&places.valid, start, layout, rng),
+    };
     ArgumentColumn { values: places.values, bits }
 }
 
@@ -520,13 +557,14 @@ pub fn random_shown_or_refused(entry: Entry, shape: RowShape, rng: &mut Rng) -> 
     shown
 }
 
-/// An argument column that the operation does not take: any content, any bitmap.
+/// An argument column that the operation does not take: any content, any bitmap, any starting bit.
 fn untaken_column(rows: usize, rng: &mut Rng) -> ArgumentColumn {
     let length = rng.pick(&[0, 0, rows, rows, rows + 1, 3, 40]).min(crate::entry::MOST_ROWS);
     let bits = rng.pick(&[0, 1, bitmap_bytes(length), 7]);
+    let start = if rng.chance(1, 4) { start_over_7(rng) } else { random_start(rng) };
     ArgumentColumn {
         values: (0..length).map(|_| random_value(rng)).collect(),
-        bits: rng.bytes(bits),
+        bits: Bitmap { bytes: rng.bytes(bits), start },
     }
 }
 
@@ -610,6 +648,10 @@ impl Role {
 
 #[derive(Clone, Copy, PartialEq, Debug)]
 pub enum Damage {
+    RowStartOver,
+    RowStartOverAlone,
+    ElementStartOver,
+    ElementStartOverAlone,
     NegativeFirst,
     FallingAtFirst,
     FallingInside,
@@ -617,15 +659,20 @@ pub enum Damage {
     LastBeyondByOne,
     LastFarBeyond,
     RowBitsShort,
+    RowBitsOneBitShort,
     RowBitsEmpty,
     ElementBitsShort,
+    ElementBitsOneBitShort,
     ElementBitsForShownOnly,
     ElementBitsEmpty,
     OneRowFewer,
     OneRowMore,
     NoRows,
     NoOffsets,
+    ArgumentStartOver,
+    ArgumentStartOverAlone,
     ArgumentBitsShort,
+    ArgumentBitsOneBitShort,
     ArgumentBitsEmpty,
     ArgumentOneFewer,
     ArgumentOneMore,
@@ -633,7 +680,11 @@ pub enum Damage {
 }
 
 /// Each damage with its name and the refusal that it alone brings; an emptied bitmap brings none.
-const DAMAGES: [(Damage, &str, Option<u32>); 20] = [
+const DAMAGES: [(Damage, &str, Option<u32>); 29] = [
+    (Damage::RowStartOver, "row bitmap from a bit over 7", Some(13)),
+    (Damage::RowStartOverAlone, "no row bitmap, from a bit over 7", Some(13)),
+    (Damage::ElementStartOver, "element bitmap from a bit over 7", Some(13)),
+    (Damage::ElementStartOverAlone, "no element bitmap, from a bit over 7", Some(13)),
     (Damage::NegativeFirst, "first offset negative", Some(1)),
     (Damage::FallingAtFirst, "offsets falling at the first row", Some(1)),
     (Damage::FallingInside, "offsets falling inside", Some(1)),
@@ -641,15 +692,20 @@ const DAMAGES: [(Damage, &str, Option<u32>); 20] = [
     (Damage::LastBeyondByOne, "last offset one beyond the values", Some(1)),
     (Damage::LastFarBeyond, "last offset far beyond the values", Some(1)),
     (Damage::RowBitsShort, "row bitmap one byte short", Some(2)),
+    (Damage::RowBitsOneBitShort, "row bitmap one bit short", Some(2)),
     (Damage::RowBitsEmpty, "row bitmap emptied", None),
     (Damage::ElementBitsShort, "element bitmap one byte short", Some(2)),
+    (Damage::ElementBitsOneBitShort, "element bitmap one bit short", Some(2)),
     (Damage::ElementBitsForShownOnly, "element bitmap for shown values only", Some(2)),
     (Damage::ElementBitsEmpty, "element bitmap emptied", None),
     (Damage::OneRowFewer, "one row fewer", Some(3)),
     (Damage::OneRowMore, "one row more", Some(3)),
     (Damage::NoRows, "no rows", Some(3)),
     (Damage::NoOffsets, "no offsets", Some(3)),
+    (Damage::ArgumentStartOver, "bitmap from a bit over 7", Some(13)),
+    (Damage::ArgumentStartOverAlone, "no bitmap, from a bit over 7", Some(13)),
     (Damage::ArgumentBitsShort, "bitmap one byte short", Some(2)),
+    (Damage::ArgumentBitsOneBitShort, "bitmap one bit short", Some(2)),
     (Damage::ArgumentBitsEmpty, "bitmap emptied", None),
     (Damage::ArgumentOneFewer, "one value fewer", Some(3)),
     (Damage::ArgumentOneMore, "one value more", Some(3)),
@@ -678,7 +734,10 @@ impl Harm {
         use Damage::*;
         let of_argument = matches!(
             self.damage,
-            ArgumentBitsShort
+            ArgumentStartOver
+                | ArgumentStartOverAlone
+                | ArgumentBitsShort
+                | ArgumentBitsOneBitShort
                 | ArgumentBitsEmpty
                 | ArgumentOneFewer
                 | ArgumentOneMore
@@ -704,6 +763,13 @@ impl Harm {
         self.line().2
     }
 
+    /// Whether a bitmap goes, which may have been damaged before.
+    pub fn takes_bitmap(self) -> bool {
+        use Damage::*;
+        let damage = self.damage;
+        matches!(damage, RowStartOverAlone | ElementStartOverAlone | ArgumentStartOverAlone)
+    }
+
     /// A bitmap of one byte cannot be a byte short, for without it all is valid; and another damage
     /// may have left too few rows.
     pub fn is_possible(self, input: &Input) -> bool {
@@ -712,13 +778,16 @@ impl Harm {
                 let list = &input.lists[at];
                 match self.damage {
                     Damage::NegativeFirst => !list.offsets.is_empty(),
-                    Damage::ElementBitsShort => true,
-                    _ => list.row_count() > 8,
+                    Damage::ElementBitsShort | Damage::ElementBitsOneBitShort => true,
+                    _ => list.row_count() > 8 || self.refusal() == Some(13),
                 }
             }
-            Column::Argument(at) => {
-                self.damage != Damage::ArgumentBitsShort || input.arguments[at].values.len() > 8
-            }
+            Column::Argument(at) => match self.damage {
+                Damage::ArgumentBitsShort | Damage::ArgumentBitsOneBitShort => {
+                    input.arguments[at].values.len() > 8
+                }
+                _ => true,
+            },
         }
     }
 
@@ -736,6 +805,10 @@ impl Damage {
         let rows = list.row_count();
         let last = list.offsets.last().copied().unwrap_or(0);
         match self {
+            Damage::RowStartOver => list.rows.start = start_over_7(rng),
+            Damage::RowStartOverAlone => list.rows = absent_over_7(rng),
+            Damage::ElementStartOver => list.elements.start = start_over_7(rng),
+            Damage::ElementStartOverAlone => list.elements = absent_over_7(rng),
             Damage::NegativeFirst => list.offsets[0] = rng.pick(&[-1, -2, i32::MIN]),
             Damage::FallingAtFirst => fall_at(list, 1),
             Damage::FallingInside => fall_at(list, 2 + rng.below(rows - 2)),
@@ -745,17 +818,20 @@ impl Damage {
                 list.offsets[rows] =
                     rng.pick(&[list.values.len() as i32 + 9, i32::MAX - 1, i32::MAX]);
             }
-            Damage::RowBitsShort => list.rows.truncate(bitmap_bytes(rows) - 1),
-            Damage::RowBitsEmpty => list.rows.clear(),
-            Damage::ElementBitsShort => list.elements.truncate(bitmap_bytes(list.values.len()) - 1),
+            Damage::RowBitsShort => one_byte_short(&mut list.rows, rows),
+            Damage::RowBitsOneBitShort => one_bit_short(&mut list.rows, rows),
+            Damage::RowBitsEmpty => list.rows.bytes.clear(),
+            Damage::ElementBitsShort => one_byte_short(&mut list.elements, list.values.len()),
+            Damage::ElementBitsOneBitShort => one_bit_short(&mut list.elements, list.values.len()),
             Damage::ElementBitsForShownOnly => {
-                list.elements.truncate(bitmap_bytes(last as usize));
+                let bytes = list.elements.needed(last as usize);
+                list.elements.bytes.truncate(bytes);
             }
-            Damage::ElementBitsEmpty => list.elements.clear(),
+            Damage::ElementBitsEmpty => list.elements.bytes.clear(),
             Damage::OneRowFewer => list.offsets.truncate(rows),
             Damage::OneRowMore => {
                 list.offsets.push(last);
-                list.rows.push(0xff);
+                list.rows.bytes.push(0xff);
             }
             Damage::NoRows => list.offsets.truncate(1),
             Damage::NoOffsets => list.offsets.clear(),
@@ -765,19 +841,37 @@ impl Damage {
 
     fn apply_to_argument(self, argument: &mut ArgumentColumn, rng: &mut Rng) {
         match self {
-            Damage::ArgumentBitsShort => {
-                argument.bits.truncate(bitmap_bytes(argument.values.len()) - 1);
+            Damage::ArgumentStartOver => argument.bits.start = start_over_7(rng),
+            Damage::ArgumentStartOverAlone => argument.bits = absent_over_7(rng),
+            Damage::ArgumentBitsShort => one_byte_short(&mut argument.bits, argument.values.len()),
+            Damage::ArgumentBitsOneBitShort => {
+                one_bit_short(&mut argument.bits, argument.values.len());
             }
-            Damage::ArgumentBitsEmpty => argument.bits.clear(),
+            Damage::ArgumentBitsEmpty => argument.bits.bytes.clear(),
             Damage::ArgumentOneFewer => argument.values.truncate(argument.values.len() - 1),
             Damage::ArgumentOneMore => {
                 argument.values.push(random_value(rng));
-                argument.bits.push(0xff);
+                argument.bits.bytes.push(0xff);
             }
             Damage::ArgumentEmpty => argument.values.clear(),
             _ => unreachable!("damage of a list column"),
         }
     }
+}
+
+fn absent_over_7(rng: &mut Rng) -> Bitmap {
+    Bitmap { bytes: Vec::new(), start: start_over_7(rng) }
+}
+
+fn one_byte_short(bitmap: &mut Bitmap, positions: usize) {
+    let bytes = bitmap.needed(positions) - 1;
+    bitmap.bytes.truncate(bytes);
+}
+
+/// Moves the starting bit, so that the last position alone lies behind the last byte.
+pub fn one_bit_short(bitmap: &mut Bitmap, positions: usize) {
+    bitmap.start = (9 - positions % 8) as u32 % 8;
+    one_byte_short(bitmap, positions);
 }
 
 /// Makes one offset one less than the offset before it; the pair is the only one that falls.
@@ -812,6 +906,8 @@ pub fn damageable_layout(rng: &mut Rng) -> Layout {
         under_null_rows: rng.below(3),
         numbers_under_nulls: true,
         spare_bits: rng.chance(1, 2),
+        rows_start: random_start(rng),
+        elements_start: random_start(rng),
         ..Layout::default()
     }
 }
@@ -891,5 +987,5 @@ pub fn lend(input: &Input, room: Room, rng: &mut Rng) -> Case {
     }
     let more_counts = rng.pick(&[0, 0, 1, 8, 9]);
     let counts = rng.bytes(input.entry.count_bytes() + more_counts);
-    Case { entry: input.entry, inputs: input.encode(), outputs, counts }
+    Case::new(input, outputs, counts)
 }

@@ -12,6 +12,7 @@ use crate::no_offsets;
 use crate::pairs;
 use crate::recipe_groups;
 use crate::rng::Rng;
+use crate::starts;
 use crate::strides;
 use crate::worked;
 
@@ -28,7 +29,7 @@ pub struct Group {
 
 /// The groups that each operation has, if it is one for which they are meant; those that take long
 /// come last.
-const FOR_EACH: [(&str, Applies, Run, u64); 15] = [
+const FOR_EACH: [(&str, Applies, Run, u64); 16] = [
     ("random columns", always, random_columns, 6),
     ("layouts of the same rows", always, pairs::same_rows, 6),
     ("damaged columns", always, damaged_columns, 4),
@@ -42,6 +43,7 @@ const FOR_EACH: [(&str, Applies, Run, u64); 15] = [
     ("sums, exhaustive", has_sums, every_sum, 0),
     ("limit columns, exhaustive", has_limit, every_limit_length, 0),
     ("no offsets, exhaustive", always, no_offsets::every_form, 0),
+    ("starting bits, exhaustive", always, starts::every_start, 0),
     ("short columns, exhaustive", always, short_columns, 0),
     ("short offsets, exhaustive", always, short_offsets, 0),
 ];
@@ -170,7 +172,7 @@ fn damaged_columns(checker: &mut Checker, entry: Entry, rng: &mut Rng, calls: u6
 // Order: one condition is added after another, from the last refusal to the first.
 
 /// A call, and the conditions of refusals that were made to hold in it, the last one the first to
-/// be answered; those of 1, 2 and 3 with the column in which they hold.
+/// be answered; those of 13, 1, 2 and 3 with the column in which they hold.
 struct Refused {
     shown: Shown,
     layout: Layout,
@@ -191,7 +193,7 @@ fn order_of_refusals(checker: &mut Checker, entry: Entry, rng: &mut Rng, calls: 
         checker.check(&case);
         let mut refused = Refused { shown, layout, input, case, holding: Vec::new() };
         let of_rows = rng.pick(&[&[0][..], refusals(entry)].concat());
-        for number in [9, of_rows, 3, 2, 1, 101, 100, 102] {
+        for number in [9, of_rows, 3, 2, 1, 13, 101, 100, 102] {
             if !rng.chance(1, 3) && refused.add(number, rng) {
                 let entry = refused.input.entry;
                 check_first(checker, entry, &refused.case, &refused.holding);
@@ -223,7 +225,7 @@ impl Refused {
     fn add(&mut self, number: u32, rng: &mut Rng) -> bool {
         let mut column = None;
         let possible = match number {
-            1..=3 => {
+            1..=3 | 13 => {
                 column = self.damage(number, rng);
                 column.is_some()
             }
@@ -247,7 +249,7 @@ impl Refused {
 
     fn damage(&mut self, number: u32, rng: &mut Rng) -> Option<Column> {
         let column = damage_some_column(&mut self.input, number, rng);
-        self.case.inputs = self.input.encode();
+        self.case.lend(&self.input);
         column
     }
 
@@ -259,15 +261,17 @@ impl Refused {
         rows.retain(|row| full(&self.shown.lists[0][*row]));
         let refused = refuse_row(operation, &mut self.shown, rng.pick(&rows), number, rng);
         self.input = input_of(entry, &self.shown, &[self.layout], rng);
-        self.case.inputs = self.input.encode();
+        self.case.lend(&self.input);
         refused
     }
 }
 
-/// Does some damage that brings this refusal, and gives the column that it is done to.
+/// Does some damage that brings this refusal, and gives the column that it is done to; other damage
+/// stays.
 pub fn damage_some_column(input: &mut Input, number: u32, rng: &mut Rng) -> Option<Column> {
     let mut harms = Harm::of(input.entry);
     harms.retain(|harm| harm.refusal() == Some(number) && harm.is_possible(input));
+    harms.retain(|harm| !harm.takes_bitmap());
     if harms.is_empty() {
         return None;
     }
@@ -359,6 +363,13 @@ impl NumberSlice {
         let outputs = entry.outputs().iter().copied().enumerate();
         let mut all: Vec<_> = inputs.map(|(at, kind)| (NumberSlice::Input(at), kind)).collect();
         all.extend(outputs.map(|(at, kind)| (NumberSlice::Output(at), kind)));
+        all.retain(|(_, kind)| kind.width > 1);
+        all
+    }
+
+    /// Those of which the entry takes only so many slots.
+    pub fn limited(entry: Entry) -> Vec<(NumberSlice, SliceKind)> {
+        let mut all = NumberSlice::all(entry);
         all.retain(|(_, kind)| kind.most.is_some());
         all
     }
@@ -379,7 +390,7 @@ pub fn grow(bytes: &mut Vec<u8>, slots: usize, kind: SliceKind, rng: &mut Rng) {
 
 /// Makes some slice of numbers larger than the entry takes.
 pub fn over_size(case: &mut Case, rng: &mut Rng) -> bool {
-    let (slice, kind) = rng.pick(&NumberSlice::all(case.entry));
+    let (slice, kind) = rng.pick(&NumberSlice::limited(case.entry));
     let slots = kind.most.unwrap_or(0) + rng.pick(&[1, 1, 2, 4096, 20000]);
     grow(slice.of(case), slots, kind, rng);
     true
@@ -407,6 +418,8 @@ fn entry_answers(checker: &mut Checker, entry: Entry, rng: &mut Rng, calls: u64)
     for _ in 0..2 {
         for (slice, kind) in NumberSlice::all(entry) {
             ragged_slice(checker, entry, slice, kind, rng);
+        }
+        for (slice, kind) in NumberSlice::limited(entry) {
             slice_over_size(checker, entry, slice, kind, rng);
         }
     }
@@ -488,7 +501,7 @@ pub fn ragged_slice(
         check_answer(checker, &case, 100);
         checker.covered(&case, "ragged", kind.name);
     }
-    for (other, other_kind) in NumberSlice::all(entry) {
+    for (other, other_kind) in NumberSlice::limited(entry) {
         let mut case = lend(&random_input(entry, small_shape(rng), rng), Room::Any, rng);
         grow(other.of(&mut case), other_kind.most.unwrap_or(0) + 1, other_kind, rng);
         slice.of(&mut case).push(0);
@@ -570,7 +583,13 @@ fn random_case(entry: Entry, rng: &mut Rng) -> Case {
     let outputs = outputs.collect();
     let needed = entry.count_bytes();
     let counts = if rng.chance(1, 64) { rng.below(needed + 8) } else { needed + rng.below(9) };
-    Case { entry, inputs, outputs, counts: rng.bytes(counts) }
+    Case { entry, inputs, starts: random_starts(entry, rng), outputs, counts: rng.bytes(counts) }
+}
+
+/// A starting bit for each bitmap, now and then one over 7.
+pub fn random_starts(entry: Entry, rng: &mut Rng) -> Vec<u32> {
+    let start = |_| if rng.chance(1, 64) { start_over_7(rng) } else { random_start(rng) };
+    entry.bitmaps().iter().map(start).collect()
 }
 
 /// Now and then some bytes that are no whole number.

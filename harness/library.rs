@@ -1,29 +1,36 @@
 //! A library under test: the entries as safe functions on byte slices. The port, the plain Rust
 //! and the mock each give one of these. A function takes the code, if there is one, or the station
 //! and the number of columns of a recipe, then the input slices and the output slices in the order
-//! in which `entry.rs` lists them, then the counts. A library may lack entries.
+//! in which `entry.rs` lists them, then the counts; between them come the starting bits of the
+//! bitmaps among the inputs. A library may lack entries.
 
 use crate::entry::Entry;
 
-/// An entry of so many input and output slices.
-type Plain<const I: usize, const O: usize> = fn([&[u8]; I], [&mut [u8]; O], &mut [u8]) -> u32;
-type Coded<const I: usize, const O: usize> = fn(u32, [&[u8]; I], [&mut [u8]; O], &mut [u8]) -> u32;
-type OfStation<const I: usize, const O: usize> =
-    fn(u32, u32, [&[u8]; I], [&mut [u8]; O], &mut [u8]) -> u32;
+/// An entry of so many input slices, bitmaps among them, and output slices.
+type Plain<const I: usize, const S: usize, const O: usize> =
+    fn([&[u8]; I], [u32; S], [&mut [u8]; O], &mut [u8]) -> u32;
+type Coded<const I: usize, const S: usize, const O: usize> =
+    fn(u32, [&[u8]; I], [u32; S], [&mut [u8]; O], &mut [u8]) -> u32;
+type OfStation<const I: usize, const S: usize, const O: usize> =
+    fn(u32, u32, [&[u8]; I], [u32; S], [&mut [u8]; O], &mut [u8]) -> u32;
 
 #[derive(Clone, Copy)]
 pub struct Library {
-    pub list: Option<Coded<4, 4>>,
-    pub any_value: Option<Plain<4, 2>>,
-    pub element: Option<Plain<6, 2>>,
-    pub lists: Option<Coded<8, 4>>,
-    pub list_with: Option<Coded<10, 4>>,
-    pub list_repeat: Option<Plain<6, 6>>,
-    pub recipe: Option<OfStation<11, 13>>,
+    pub list: Option<Coded<4, 2, 4>>,
+    pub any_value: Option<Plain<4, 2, 2>>,
+    pub element: Option<Plain<6, 3, 2>>,
+    pub lists: Option<Coded<8, 4, 4>>,
+    pub list_with: Option<Coded<10, 5, 4>>,
+    pub list_repeat: Option<Plain<6, 3, 6>>,
+    pub recipe: Option<OfStation<11, 5, 13>>,
 }
 
 fn inputs<'a, const N: usize>(slices: &[&'a [u8]]) -> [&'a [u8]; N] {
     slices.try_into().expect("the call has the input slices of its entry")
+}
+
+fn bits<const N: usize>(starts: &[u32]) -> [u32; N] {
+    starts.try_into().expect("the call has a starting bit for each bitmap of its entry")
 }
 
 fn outputs<'a, const N: usize>(slices: &'a mut [&mut [u8]]) -> [&'a mut [u8]; N] {
@@ -80,20 +87,32 @@ impl Library {
         &self,
         entry: Entry,
         lent: &[&[u8]],
+        starts: &[u32],
         results: &mut [&mut [u8]],
         counts: &mut [u8],
     ) -> u32 {
         match entry {
-            Entry::List(code) => present(self.list)(code, inputs(lent), outputs(results), counts),
-            Entry::AnyValue => present(self.any_value)(inputs(lent), outputs(results), counts),
-            Entry::Element => present(self.element)(inputs(lent), outputs(results), counts),
-            Entry::Lists(code) => present(self.lists)(code, inputs(lent), outputs(results), counts),
-            Entry::ListWith(code) => {
-                present(self.list_with)(code, inputs(lent), outputs(results), counts)
+            Entry::List(code) => {
+                present(self.list)(code, inputs(lent), bits(starts), outputs(results), counts)
             }
-            Entry::ListRepeat => present(self.list_repeat)(inputs(lent), outputs(results), counts),
+            Entry::AnyValue => {
+                present(self.any_value)(inputs(lent), bits(starts), outputs(results), counts)
+            }
+            Entry::Element => {
+                present(self.element)(inputs(lent), bits(starts), outputs(results), counts)
+            }
+            Entry::Lists(code) => {
+                present(self.lists)(code, inputs(lent), bits(starts), outputs(results), counts)
+            }
+            Entry::ListWith(code) => {
+                present(self.list_with)(code, inputs(lent), bits(starts), outputs(results), counts)
+            }
+            Entry::ListRepeat => {
+                present(self.list_repeat)(inputs(lent), bits(starts), outputs(results), counts)
+            }
             Entry::Recipe { station, columns } => {
-                present(self.recipe)(station, columns, inputs(lent), outputs(results), counts)
+                let (lent, bits) = (inputs(lent), bits(starts));
+                present(self.recipe)(station, columns, lent, bits, outputs(results), counts)
             }
         }
     }

@@ -24,7 +24,8 @@
 //!
 //! Pairs of layouts that show the same rows are in pairs.rs, for operations and for recipes; columns
 //! with no offsets are in no_offsets.rs; strided slices, whose places are counted by stepping, are
-//! in strides.rs; the stations of a tally are in stations.rs.
+//! in strides.rs; the stations of a tally are in stations.rs, and bitmaps from the middle of a byte
+//! in starts.rs.
 
 mod bench;
 mod compare;
@@ -54,6 +55,7 @@ mod recipe_generate;
 mod recipe_groups;
 mod recipe_lengths;
 mod rng;
+mod starts;
 mod stations;
 mod strides;
 mod worked;
@@ -152,10 +154,12 @@ fn run_groups(checker: &mut Checker, options: &Options, tally: &mut Tally) {
 }
 
 /// The benchmark's baselines must be right too: all groups once, with a tenth of the random calls.
+/// What they reach is not recorded.
 fn check_plain(name: &str, library: &Library, option: &str, options: &Options, tally: &mut Tally) {
     let (seed, random_calls) = (options.seed, options.calls / 10);
     let replay = format!("{option} --seed {seed} --calls {random_calls}");
     let mut checker = Checker::new(library, replay, options.trace, options.stop);
+    checker.records = false;
     let (mut calls, mut differences) = (0, 0);
     for group in groups::all() {
         group.run(&mut checker, seed, random_calls);

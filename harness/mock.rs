@@ -50,58 +50,86 @@ const ANY_VALUE: u32 = 1000;
 const ELEMENT: u32 = 1001;
 const LIST_REPEAT: u32 = 1002;
 
-pub fn list(op: u32, inputs: [&[u8]; 4], mut outputs: [&mut [u8]; 4], counts: &mut [u8]) -> u32 {
+pub fn list(
+    op: u32,
+    inputs: [&[u8]; 4],
+    starts: [u32; 2],
+    mut outputs: [&mut [u8]; 4],
+    counts: &mut [u8],
+) -> u32 {
     if defect().is_empty() {
-        return plain::list(op, inputs, outputs, counts);
+        return plain::list(op, inputs, starts, outputs, counts);
     }
     let shape = Shape { lists: 1, answer: Answer::Lists };
-    answer(op, 0..=3, shape, &inputs, &mut outputs, counts)
+    answer(op, 0..=3, shape, &inputs, &starts, &mut outputs, counts)
 }
 
-pub fn lists(op: u32, inputs: [&[u8]; 8], mut outputs: [&mut [u8]; 4], counts: &mut [u8]) -> u32 {
+pub fn lists(
+    op: u32,
+    inputs: [&[u8]; 8],
+    starts: [u32; 4],
+    mut outputs: [&mut [u8]; 4],
+    counts: &mut [u8],
+) -> u32 {
     if defect().is_empty() {
-        return plain::lists(op, inputs, outputs, counts);
+        return plain::lists(op, inputs, starts, outputs, counts);
     }
     let shape = Shape { lists: 2, answer: Answer::Lists };
-    answer(op, 9..=10, shape, &inputs, &mut outputs, counts)
+    answer(op, 9..=10, shape, &inputs, &starts, &mut outputs, counts)
 }
 
 pub fn list_with(
     op: u32,
     inputs: [&[u8]; 10],
+    starts: [u32; 5],
     mut outputs: [&mut [u8]; 4],
     counts: &mut [u8],
 ) -> u32 {
     if defect().is_empty() {
-        return plain::list_with(op, inputs, outputs, counts);
+        return plain::list_with(op, inputs, starts, outputs, counts);
     }
     let shape = Shape { lists: 1, answer: Answer::Lists };
     let codes = if op == RESIZE_WITHOUT_FILL { 11..=11 } else { 4..=8 };
-    answer(op, codes, shape, &inputs, &mut outputs, counts)
+    answer(op, codes, shape, &inputs, &starts, &mut outputs, counts)
 }
 
-pub fn any_value(inputs: [&[u8]; 4], mut outputs: [&mut [u8]; 2], counts: &mut [u8]) -> u32 {
+pub fn any_value(
+    inputs: [&[u8]; 4],
+    starts: [u32; 2],
+    mut outputs: [&mut [u8]; 2],
+    counts: &mut [u8],
+) -> u32 {
     if defect().is_empty() {
-        return plain::any_value(inputs, outputs, counts);
+        return plain::any_value(inputs, starts, outputs, counts);
     }
     let shape = Shape { lists: 1, answer: Answer::Values };
-    answer(ANY_VALUE, ANY_VALUE..=ANY_VALUE, shape, &inputs, &mut outputs, counts)
+    answer(ANY_VALUE, ANY_VALUE..=ANY_VALUE, shape, &inputs, &starts, &mut outputs, counts)
 }
 
-pub fn element(inputs: [&[u8]; 6], mut outputs: [&mut [u8]; 2], counts: &mut [u8]) -> u32 {
+pub fn element(
+    inputs: [&[u8]; 6],
+    starts: [u32; 3],
+    mut outputs: [&mut [u8]; 2],
+    counts: &mut [u8],
+) -> u32 {
     if defect().is_empty() {
-        return plain::element(inputs, outputs, counts);
+        return plain::element(inputs, starts, outputs, counts);
     }
     let shape = Shape { lists: 1, answer: Answer::Values };
-    answer(ELEMENT, ELEMENT..=ELEMENT, shape, &inputs, &mut outputs, counts)
+    answer(ELEMENT, ELEMENT..=ELEMENT, shape, &inputs, &starts, &mut outputs, counts)
 }
 
-pub fn list_repeat(inputs: [&[u8]; 6], mut outputs: [&mut [u8]; 6], counts: &mut [u8]) -> u32 {
+pub fn list_repeat(
+    inputs: [&[u8]; 6],
+    starts: [u32; 3],
+    mut outputs: [&mut [u8]; 6],
+    counts: &mut [u8],
+) -> u32 {
     if defect().is_empty() {
-        return plain::list_repeat(inputs, outputs, counts);
+        return plain::list_repeat(inputs, starts, outputs, counts);
     }
     let shape = Shape { lists: 1, answer: Answer::Nested };
-    answer(LIST_REPEAT, LIST_REPEAT..=LIST_REPEAT, shape, &inputs, &mut outputs, counts)
+    answer(LIST_REPEAT, LIST_REPEAT..=LIST_REPEAT, shape, &inputs, &starts, &mut outputs, counts)
 }
 
 /// The whole call: its own answers, the refusals, and the result if it fits.
@@ -110,6 +138,7 @@ fn answer(
     codes: std::ops::RangeInclusive<u32>,
     shape: Shape,
     inputs: &[&[u8]],
+    starts: &[u32],
     outputs: &mut [&mut [u8]],
     counts: &mut [u8],
 ) -> u32 {
@@ -129,9 +158,14 @@ fn answer(
         own.map_or(Ok(()), Err)
     };
     let (lists, arguments) = inputs.split_at(4 * shape.lists);
-    let lists: Vec<Column> =
-        lists.chunks(4).enumerate().map(|(at, part)| Column::new(at, part)).collect();
-    let arguments: Vec<Argument> = arguments.chunks(2).map(Argument::new).collect();
+    let (list_starts, starts) = starts.split_at(2 * shape.lists);
+    let list = |(at, part)| Column::new(at, part, &list_starts[2 * at..][..2]);
+    let lists: Vec<Column> = lists.chunks(4).enumerate().map(list).collect();
+    let argument = |(at, part)| Argument::new(at, part, starts[at]);
+    let mut arguments: Vec<Argument> = arguments.chunks(2).enumerate().map(argument).collect();
+    if is("start-of-the-first-argument-for-all") {
+        arguments.iter_mut().for_each(|one| one.bits.read = starts[0] as usize);
+    }
     let call = Call { op, lists, arguments };
     let mut output = Output::new(shape.answer, outputs, counts);
     let number = match number.and_then(|()| call.made(&output)) {
@@ -221,19 +255,69 @@ pub fn numbers(bytes: &[u8], width: usize) -> Vec<i64> {
     bytes.chunks_exact(width).map(number).collect()
 }
 
-pub fn bit(bitmap: &[u8], position: usize) -> bool {
-    if bitmap.is_empty() {
-        return !is("empty-bitmap-all-null");
-    }
-    let byte = if is("first-bitmap-byte-for-all") { 0 } else { position / 8 };
-    let place = if is("bits-highest-first") { 7 - position % 8 } else { position % 8 };
-    bitmap.get(byte).is_some_and(|byte| byte >> place & 1 == 1)
+/// A bitmap, its starting bit as it is lent, and the bits from which it is read and counted.
+#[derive(Clone, Copy)]
+pub struct Bits<'a> {
+    pub bytes: &'a [u8],
+    start: u32,
+    read: usize,
+    counted: usize,
 }
 
-fn too_short(bitmap: &[u8], positions: usize) -> bool {
-    let needed = positions.div_ceil(8);
-    !bitmap.is_empty()
-        && (bitmap.len() < needed || bitmap.len() > needed && is("longer-bitmap-refused"))
+impl<'a> Bits<'a> {
+    pub fn new(bytes: &'a [u8], start: u32) -> Self {
+        let from = |ignored: bool| match defect() {
+            _ if ignored => 0,
+            "13-not-given" => start as usize % 8,
+            _ => start as usize,
+        };
+        let (read, counted) = (is("start-ignored"), is("start-ignored-in-coverage"));
+        Bits { bytes, start, read: from(read), counted: from(counted) }
+    }
+
+    pub fn from(&self) -> usize {
+        self.read
+    }
+
+    /// The same, read from bit 0 if that is wanted.
+    fn ignored(self, wanted: bool) -> Self {
+        Bits { read: if wanted { 0 } else { self.read }, ..self }
+    }
+
+    pub fn bit(&self, position: usize) -> bool {
+        if self.bytes.is_empty() {
+            let null = is("start-beside-no-bitmap-gives-nulls") && position < self.read;
+            return !is("empty-bitmap-all-null") && !null;
+        }
+        let position = match defect() {
+            "start-turns-in-its-byte" => position / 8 * 8 + (self.read + position) % 8,
+            "start-counted-from-the-highest" => (8 - self.read % 8) % 8 + position,
+            _ => self.read + position,
+        };
+        let byte = if is("first-bitmap-byte-for-all") { 0 } else { position / 8 };
+        let place = if is("bits-highest-first") { 7 - position % 8 } else { position % 8 };
+        self.bytes.get(byte).is_some_and(|byte| byte >> place & 1 == 1)
+    }
+
+    pub fn too_short(&self, positions: usize) -> bool {
+        let counted = match defect() {
+            "start-rounds-coverage-up" => self.counted.div_ceil(8) * 8,
+            _ => self.counted,
+        };
+        let (lent, needed) = (self.bytes.len(), (counted + positions).div_ceil(8));
+        !self.bytes.is_empty() && (lent < needed || lent > needed && is("longer-bitmap-refused"))
+    }
+
+    pub fn over_7(&self) -> bool {
+        match defect() {
+            "13-not-given" => false,
+            "13-not-beside-an-empty-bitmap" => self.start > 7 && !self.bytes.is_empty(),
+            "start-8-accepted" => self.start > 8,
+            "start-7-refused" => self.start > 6,
+            "start-cut-to-a-byte" => self.start % 256 > 7,
+            _ => self.start > 7,
+        }
+    }
 }
 
 /// An element or an argument, with the number that is stored, also under a null.
@@ -275,36 +359,55 @@ impl Item {
 
 pub struct Argument<'a> {
     pub values: Vec<i64>,
-    pub bits: &'a [u8],
+    pub bits: Bits<'a>,
 }
 
 impl<'a> Argument<'a> {
-    pub fn new(part: &[&'a [u8]]) -> Self {
-        Argument { values: numbers(part[0], 8), bits: part[1] }
+    pub fn new(at: usize, part: &[&'a [u8]], start: u32) -> Self {
+        let ignored = match defect() {
+            "argument-start-ignored" => true,
+            "second-start-ignored" => at == 1,
+            "third-start-ignored" => at == 2,
+            _ => false,
+        };
+        let bits = Bits::new(part[1], start).ignored(ignored);
+        Argument { values: numbers(part[0], 8), bits }
     }
 
     fn item(&self, row: usize) -> Item {
         let number = self.values.get(row).copied().unwrap_or(0);
-        Item { valid: bit(self.bits, row), number }
+        Item { valid: self.bits.bit(row), number }
     }
 
     fn short_bitmap(&self) -> bool {
-        too_short(self.bits, self.values.len())
+        self.bits.too_short(self.values.len())
     }
 }
 
 pub struct Column<'a> {
     is_right: bool,
     pub offsets: Vec<i64>,
-    rows: &'a [u8],
+    rows: Bits<'a>,
     values: Vec<i64>,
-    elements: &'a [u8],
+    elements: Bits<'a>,
 }
 
 impl<'a> Column<'a> {
-    pub fn new(at: usize, part: &[&'a [u8]]) -> Self {
+    pub fn new(at: usize, part: &[&'a [u8]], starts: &[u32]) -> Self {
         let (offsets, values) = (numbers(part[0], 4), numbers(part[2], 8));
-        Column { is_right: at == 1, offsets, rows: part[1], values, elements: part[3] }
+        let ignored = at == 1 && is("right-starts-ignored");
+        let mut rows = Bits::new(part[1], starts[0]).ignored(ignored || is("row-start-ignored"));
+        let mut elements =
+            Bits::new(part[3], starts[1]).ignored(ignored || is("element-start-ignored"));
+        if is("starts-of-a-list-exchanged") {
+            std::mem::swap(&mut rows.read, &mut elements.read);
+        }
+        Column { is_right: at == 1, offsets, rows, values, elements }
+    }
+
+    pub fn starts_over_7(&self) -> bool {
+        let over = self.rows.over_7() || self.elements.over_7() && !is("13-of-rows-only");
+        over && !self.is_right_with("13-of-right-not-given")
     }
 
     fn is_right_with(&self, name: &str) -> bool {
@@ -331,7 +434,7 @@ impl<'a> Column<'a> {
         let last = row + 2 == self.offsets.len();
         self.offsets[row + 1] < self.offsets[row]
             && !(last && is("last-fall-missed"))
-            && !(is("fall-at-null-row-missed") && !bit(self.rows, row))
+            && !(is("fall-at-null-row-missed") && !self.rows.bit(row))
     }
 
     pub fn bad_offsets(&self) -> bool {
@@ -357,13 +460,13 @@ impl<'a> Column<'a> {
         let values = if is("element-bitmap-to-last-offset") { last } else { self.values.len() };
         let untested = "no-offsets-bitmap-not-tested";
         let right_untested = "right-no-offsets-bitmap-not-tested";
-        let short = too_short(self.rows, rows) && !is("row-bitmap-not-tested")
-            || too_short(self.elements, values) && !self.has_none_with(untested, right_untested);
+        let short = self.rows.too_short(rows) && !is("row-bitmap-not-tested")
+            || self.elements.too_short(values) && !self.has_none_with(untested, right_untested);
         short && !self.is_right_with("right-bitmaps-not-tested")
     }
 
     pub fn is_valid(&self, row: usize) -> bool {
-        bit(self.rows, row) || is(NULL_ROWS) || self.is_right_with("right-null-rows-shown")
+        self.rows.bit(row) || is(NULL_ROWS) || self.is_right_with("right-null-rows-shown")
     }
 
     pub fn range(&self, row: usize) -> Range<usize> {
@@ -376,7 +479,7 @@ impl<'a> Column<'a> {
     }
 
     fn item(&self, place: usize) -> Item {
-        let valid = bit(self.elements, place)
+        let valid = self.elements.bit(place)
             || is("element-validity-ignored")
             || self.is_right_with("right-element-validity-ignored");
         Item { valid, number: self.values.get(place).copied().unwrap_or(0) }
@@ -436,6 +539,13 @@ impl Call<'_> {
             && (at < taken(self.op) || is("untaken-bitmap-tested"))
     }
 
+    fn argument_over_7(&self, at: usize) -> bool {
+        self.arguments[at].bits.over_7()
+            && (at < taken(self.op) || is("13-for-untaken-columns"))
+            && !(at == 1 && is("13-of-second-argument-not-given"))
+            && !is("13-of-arguments-not-given")
+    }
+
     fn unequal_argument(&self, at: usize) -> bool {
         let (rows, lent) =
             (self.lists[0].offsets.len().max(1) - 1, self.arguments[at].values.len());
@@ -478,7 +588,7 @@ impl Call<'_> {
         })
     }
 
-    /// Refusals 1, 2, 3 in order, or in a wrong order.
+    /// Refusals 13, 1, 2, 3 in order, or in a wrong order.
     fn check(&self, output: &Output) -> Result<(), u32> {
         let all = 0..self.arguments.len();
         let bad_offsets = self.lists.iter().any(Column::bad_offsets);
@@ -486,19 +596,33 @@ impl Call<'_> {
         let short_left = self.lists[0].short_bitmap() && !self.lists[0].bad_offsets();
         let short = short_list || all.clone().any(|at| self.short_argument(at));
         let unequal = self.unequal_lists() || all.clone().any(|at| self.unequal_argument(at));
-        let mut conditions = vec![(1, bad_offsets), (2, short), (3, unequal)];
+        let over_list = self.lists.iter().any(Column::starts_over_7);
+        let over_argument = all.clone().any(|at| self.argument_over_7(at));
+        let over = over_list || over_argument;
+        let mut conditions = vec![(13, over), (1, bad_offsets), (2, short), (3, unequal)];
         let no_room = output.values.is_empty() && !self.lists[0].values.is_empty();
         match defect() {
-            "2-before-1" => conditions.swap(0, 1),
-            "3-before-2" => conditions.swap(1, 2),
+            "13-after-1" => conditions.swap(0, 1),
+            "13-after-2" => conditions[..3].rotate_left(1),
+            "13-after-3" => conditions.rotate_left(1),
+            "13-list-by-list" => {
+                let each = |list: &Column| [(13, list.starts_over_7()), (1, list.bad_offsets())];
+                conditions.splice(..2, self.lists.iter().flat_map(each).chain([(13, over)]));
+            }
+            "13-of-arguments-after-2" => {
+                conditions[0].1 = over_list;
+                conditions.insert(3, (13, over_argument));
+            }
+            "2-before-1" => conditions.swap(1, 2),
+            "3-before-2" => conditions.swap(2, 3),
             "4-before-3" if self.op == ELEMENT => {
                 let four = (0..self.row_count()).any(|row| self.refuses_index(row));
-                conditions.insert(2, (4, four));
+                conditions.insert(3, (4, four));
             }
-            "9-before-2" => conditions.insert(1, (9, no_room)),
-            "2-of-left-before-1-of-right" => conditions.insert(0, (2, short_left)),
+            "9-before-2" => conditions.insert(2, (9, no_room)),
+            "2-of-left-before-1-of-right" => conditions.insert(1, (2, short_left)),
             "2-and-3-column-by-column" => {
-                conditions.truncate(1);
+                conditions.truncate(2);
                 conditions.push((2, short_list));
                 let each = |at| [(2, self.short_argument(at)), (3, self.unequal_argument(at))];
                 conditions.extend(all.flat_map(each));
@@ -884,6 +1008,13 @@ fn put_bits(slice: &mut [u8], bits: &[bool], absent: bool) {
     }
 }
 
+/// The bits of a result, or wrongly the same from the starting bit of the column lent.
+fn moved(valid: &[bool], lent: Bits) -> Vec<bool> {
+    let before = if is("result-from-the-starting-bit") { lent.start.min(7) } else { 0 };
+    let bits = std::iter::repeat_n(false, before as usize).chain(valid.iter().copied());
+    bits.take(valid.len()).collect()
+}
+
 fn put_item(slice: &mut [u8], at: usize, item: Item) {
     let value = match item.given() {
         Some(value) => value,
@@ -940,7 +1071,7 @@ impl<'a> Output<'a> {
     fn stray(&mut self, call: &Call) {
         static CALLS: std::sync::atomic::AtomicU64 = std::sync::atomic::AtomicU64::new(0);
         let calls = CALLS.fetch_add(1, std::sync::atomic::Ordering::Relaxed);
-        let rows = call.lists[0].rows;
+        let rows = call.lists[0].rows.bytes;
         let target = match defect() {
             "writes-behind-an-output" => self.values.as_mut_ptr_range().end,
             "writes-behind-the-counts" => self.counts.as_mut_ptr_range().end,
@@ -997,7 +1128,8 @@ impl<'a> Output<'a> {
             put_item(self.values, at, *item);
         }
         let valid = validity(items);
-        put_bits(self.elements, &valid, call.lists[0].elements.is_empty());
+        let lent = call.lists[0].elements;
+        put_bits(self.elements, &moved(&valid, lent), lent.bytes.is_empty());
         self.clear_tail(items.len());
         let smallest = items.iter().filter(|item| !item.valid || item.number == i64::MIN).count();
         let nulls = match defect() {
@@ -1015,10 +1147,11 @@ impl<'a> Output<'a> {
         }
         put_offsets(self.offsets, rows.iter().map(|row| row.items.len()));
         let valid: Vec<bool> = rows.iter().map(|row| row.valid).collect();
-        put_bits(self.rows, &valid, call.lists[0].rows.is_empty());
+        let lent = call.lists[0].rows;
+        put_bits(self.rows, &moved(&valid, lent), lent.bytes.is_empty());
         let (mut elements, null_elements) = self.write_items(call, &items);
         if is("null-row-values-counted") {
-            let null = |row: &usize| !bit(call.lists[0].rows, *row);
+            let null = |row: &usize| !call.lists[0].rows.bit(*row);
             let hidden = (0..rows.len()).filter(null).map(|row| call.lists[0].range(row).len());
             elements += hidden.sum::<usize>() as u64;
         }
@@ -1063,9 +1196,10 @@ impl<'a> Output<'a> {
         }
         let valid: Vec<bool> = rows.iter().map(|(valid, _)| *valid).collect();
         let inner_valid: Vec<bool> = inner.iter().map(|row| row.valid).collect();
-        put_bits(self.rows, &valid, call.lists[0].rows.is_empty());
+        let is_absent = call.lists[0].rows.bytes.is_empty();
+        put_bits(self.rows, &valid, is_absent);
         if !is("repeat-inner-bits-not-written") {
-            put_bits(self.inner_rows, &inner_valid, call.lists[0].rows.is_empty());
+            put_bits(self.inner_rows, &inner_valid, is_absent);
         }
         if is("repeat-inner-spare-bits-set") && inner.len() % 8 != 0 {
             self.inner_rows[inner.len() / 8] |= 0xff << (inner.len() % 8);

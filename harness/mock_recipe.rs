@@ -1,7 +1,7 @@
 //! Recipes in the mock, right or wrong in one way.
 
 use crate::defects::{defect, is};
-use crate::mock::{bit, numbers, taken, Answer, Argument, Call, Column, MadeRow, Output};
+use crate::mock::{numbers, taken, Answer, Argument, Bits, Call, Column, MadeRow, Output};
 use crate::mock::{INTERSECT, UNION};
 use crate::plain;
 
@@ -12,11 +12,12 @@ pub fn recipe(
     station: u32,
     columns: u32,
     inputs: [&[u8]; 11],
+    starts: [u32; 5],
     mut outputs: [&mut [u8]; 13],
     counts: &mut [u8],
 ) -> u32 {
     if defect().is_empty() {
-        return plain::recipe(station, columns, inputs, outputs, counts);
+        return plain::recipe(station, columns, inputs, starts, outputs, counts);
     }
     let station = match defect() {
         "recipe-station-cut-to-four-bits" => station % 16,
@@ -32,7 +33,7 @@ pub fn recipe(
     if station > most && is("recipe-15-before-own-answers") {
         own = Some(15);
     }
-    let run = Run { no_station: station > most, ..Run::new(columns, &inputs) };
+    let run = Run { no_station: station > most, ..Run::new(columns, &inputs, starts) };
     let (trays, results) = outputs.split_at_mut(8);
     let (output, tally) = results.split_at_mut(4);
     let mut written = [false; 2];
@@ -43,8 +44,12 @@ pub fn recipe(
     if number != 0 {
         Output::new(Answer::Lists, output, counts).refused(number);
     }
-    clear(trays, number, own.is_some(), written, run.list[0].len() / 4);
-    if own.is_none() || is("recipe-tally-counts-own-answers") {
+    let many = run.numbers.len() > 1024;
+    if !(many && is("recipe-many-numbers-leave-trays")) {
+        clear(trays, number, own.is_some(), written, run.list[0].len() / 4);
+    }
+    let left_out = own.is_some() || many && is("recipe-many-numbers-not-in-tally");
+    if !left_out || is("recipe-tally-counts-own-answers") {
         count(tally[0], station, number);
     }
     number
@@ -54,7 +59,12 @@ pub fn recipe(
 
 fn own_answer(inputs: &[&[u8]], outputs: &[&mut [u8]], counts: usize) -> Option<u32> {
     // Each slice of numbers as bytes, bytes a slot and most slots.
-    let mut lent = vec![(inputs[0].len(), 4, 1024), (inputs[9].len(), 8, 32768)];
+    let most_numbers = match defect() {
+        "recipe-numbers-over-128-give-101" => 128,
+        "recipe-numbers-over-1024-give-101" => 1024,
+        _ => usize::MAX / 2,
+    };
+    let mut lent = vec![(inputs[0].len(), 4, most_numbers), (inputs[9].len(), 8, 32768)];
     lent.extend([1, 5].map(|at| (inputs[at].len(), 4, 4097)));
     lent.extend([3, 7].map(|at| (inputs[at].len(), 8, 16384)));
     let mut results = Vec::new();
@@ -67,6 +77,9 @@ fn own_answer(inputs: &[&[u8]], outputs: &[&mut [u8]], counts: usize) -> Option<
         || outputs[12].len() < 256 && !is("recipe-short-tally-accepted");
     if inputs[0].len() % 4 != 0 && is("recipe-ragged-numbers-give-10") {
         return Some(10);
+    }
+    if inputs[0].len() > 4 * 128 && is("recipe-10-of-many-numbers-before-101") {
+        return None;
     }
     let is_over = |(bytes, width, most): &(usize, usize, usize)| match defect() {
         "size-one-over-accepted" => bytes / width > most + 1,
@@ -176,10 +189,12 @@ struct Run<'a> {
     list: [&'a [u8]; 4],
     second: [&'a [u8]; 4],
     arguments: Argument<'a>,
+    /// The starting bits of the two lists.
+    starts: [[u32; 2]; 2],
 }
 
 impl<'a> Run<'a> {
-    fn new(columns: u32, inputs: &[&'a [u8]; 11]) -> Self {
+    fn new(columns: u32, inputs: &[&'a [u8]; 11], starts: [u32; 5]) -> Self {
         let number = |number: i64| match defect() {
             "recipe-numbers-cut-to-a-byte" => number as u32 % 256,
             _ => number as u32,
@@ -190,8 +205,17 @@ impl<'a> Run<'a> {
             numbers: numbers(inputs[0], 4).into_iter().map(number).collect(),
             list: [inputs[1], inputs[2], inputs[3], inputs[4]],
             second: [inputs[5], inputs[6], inputs[7], inputs[8]],
-            arguments: Argument::new(&inputs[9..11]),
+            arguments: Argument::new(0, &inputs[9..11], starts[4]),
+            starts: [[starts[0], starts[1]], [starts[2], starts[3]]],
         }
+    }
+
+    fn first_list(&self) -> Column<'a> {
+        Column::new(0, &self.list, &self.starts[0])
+    }
+
+    fn second_list(&self) -> Column<'a> {
+        Column::new(1, &self.second, &self.starts[1])
     }
 
     fn steps(&self) -> Vec<[u32; 4]> {
@@ -255,18 +279,20 @@ impl<'a> Run<'a> {
         self.steps().iter().any(|step| matches!(step[0], UNION | INTERSECT))
     }
 
-    /// 15, then 10, then 1, 2, 3, or in a wrong order.
+    /// 15, then 10, then 13, 1, 2, 3, or in a wrong order.
     fn check(&self) -> Result<(), u32> {
-        let lists = [Column::new(0, &self.list), Column::new(1, &self.second)];
+        let lists = [self.first_list(), self.second_list()];
         let ignored = is("recipe-second-list-not-tested")
             || is("recipe-second-list-tested-where-used") && !self.uses_second();
         let lists = if ignored { &lists[..1] } else { &lists[..] };
         let lent = self.arguments.values.len();
         let wanted = self.columns as usize * self.row_count();
         let covered = if is("recipe-argument-bitmap-for-all-rows") { wanted } else { lent };
-        let short_arguments = !self.arguments.bits.is_empty()
-            && self.arguments.bits.len() < covered.div_ceil(8)
-            && !is("argument-bitmap-not-tested");
+        let short_arguments =
+            self.arguments.bits.too_short(covered) && !is("argument-bitmap-not-tested");
+        let over_arguments = self.arguments.bits.over_7()
+            && !is("13-of-arguments-not-given")
+            && !(self.columns == 0 && is("recipe-13-of-arguments-only-with-columns"));
         let unequal_lists = lists.iter().any(|list| match defect() {
             "recipe-second-rows-not-counted" => false,
             "right-no-offsets-suit-any-rows" if list.offsets.is_empty() => false,
@@ -284,19 +310,25 @@ impl<'a> Run<'a> {
         let conditions = [
             (15, self.no_station),
             (10, self.is_malformed()),
+            (13, lists.iter().any(Column::starts_over_7) || over_arguments),
             (1, lists.iter().any(Column::bad_offsets)),
             (2, lists.iter().any(Column::short_bitmap) || short_arguments),
             (3, unequal_lists || unequal_arguments),
         ];
         let order = match defect() {
-            "recipe-15-after-10" => [1, 0, 2, 3, 4],
-            "recipe-15-after-3" => [1, 2, 3, 4, 0],
-            "recipe-1-before-10" => [0, 2, 1, 3, 4],
-            "recipe-10-after-3" => [0, 2, 3, 4, 1],
-            "recipe-3-before-10" => [0, 4, 1, 2, 3],
-            "2-before-1" => [0, 1, 3, 2, 4],
-            "3-before-2" => [0, 1, 2, 4, 3],
-            _ => [0, 1, 2, 3, 4],
+            "recipe-15-after-10" => [1, 0, 2, 3, 4, 5],
+            "recipe-15-after-3" => [1, 2, 3, 4, 5, 0],
+            "recipe-13-before-10" => [0, 2, 1, 3, 4, 5],
+            "recipe-13-before-15" => [2, 0, 1, 3, 4, 5],
+            "recipe-1-before-10" => [0, 3, 1, 2, 4, 5],
+            "recipe-10-after-3" => [0, 2, 3, 4, 5, 1],
+            "recipe-3-before-10" => [0, 5, 1, 2, 3, 4],
+            "13-after-1" => [0, 1, 3, 2, 4, 5],
+            "13-after-2" => [0, 1, 3, 4, 2, 5],
+            "13-after-3" => [0, 1, 3, 4, 5, 2],
+            "2-before-1" => [0, 1, 2, 4, 3, 5],
+            "3-before-2" => [0, 1, 2, 3, 5, 4],
+            _ => [0, 1, 2, 3, 4, 5],
         };
         let first = order.into_iter().map(|at| conditions[at]).find(|(_, holds)| *holds);
         first.map_or(Ok(()), |(number, _)| Err(number))
@@ -321,6 +353,9 @@ impl<'a> Run<'a> {
             _ => start + row,
         };
         let bits_start = match defect() {
+            "recipe-argument-start-of-first-column-only" if number > 0 => {
+                start.saturating_sub(self.arguments.bits.from())
+            }
             "recipe-argument-bits-from-0" => 0,
             "recipe-argument-bits-from-a-byte" => start.div_ceil(8) * 8,
             _ => start,
@@ -330,7 +365,7 @@ impl<'a> Run<'a> {
         for row in 0..rows {
             values.push(self.arguments.values.get(place(row)).copied().unwrap_or(0));
             let at = if is("recipe-arguments-row-by-row") { place(row) } else { bits_start + row };
-            bits[row / 8] |= u8::from(bit(self.arguments.bits, at)) << (row % 8);
+            bits[row / 8] |= u8::from(self.arguments.bits.bit(at)) << (row % 8);
         }
         (values, bits)
     }
@@ -349,17 +384,25 @@ impl<'a> Run<'a> {
         let owned: Vec<(Vec<i64>, Vec<u8>)> =
             (0..count).map(|place| self.argument(at, place, step[place + 1])).collect();
         let arguments = owned.iter();
-        let arguments = arguments.map(|(values, bits)| Argument { values: values.clone(), bits });
+        let arguments = arguments
+            .map(|(values, bits)| Argument { values: values.clone(), bits: Bits::new(bits, 0) });
         let carried: Vec<&[u8]> = match defect() {
             "recipe-always-from-the-first-list" => self.list.to_vec(),
             _ => carried.iter().map(Vec::as_slice).collect(),
         };
-        let mut lists = vec![Column::new(0, &carried)];
+        let starts = match defect() {
+            _ if at == 0 => self.starts[0],
+            "recipe-always-from-the-first-list" | "recipe-trays-read-from-the-starting-bit" => {
+                self.starts[0]
+            }
+            _ => [0, 0],
+        };
+        let mut lists = vec![Column::new(0, &carried, &starts)];
         if matches!(code, UNION | INTERSECT) {
             lists.push(match defect() {
-                "recipe-second-list-is-the-first" => Column::new(1, &self.list),
-                "recipe-second-list-is-the-carried" => Column::new(1, &carried),
-                _ => Column::new(1, &self.second),
+                "recipe-second-list-is-the-first" => Column::new(1, &self.list, &self.starts[0]),
+                "recipe-second-list-is-the-carried" => Column::new(1, &carried, &starts),
+                _ => self.second_list(),
             });
             let exchanged = code == UNION && is("recipe-union-sides-exchanged")
                 || code == INTERSECT && is("recipe-intersect-sides-exchanged");
@@ -372,7 +415,7 @@ impl<'a> Run<'a> {
 
     /// The four slices that the rows take, as they would be written into this room.
     fn write(&self, rows: &[MadeRow], room: &mut [&mut [u8]], counts: &mut [u8]) -> u32 {
-        let carried: Vec<Column> = vec![Column::new(0, &self.list)];
+        let carried: Vec<Column> = vec![self.first_list()];
         let call = Call { op: COPY, lists: carried, arguments: Vec::new() };
         Output::new(Answer::Lists, room, counts).write_lists(&call, rows)
     }
@@ -533,7 +576,7 @@ impl<'a> Run<'a> {
 
     /// Moves the offsets behind a null row by the values that it lies over in the first list.
     fn count_hidden(&self, rows: &[MadeRow], offsets: &mut [u8]) {
-        let list = Column::new(0, &self.list);
+        let list = self.first_list();
         let mut end = 0;
         for (row, made) in rows.iter().enumerate() {
             let hidden = if made.valid { 0 } else { list.range(row).len() };
@@ -571,7 +614,7 @@ impl<'a> Run<'a> {
 
     /// Counts that are not those of the rows made.
     fn spoil_counts(&self, counts: &mut [u8]) {
-        let list = Column::new(0, &self.list);
+        let list = self.first_list();
         let rows = 0..self.row_count();
         let shown = rows.clone().filter(|row| list.is_valid(*row));
         let elements: usize = shown.clone().map(|row| list.range(row).len()).sum();

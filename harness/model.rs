@@ -80,13 +80,20 @@ impl Operation {
     }
 }
 
+/// A bitmap of a column as it is lent, with the bit of its first byte at which it starts.
+#[derive(Clone, Debug, Default)]
+pub struct Bitmap {
+    pub bytes: Vec<u8>,
+    pub start: u32,
+}
+
 /// A list column as it is lent.
 #[derive(Clone, Debug, Default)]
 pub struct ListColumn {
     pub offsets: Vec<i32>,
-    pub rows: Vec<u8>,
+    pub rows: Bitmap,
     pub values: Vec<i64>,
-    pub elements: Vec<u8>,
+    pub elements: Bitmap,
 }
 
 impl ListColumn {
@@ -104,7 +111,7 @@ impl ListColumn {
 #[derive(Clone, Debug, Default)]
 pub struct ArgumentColumn {
     pub values: Vec<i64>,
-    pub bits: Vec<u8>,
+    pub bits: Bitmap,
 }
 
 /// What the columns of a call show: the rows of each list, the values of each argument column.
@@ -164,13 +171,39 @@ pub fn bitmap_bytes(positions: usize) -> usize {
     positions / 8 + usize::from(positions % 8 != 0)
 }
 
+impl Bitmap {
+    /// A bitmap that starts at bit 0.
+    pub fn from_0(bytes: Vec<u8>) -> Bitmap {
+        Bitmap { bytes, start: 0 }
+    }
+
+    /// The bytes that it takes for this many positions, which are counted from its starting bit.
+    pub fn needed(&self, positions: usize) -> usize {
+        bitmap_bytes(self.start as usize + positions)
+    }
+
+    pub fn is_valid(&self, position: usize) -> bool {
+        is_valid(&self.bytes, self.start as usize + position)
+    }
+
+    /// A non-empty bitmap with fewer bits from its starting bit on than positions.
+    pub fn is_too_short(&self, positions: usize) -> bool {
+        !self.bytes.is_empty() && self.bytes.len() < self.needed(positions)
+    }
+
+    /// Condition of 13, whatever its bytes.
+    pub fn starts_over_7(&self) -> bool {
+        self.start > 7
+    }
+}
+
 /// The rows that a well-formed list column shows.
 pub fn shown_rows(column: &ListColumn) -> Vec<Row> {
     (0..column.row_count()).map(|row| shown_row(column, row)).collect()
 }
 
 fn shown_row(column: &ListColumn, row: usize) -> Row {
-    if !is_valid(&column.rows, row) {
+    if !column.rows.is_valid(row) {
         return None;
     }
     let start = column.offsets[row] as usize;
@@ -178,8 +211,8 @@ fn shown_row(column: &ListColumn, row: usize) -> Row {
     Some((start..end).map(|place| shown_value(&column.values, &column.elements, place)).collect())
 }
 
-fn shown_value(values: &[i64], bitmap: &[u8], place: usize) -> Element {
-    if is_valid(bitmap, place) {
+fn shown_value(values: &[i64], bitmap: &Bitmap, place: usize) -> Element {
+    if bitmap.is_valid(place) {
         Some(values[place])
     } else {
         None
@@ -198,7 +231,13 @@ pub fn shown(lists: &[ListColumn], arguments: &[ArgumentColumn]) -> Shown {
     }
 }
 
-// Refusals 1, 2, 3, which every operation gives first.
+// Refusals 13, 1, 2, 3, which every operation gives first.
+
+/// Condition of 13 for the lists and argument columns of a call: some starting bit over 7.
+fn have_bad_start(lists: &[ListColumn], arguments: &[ArgumentColumn]) -> bool {
+    let in_list = |list: &ListColumn| list.rows.starts_over_7() || list.elements.starts_over_7();
+    lists.iter().any(in_list) || arguments.iter().any(|one| one.bits.starts_over_7())
+}
 
 /// Condition of 1: first negative, any falling, or last beyond the values; no offsets are none of
 /// these.
@@ -211,22 +250,23 @@ fn has_bad_offsets(column: &ListColumn) -> bool {
     first < 0 || falling || i64::from(last) > column.values.len() as i64
 }
 
-/// A non-empty bitmap with fewer bits than positions.
-pub fn is_too_short(bitmap: &[u8], positions: usize) -> bool {
-    !bitmap.is_empty() && bitmap.len() < bitmap_bytes(positions)
-}
-
 /// Condition of 2 for a list: the rows, and all the values lent.
 fn has_short_bitmap(column: &ListColumn) -> bool {
-    is_too_short(&column.rows, column.row_count())
-        || is_too_short(&column.elements, column.values.len())
+    column.rows.is_too_short(column.row_count())
+        || column.elements.is_too_short(column.values.len())
 }
 
-/// Whether neither 1 nor 2 applies to any of these columns.
+/// Condition of 2 for an argument column.
+fn is_short_argument(column: &ArgumentColumn) -> bool {
+    column.bits.is_too_short(column.values.len())
+}
+
+/// Whether none of 13, 1 and 2 applies to any of these columns.
 pub fn are_well_formed(lists: &[ListColumn], arguments: &[ArgumentColumn]) -> bool {
     let is_bad_list = |list: &ListColumn| has_bad_offsets(list) || has_short_bitmap(list);
-    let is_bad_argument = |one: &ArgumentColumn| is_too_short(&one.bits, one.values.len());
-    !lists.iter().any(is_bad_list) && !arguments.iter().any(is_bad_argument)
+    !have_bad_start(lists, arguments)
+        && !lists.iter().any(is_bad_list)
+        && !arguments.iter().any(is_short_argument)
 }
 
 /// Whether an argument column of this many values goes with this many rows: a limit column may
@@ -235,7 +275,8 @@ pub fn suits(role: Role, values: usize, rows: usize) -> bool {
     values == rows || role == Role::Limit && values == 1
 }
 
-/// The refusal that the columns alone give: 1 over all lists, then 2 over all columns, then 3.
+/// The refusal that the columns alone give: 13 over all columns, 1 over all lists, 2 over all
+/// columns, then 3.
 pub fn column_refusal(
     operation: Operation,
     lists: &[ListColumn],
@@ -243,12 +284,13 @@ pub fn column_refusal(
 ) -> Option<Refusal> {
     let roles = operation.roles();
     assert_eq!(roles.len(), arguments.len(), "the columns that the operation takes");
+    if have_bad_start(lists, arguments) {
+        return Some(13);
+    }
     if lists.iter().any(has_bad_offsets) {
         return Some(1);
     }
-    let short_list = lists.iter().any(has_short_bitmap);
-    let short_argument = arguments.iter().any(|one| is_too_short(&one.bits, one.values.len()));
-    if short_list || short_argument {
+    if lists.iter().any(has_short_bitmap) || arguments.iter().any(is_short_argument) {
         return Some(2);
     }
     let rows = lists[0].row_count();
@@ -782,15 +824,17 @@ pub fn malformed(numbers: &[u32], columns: u32) -> Vec<Malformed> {
     ways
 }
 
-/// The refusal of a recipe's columns, of which the argument columns are one: 1, then 2, then 3,
-/// where row counts differ or the arguments' length is not columns times rows.
+/// The refusal of a recipe's columns, of which the argument columns are one: 13, then 1, then 2,
+/// then 3, where row counts differ or the arguments' length is not columns times rows.
 pub fn recipe_column_refusal(recipe: &Recipe) -> Option<Refusal> {
     let (lists, arguments) = (recipe.lists, recipe.arguments);
+    if have_bad_start(lists, std::slice::from_ref(arguments)) {
+        return Some(13);
+    }
     if lists.iter().any(has_bad_offsets) {
         return Some(1);
     }
-    let short_arguments = is_too_short(&arguments.bits, arguments.values.len());
-    if lists.iter().any(has_short_bitmap) || short_arguments {
+    if lists.iter().any(has_short_bitmap) || is_short_argument(arguments) {
         return Some(2);
     }
     let rows = lists[0].row_count();
@@ -862,7 +906,7 @@ pub fn carry(
     Ok(carried)
 }
 
-/// The refusal of a recipe before its steps: 15 for a station over 15, then 10, then 1, 2, 3.
+/// The refusal of a recipe before its steps: 15 for a station over 15, then 10, then 13, 1, 2, 3.
 pub fn refusal_before_steps(recipe: &Recipe) -> Option<Refusal> {
     if recipe.station > 15 {
         Some(15)

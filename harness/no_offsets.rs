@@ -5,7 +5,7 @@
 use crate::compare::Checker;
 use crate::entry::{Case, Content, Entry, Input};
 use crate::generate::{input_of, lend, random_element, random_layouts, Column, Room};
-use crate::model::{self, ListColumn, Role, Shown};
+use crate::model::{self, Bitmap, ListColumn, Role, Shown};
 use crate::recipe_generate::{code_of, random_station, RecipeCall};
 use crate::rng::Rng;
 
@@ -77,9 +77,9 @@ fn list_beside((values, bytes): (usize, usize), rng: &mut Rng) -> ListColumn {
     let row_bytes = rng.below(3);
     ListColumn {
         offsets: Vec::new(),
-        rows: rng.bytes(row_bytes),
+        rows: Bitmap::from_0(rng.bytes(row_bytes)),
         values: (0..values).map(|_| rng.next() as i64).collect(),
-        elements: rng.bytes(bytes),
+        elements: Bitmap::from_0(rng.bytes(bytes)),
     }
 }
 
@@ -96,7 +96,7 @@ fn make_unequal(input: &mut Input, lists: &[usize], rng: &mut Rng) -> bool {
         }
         Column::Argument(at) => {
             input.arguments[at].values = vec![1; 9];
-            input.arguments[at].bits.clear();
+            input.arguments[at].bits.bytes.clear();
         }
     }
     true
@@ -125,7 +125,7 @@ fn check_rooms(checker: &mut Checker, none: &Input, lists: &[usize], rng: &mut R
 /// The answer, by hand: 10 for a recipe with a number too many, 2 for a bitmap that does not cover
 /// the values, 3 for a column with rows, 9 where a place that is written has no slot for its offset.
 fn wanted(none: &Input, case: &Case) -> u32 {
-    let is_short = |list: &ListColumn| list.values.len() == 9 && list.elements.len() == 1;
+    let is_short = |list: &ListColumn| list.values.len() == 9 && list.elements.bytes.len() == 1;
     let has_rows = none.lists.iter().any(|list| list.offsets.len() > 1)
         || none.taken().iter().any(|argument| argument.values.len() > 1);
     let offsets = |at: usize| case.outputs[at].is_empty();
@@ -150,7 +150,7 @@ fn wanted(none: &Input, case: &Case) -> u32 {
 /// The call, and the same with one offset in the lists that have none.
 fn check_both(checker: &mut Checker, none: &Case, one: &Input, number: u32) {
     let mut other = none.clone();
-    other.inputs = one.encode();
+    other.lend(one);
     let calls = [none, &other].map(|case| (case.clone(), checker.check(case)));
     let as_stated = none.expected().number == number;
     checker.require(as_stated, none, "a column with no offsets misjudged");

@@ -96,24 +96,30 @@ fn bit(bitmap: &[u8], position: usize) -> bool {
     bitmap.is_empty() || bitmap[position / 8] >> (position % 8) & 1 == 1
 }
 
-fn too_short(bitmap: &[u8], positions: usize) -> bool {
-    !bitmap.is_empty() && bitmap.len() < positions.div_ceil(8)
+fn too_short(bitmap: &[u8], start: usize, positions: usize) -> bool {
+    !bitmap.is_empty() && bitmap.len() < (start + positions).div_ceil(8)
 }
 
-/// A list column.
+/// A list column; its bitmaps start at these bits.
 #[derive(Clone, Copy)]
 pub struct Column<'a, O, V> {
     pub offsets: &'a [O],
     pub rows: &'a [u8],
+    pub rows_start: usize,
     pub values: &'a [V],
     pub elements: &'a [u8],
+    pub elements_start: usize,
 }
 
 impl<'a> Column<'a, Bytes4, Bytes8> {
     /// Its numbers still as bytes.
-    fn in_place([offsets, rows, values, elements]: [&'a [u8]; 4]) -> Self {
+    fn in_place(
+        [offsets, rows, values, elements]: [&'a [u8]; 4],
+        [rows_start, elements_start]: [u32; 2],
+    ) -> Self {
         let (offsets, values) = (offsets.as_chunks().0, values.as_chunks().0);
-        Column { offsets, rows, values, elements }
+        let (rows_start, elements_start) = (rows_start as usize, elements_start as usize);
+        Column { offsets, rows, rows_start, values, elements, elements_start }
     }
 }
 
@@ -138,20 +144,31 @@ impl<'a, O: Offset, V: Value> Column<'a, O, V> {
         previous as usize > self.values.len()
     }
 
+    fn bad_start(&self) -> bool {
+        self.rows_start > 7 || self.elements_start > 7
+    }
+
     fn short_bitmap(&self) -> bool {
-        too_short(self.rows, self.row_count()) || too_short(self.elements, self.values.len())
+        too_short(self.rows, self.rows_start, self.row_count())
+            || too_short(self.elements, self.elements_start, self.values.len())
+    }
+
+    fn is_valid(&self, row: usize) -> bool {
+        bit(self.rows, self.rows_start + row)
     }
 
     /// A row, or None for a null row.
     fn row(&self, row: usize) -> Option<Row<'a, V>> {
-        bit(self.rows, row).then(|| {
+        self.is_valid(row).then(|| {
             let (start, end) = (self.offset(row) as usize, self.offset(row + 1) as usize);
-            Row { values: &self.values[start..end], elements: self.elements, start }
+            let values = &self.values[start..end];
+            Row { values, elements: self.elements, start: self.elements_start + start }
         })
     }
 }
 
-/// An argument column, and where it starts in its bitmap; one value may be used for all rows.
+/// An argument column, and the bit of its bitmap at which it starts; one value may be used for all
+/// rows.
 #[derive(Clone, Copy)]
 pub struct Argument<'a, V> {
     pub values: &'a [V],
@@ -160,18 +177,26 @@ pub struct Argument<'a, V> {
 }
 
 impl<'a> Argument<'a, Bytes8> {
-    fn in_place([values, bits]: [&'a [u8]; 2]) -> Self {
-        Argument { values: values.as_chunks().0, bits, start: 0 }
+    fn in_place([values, bits]: [&'a [u8]; 2], start: u32) -> Self {
+        Argument { values: values.as_chunks().0, bits, start: start as usize }
     }
 }
 
 impl<V: Value> Argument<'_, V> {
+    fn bad_start(&self) -> bool {
+        self.start > 7
+    }
+
     fn short_bitmap(&self) -> bool {
-        too_short(self.bits, self.values.len())
+        too_short(self.bits, self.start, self.values.len())
+    }
+
+    fn is_valid(&self, row: usize) -> bool {
+        bit(self.bits, self.start + row)
     }
 
     fn element(&self, row: usize) -> Option<V> {
-        bit(self.bits, self.start + row).then(|| self.values[row])
+        self.is_valid(row).then(|| self.values[row])
     }
 
     fn number(&self, row: usize) -> Option<i64> {
@@ -295,7 +320,12 @@ impl<O: Offset, V: Value> Call<'_, O, V> {
     fn refusal(&self) -> Option<u32> {
         let right = || self.right.iter();
         let rows = || self.list.row_count();
-        if self.list.bad_offsets() || right().any(Column::bad_offsets) {
+        if self.list.bad_start()
+            || right().any(Column::bad_start)
+            || self.arguments.iter().any(Argument::bad_start)
+        {
+            Some(13)
+        } else if self.list.bad_offsets() || right().any(Column::bad_offsets) {
             Some(1)
         } else if self.list.short_bitmap()
             || right().any(Column::short_bitmap)
@@ -344,7 +374,7 @@ impl<O: Offset, V: Value> Call<'_, O, V> {
     fn resized_elements(&self, count: &Argument<V>) -> Result<usize, u32> {
         let mut sum = 0u64;
         for row in 0..self.list.row_count() {
-            let Some(count) = count.number(row).filter(|_| bit(self.list.rows, row)) else {
+            let Some(count) = count.number(row).filter(|_| self.list.is_valid(row)) else {
                 continue;
             };
             sum = sum.checked_add(u64::try_from(count).map_err(|_| 7u32)?).ok_or(8u32)?;
@@ -613,10 +643,7 @@ pub fn write_lists<O: Offset, V: Value>(
 }
 
 /// The same for columns that are not refused.
-fn write_rows<O: Offset, V: Value>(
-    call: &Call<O, V>,
-    room: Lists<O, V>,
-) -> Result<[u64; 4], u32> {
+fn write_rows<O: Offset, V: Value>(call: &Call<O, V>, room: Lists<O, V>) -> Result<[u64; 4], u32> {
     let rows = call.list.row_count();
     let elements = call.elements()?;
     if !rows_fit(room.offsets, room.rows, rows)
@@ -659,6 +686,9 @@ pub fn write_any_values<O: Offset, V: Value>(
     out_values: &mut [V],
     out_rows: &mut [u8],
 ) -> Result<[u64; 2], u32> {
+    if column.bad_start() {
+        return Err(13);
+    }
     if column.bad_offsets() {
         return Err(1);
     }
@@ -691,6 +721,9 @@ pub fn write_elements<O: Offset, V: Value>(
     out_values: &mut [V],
     out_rows: &mut [u8],
 ) -> Result<[u64; 2], u32> {
+    if column.bad_start() || indexes.bad_start() {
+        return Err(13);
+    }
     if column.bad_offsets() {
         return Err(1);
     }
@@ -701,7 +734,7 @@ pub fn write_elements<O: Offset, V: Value>(
     if indexes.values.len() != rows {
         return Err(3);
     }
-    let both_valid = |row: usize| bit(column.rows, row) && bit(indexes.bits, row);
+    let both_valid = |row: usize| column.is_valid(row) && indexes.is_valid(row);
     let fits = |row: usize| i32::try_from(indexes.values[row].number()).is_ok();
     if (0..rows).any(|row| both_valid(row) && !fits(row)) {
         return Err(4);
@@ -738,6 +771,9 @@ pub fn write_repeated<O: Offset, V: Value>(
     outer: Outer<O>,
     inner: Lists<O, V>,
 ) -> Result<[u64; 6], u32> {
+    if column.bad_start() || times.bad_start() {
+        return Err(13);
+    }
     if column.bad_offsets() {
         return Err(1);
     }
@@ -930,9 +966,15 @@ fn lists_in_place<'a>(
     Lists { offsets, rows, values, elements }
 }
 
-pub fn list(code: u32, inputs: [&[u8]; 4], outputs: [&mut [u8]; 4], counts: &mut [u8]) -> u32 {
+pub fn list(
+    code: u32,
+    inputs: [&[u8]; 4],
+    starts: [u32; 2],
+    outputs: [&mut [u8]; 4],
+    counts: &mut [u8],
+) -> u32 {
     let result = check_list(code, &inputs, &outputs, counts).and_then(|()| {
-        let list = Column::in_place(inputs);
+        let list = Column::in_place(inputs, starts);
         let call = Call { code, list, right: None, arguments: &[] };
         write_lists(&call, lists_in_place(outputs))
     });
@@ -943,19 +985,26 @@ pub fn list(code: u32, inputs: [&[u8]; 4], outputs: [&mut [u8]; 4], counts: &mut
 pub fn distinct_by_set(
     _: u32,
     inputs: [&[u8]; 4],
+    starts: [u32; 2],
     outputs: [&mut [u8]; 4],
     counts: &mut [u8],
 ) -> u32 {
-    let list = Column::in_place(inputs);
+    let list = Column::in_place(inputs, starts);
     let call = Call { code: DISTINCT_BY_SET, list, right: None, arguments: &[] };
     answer(write_lists(&call, lists_in_place(outputs)), counts)
 }
 
-pub fn lists(code: u32, inputs: [&[u8]; 8], outputs: [&mut [u8]; 4], counts: &mut [u8]) -> u32 {
+pub fn lists(
+    code: u32,
+    inputs: [&[u8]; 8],
+    [s0, s1, s2, s3]: [u32; 4],
+    outputs: [&mut [u8]; 4],
+    counts: &mut [u8],
+) -> u32 {
     let result = check_lists(code, &inputs, &outputs, counts).and_then(|()| {
         let [l0, l1, l2, l3, r0, r1, r2, r3] = inputs;
-        let list = Column::in_place([l0, l1, l2, l3]);
-        let right = Some(Column::in_place([r0, r1, r2, r3]));
+        let list = Column::in_place([l0, l1, l2, l3], [s0, s1]);
+        let right = Some(Column::in_place([r0, r1, r2, r3], [s2, s3]));
         write_lists(&Call { code, list, right, arguments: &[] }, lists_in_place(outputs))
     });
     answer(result, counts)
@@ -964,43 +1013,60 @@ pub fn lists(code: u32, inputs: [&[u8]; 8], outputs: [&mut [u8]; 4], counts: &mu
 pub fn list_with(
     code: u32,
     inputs: [&[u8]; 10],
+    [s0, s1, s2, s3, s4]: [u32; 5],
     outputs: [&mut [u8]; 4],
     counts: &mut [u8],
 ) -> u32 {
     let result = check_list_with(code, &inputs, &outputs, counts).and_then(|taken| {
         let [offsets, rows, values, elements, first, b1, second, b2, third, b3] = inputs;
-        let list = Column::in_place([offsets, rows, values, elements]);
-        let arguments = [[first, b1], [second, b2], [third, b3]];
-        let arguments = &arguments.map(Argument::in_place)[..taken];
+        let list = Column::in_place([offsets, rows, values, elements], [s0, s1]);
+        let arguments = [([first, b1], s2), ([second, b2], s3), ([third, b3], s4)];
+        let arguments = arguments.map(|(slices, start)| Argument::in_place(slices, start));
+        let arguments = &arguments[..taken];
         write_lists(&Call { code, list, right: None, arguments }, lists_in_place(outputs))
     });
     answer(result, counts)
 }
 
-pub fn any_value(inputs: [&[u8]; 4], outputs: [&mut [u8]; 2], counts: &mut [u8]) -> u32 {
+pub fn any_value(
+    inputs: [&[u8]; 4],
+    starts: [u32; 2],
+    outputs: [&mut [u8]; 2],
+    counts: &mut [u8],
+) -> u32 {
     let result = check_any_value(&inputs, &outputs, counts).and_then(|()| {
         let [values, rows] = outputs;
-        write_any_values(Column::in_place(inputs), values.as_chunks_mut().0, rows)
+        write_any_values(Column::in_place(inputs, starts), values.as_chunks_mut().0, rows)
     });
     answer(result, counts)
 }
 
-pub fn element(inputs: [&[u8]; 6], outputs: [&mut [u8]; 2], counts: &mut [u8]) -> u32 {
+pub fn element(
+    inputs: [&[u8]; 6],
+    [s0, s1, s2]: [u32; 3],
+    outputs: [&mut [u8]; 2],
+    counts: &mut [u8],
+) -> u32 {
     let result = check_element(&inputs, &outputs, counts).and_then(|()| {
         let [offsets, rows, values, elements, indexes, index_bits] = inputs;
-        let column = Column::in_place([offsets, rows, values, elements]);
-        let indexes = Argument::in_place([indexes, index_bits]);
+        let column = Column::in_place([offsets, rows, values, elements], [s0, s1]);
+        let indexes = Argument::in_place([indexes, index_bits], s2);
         let [values, rows] = outputs;
         write_elements(column, indexes, values.as_chunks_mut().0, rows)
     });
     answer(result, counts)
 }
 
-pub fn list_repeat(inputs: [&[u8]; 6], outputs: [&mut [u8]; 6], counts: &mut [u8]) -> u32 {
+pub fn list_repeat(
+    inputs: [&[u8]; 6],
+    [s0, s1, s2]: [u32; 3],
+    outputs: [&mut [u8]; 6],
+    counts: &mut [u8],
+) -> u32 {
     let result = check_list_repeat(&inputs, &outputs, counts).and_then(|()| {
         let [offsets, rows, values, elements, times, times_bits] = inputs;
-        let column = Column::in_place([offsets, rows, values, elements]);
-        let times = Argument::in_place([times, times_bits]);
+        let column = Column::in_place([offsets, rows, values, elements], [s0, s1]);
+        let times = Argument::in_place([times, times_bits], s2);
         let [offsets, rows, inner_offsets, inner_rows, values, elements] = outputs;
         let outer = Outer { offsets: offsets.as_chunks_mut().0, rows };
         let inner = lists_in_place([inner_offsets, inner_rows, values, elements]);
@@ -1044,7 +1110,9 @@ pub struct RecipeColumns<'a, O, V> {
 impl<'a, O: Offset, V: Value> RecipeColumns<'a, O, V> {
     fn refusal(&self, columns: u32) -> Option<u32> {
         let RecipeColumns { list, second, arguments } = self;
-        if list.bad_offsets() || second.bad_offsets() {
+        if list.bad_start() || second.bad_start() || arguments.bad_start() {
+            Some(13)
+        } else if list.bad_offsets() || second.bad_offsets() {
             Some(1)
         } else if list.short_bitmap() || second.short_bitmap() || arguments.short_bitmap() {
             Some(2)
@@ -1059,9 +1127,9 @@ impl<'a, O: Offset, V: Value> RecipeColumns<'a, O, V> {
 
     fn argument(&self, number: u32) -> Argument<'a, V> {
         let rows = self.list.row_count();
-        let start = number as usize * rows;
-        let Argument { values, bits, .. } = self.arguments;
-        Argument { values: &values[start..start + rows], bits, start }
+        let place = number as usize * rows;
+        let Argument { values, bits, start } = self.arguments;
+        Argument { values: &values[place..place + rows], bits, start: start + place }
     }
 
     /// Does a step on the carried rows; an unused number is 0, and its column is not looked at.
@@ -1084,7 +1152,8 @@ impl<'a, O: Offset, V: Value> RecipeColumns<'a, O, V> {
     /// The rows that the step before left in a tray.
     fn in_tray<'b>(&self, tray: &'b Lists<O, V>) -> Column<'b, O, V> {
         let offsets = &tray.offsets[..=self.list.row_count()];
-        Column { offsets, rows: tray.rows, values: tray.values, elements: tray.elements }
+        let Lists { rows, values, elements, .. } = tray;
+        Column { offsets, rows, rows_start: 0, values, elements, elements_start: 0 }
     }
 }
 
@@ -1137,16 +1206,11 @@ pub fn run_recipe<O: Offset, V: Value>(
     run_steps(lent, steps, trays, output)
 }
 
-pub const MOST_NUMBERS: usize = 1024;
 pub const MOST_ARGUMENTS: usize = 32768;
 
-pub fn check_recipe(
-    inputs: Inputs<11>,
-    outputs: Outputs<13>,
-    counts: &[u8],
-) -> Result<(), u32> {
+pub fn check_recipe(inputs: Inputs<11>, outputs: Outputs<13>, counts: &[u8]) -> Result<(), u32> {
     let numbers = [
-        (inputs[0].len(), 4, MOST_NUMBERS),
+        (inputs[0].len(), 4, usize::MAX),
         offsets_of(inputs[1]),
         values_of(inputs[3]),
         offsets_of(inputs[5]),
@@ -1198,6 +1262,7 @@ pub fn recipe(
     station: u32,
     columns: u32,
     inputs: [&[u8]; 11],
+    [b0, b1, b2, b3, b4]: [u32; 5],
     outputs: [&mut [u8]; 13],
     counts: &mut [u8],
 ) -> u32 {
@@ -1205,9 +1270,9 @@ pub fn recipe(
         let [numbers, l0, l1, l2, l3, s0, s1, s2, s3, arguments, argument_bits] = inputs;
         let [o0, o1, o2, o3, t0, t1, t2, t3, r0, r1, r2, r3] = outputs;
         let lent = RecipeColumns {
-            list: Column::in_place([l0, l1, l2, l3]),
-            second: Column::in_place([s0, s1, s2, s3]),
-            arguments: Argument::in_place([arguments, argument_bits]),
+            list: Column::in_place([l0, l1, l2, l3], [b0, b1]),
+            second: Column::in_place([s0, s1, s2, s3], [b2, b3]),
+            arguments: Argument::in_place([arguments, argument_bits], b4),
         };
         let trays = [[o0, o1, o2, o3], [t0, t1, t2, t3]].map(lists_in_place);
         run_recipe(columns, numbers, &lent, trays, lists_in_place([r0, r1, r2, r3]))

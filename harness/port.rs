@@ -1,6 +1,7 @@
 //! The port's C entries behind safe functions.
 //!
-//! A slice passes as a pointer and a length in bytes. The entries demand nothing of their caller
+//! A slice passes as a pointer and a length in bytes, a bitmap of a column with its starting bit
+//! behind them. The entries demand nothing of their caller
 //! but that each pointer is not null and may be read, or written, for its length, and that no output
 //! overlaps another slice. Rust's borrow rules give all: a `&mut [u8]` overlaps no other borrow.
 
@@ -11,54 +12,63 @@ pub use crate::mock::LIBRARY;
 use crate::library::Library;
 
 /// The safe function of an entry: the code, if it takes one, or the station and the number of
-/// columns, then the names of its input slices, then those of its output slices; the counts come
-/// last, and only the tally behind them.
+/// columns, then the names of its input slices, those of bitmaps with that of their starting bit,
+/// then those of its output slices; the counts come last, and only the tally behind them.
 #[cfg(not(mock))]
 macro_rules! entry {
     (list) => {
         entry! { list = duthlan_list (op)
-            [offsets rows values elements]
+            [offsets rows:rows_start values elements:elements_start]
             [out_offsets out_rows out_values out_elements] }
     };
     (any_value) => {
         entry! { any_value = duthlan_any_value ()
-            [offsets rows values elements]
+            [offsets rows:rows_start values elements:elements_start]
             [out_values out_rows] }
     };
     (element) => {
         entry! { element = duthlan_element ()
-            [offsets rows values elements indexes index_bits]
+            [offsets rows:rows_start values elements:elements_start
+             indexes index_bits:index_start]
             [out_values out_rows] }
     };
     (lists) => {
         entry! { lists = duthlan_lists (op)
-            [offsets rows values elements right_offsets right_rows right_values right_elements]
+            [offsets rows:rows_start values elements:elements_start
+             right_offsets right_rows:right_rows_start
+             right_values right_elements:right_elements_start]
             [out_offsets out_rows out_values out_elements] }
     };
     (list_with) => {
         entry! { list_with = duthlan_list_with (op)
-            [offsets rows values elements first first_bits second second_bits third third_bits]
+            [offsets rows:rows_start values elements:elements_start
+             first first_bits:first_start second second_bits:second_start
+             third third_bits:third_start]
             [out_offsets out_rows out_values out_elements] }
     };
     (list_repeat) => {
         entry! { list_repeat = duthlan_list_repeat ()
-            [offsets rows values elements times times_bits]
+            [offsets rows:rows_start values elements:elements_start
+             times times_bits:times_start]
             [out_offsets out_rows inner_offsets inner_rows out_values out_elements] }
     };
     (recipe) => {
         entry! { recipe = duthlan_recipe (station columns)
-            [numbers offsets rows values elements
-             second_offsets second_rows second_values second_elements arguments argument_bits]
+            [numbers offsets rows:rows_start values elements:elements_start
+             second_offsets second_rows:second_rows_start
+             second_values second_elements:second_elements_start
+             arguments argument_bits:argument_start]
             [one_offsets one_rows one_values one_elements
              two_offsets two_rows two_values two_elements
              out_offsets out_rows out_values out_elements]
             tally }
     };
     ($name:ident = $symbol:ident ($($code:ident)*)
-        [$($input:ident)+] [$($output:ident)+] $($tally:ident)?) => {
+        [$($input:ident $(: $start:ident)?)+] [$($output:ident)+] $($tally:ident)?) => {
         fn $name(
             $($code: u32,)*
             [$($input),+]: [&[u8]; [$(stringify!($input)),+].len()],
+            [$($($start,)?)+]: [u32; [$($(stringify!($start),)?)+].len()],
             [$($output,)+ $($tally)?]: [
                 &mut [u8];
                 [$(stringify!($output),)+ $(stringify!($tally))?].len()
@@ -68,7 +78,7 @@ macro_rules! entry {
             extern "C" {
                 fn $symbol(
                     $($code: u32,)*
-                    $($input: *const u8, _: usize,)+
+                    $($input: *const u8, _: usize, $($start: u32,)?)+
                     $($output: *mut u8, _: usize,)+
                     counts: *mut u8, _: usize,
                     $($tally: *mut u8, _: usize,)?
@@ -79,7 +89,7 @@ macro_rules! entry {
             unsafe {
                 $symbol(
                     $($code,)*
-                    $($input.as_ptr(), $input.len(),)+
+                    $($input.as_ptr(), $input.len(), $($start,)?)+
                     $($output.as_mut_ptr(), $output.len(),)+
                     counts.as_mut_ptr(), counts.len(),
                     $($tally.as_mut_ptr(), $tally.len(),)?

@@ -65,7 +65,10 @@ pub fn met(case: &Case, expected: &Expected) -> Vec<Met> {
     match number {
         0 => met.extend(accepted_met(case, &input)),
         4..=9 => met.extend(refused_met(case, &input)),
-        10 => met.extend(malformed_met(&input)),
+        10 => {
+            met.extend(malformed_met(&input));
+            met.extend(many_numbers_met(&input));
+        }
         _ => (),
     }
     if matches!(number, 0 | 9) {
@@ -168,6 +171,16 @@ fn malformed_met(input: &Input) -> Vec<Met> {
         met.push(("malformed", format!("{} {beside}", way.name())));
     }
     met
+}
+
+/// More numbers than a recipe has, all of which are malformed.
+const MANY_NUMBERS: [(usize, &str); 3] =
+    [(128, "over 128"), (1024, "over 1024"), (4096, "over 4096")];
+
+fn many_numbers_met(input: &Input) -> impl Iterator<Item = Met> {
+    let numbers = input.numbers.len();
+    let over = MANY_NUMBERS.into_iter().filter(move |(most, _)| numbers > *most);
+    over.map(|(_, name)| ("numbers", name.to_string()))
 }
 
 // Refused steps.
@@ -377,7 +390,7 @@ fn lent_as(steps: &str, slice: &str, name: &str) -> Met {
 
 /// The answers that a recipe can be given. Its unions cannot exceed 2147483647 elements here, but
 /// the counts of its resizes can.
-const ANSWERS: [u32; 14] = [0, 1, 2, 3, 4, 5, 6, 7, 8, 9, 10, 15, 100, 101];
+const ANSWERS: [u32; 15] = [0, 1, 2, 3, 4, 5, 6, 7, 8, 9, 10, 13, 15, 100, 101];
 
 /// The order in which they come where several conditions hold; 4 to 8 are those of one step.
 fn demanded_orders(entry: Entry) -> Vec<String> {
@@ -385,9 +398,10 @@ fn demanded_orders(entry: Entry) -> Vec<String> {
         100 | 101 => number - 100,
         15 => 2,
         10 => 3,
-        1..=3 => 3 + number,
-        9 => 8,
-        _ => 7,
+        13 => 4,
+        1..=3 => 4 + number,
+        9 => 9,
+        _ => 8,
     };
     let mut orders = Vec::new();
     for first in &ANSWERS[1..] {
@@ -425,7 +439,7 @@ fn demanded_refusals() -> Vec<Met> {
     all.push(("refused", "9 without steps".to_string()));
     all.extend(PLACES.map(|place| ("9 for", place.name().to_string())));
     for way in WAYS {
-        for beside in ["alone", "beside 1", "beside 2", "beside 3"] {
+        for beside in ["alone", "beside 13", "beside 1", "beside 2", "beside 3"] {
             all.push(("malformed", format!("{} {beside}", way.name())));
         }
     }
@@ -435,8 +449,9 @@ fn demanded_refusals() -> Vec<Met> {
 fn demanded_slices(entry: Entry) -> Vec<Met> {
     let mut all = Vec::new();
     for kind in entry.inputs().into_iter().chain(entry.outputs().iter().copied()) {
+        all.extend((kind.width > 1).then(|| ("ragged", kind.name.to_string())));
         if kind.most.is_some() {
-            all.extend(["ragged", "over size", "at size"].map(|way| (way, kind.name.to_string())));
+            all.extend(["over size", "at size"].map(|way| (way, kind.name.to_string())));
         }
     }
     all.extend(["counts", "tally"].map(|name| ("ragged", name.to_string())));
@@ -475,7 +490,7 @@ fn demanded_lent(entry: Entry) -> Vec<Met> {
     all
 }
 
-/// The answers that pairs of layouts must share: all but 1, 2 and the entry's own.
+/// The answers that pairs of layouts must share: all but 13, 1, 2 and the entry's own.
 fn shared_answers() -> Vec<u32> {
     ANSWERS.into_iter().filter(|number| matches!(number, 0 | 3..=10 | 15)).collect()
 }
@@ -522,5 +537,7 @@ pub fn demanded() -> Vec<Met> {
     all.extend(demanded_shared(entry));
     all.extend(crate::coverage::demanded_no_offsets(entry));
     all.extend(crate::coverage::demanded_null_slots());
+    all.extend(crate::coverage::demanded_starts(entry, &shared_answers()));
+    all.extend(MANY_NUMBERS.map(|(_, name)| ("numbers", name.to_string())));
     all
 }

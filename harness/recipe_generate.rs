@@ -380,5 +380,5 @@ pub fn lend_recipe(input: &Input, room: Room, rng: &mut Rng) -> Case {
     outputs.push(random_tally(rng));
     let more_counts = rng.pick(&[0, 0, 1, 8, 9]);
     let counts = rng.bytes(input.entry.count_bytes() + more_counts);
-    Case { entry: input.entry, inputs: input.encode(), outputs, counts }
+    Case::new(input, outputs, counts)
 }

@@ -1,11 +1,13 @@
 //! The groups of checks for recipes.
 
 use crate::compare::Checker;
-use crate::entry::{encode_u32, Case, Entry, Input, MOST_ARGUMENTS, MOST_ROWS, MOST_VALUES};
-use crate::entry::{MOST_NUMBERS, TALLY, TALLY_BYTES, TRAYS};
+use crate::entry::{
+    encode_u32, Case, Entry, Input, SliceKind, MOST_ARGUMENTS, MOST_ROWS, MOST_VALUES,
+};
+use crate::entry::{TALLY, TALLY_BYTES, TRAYS};
 use crate::generate::*;
 use crate::groups::{check_answer, check_first, counts_of_every_length, damage_some_column};
-use crate::groups::{grow, make_ragged, over_size, ragged_slice, random_slice};
+use crate::groups::{grow, make_ragged, over_size, ragged_slice, random_slice, random_starts};
 use crate::groups::{ragged_end, slice_over_size, Holding, NumberSlice, Run};
 use crate::model::{self, Element, RecipeShown, Row, CODES, UNDER_NULL};
 use crate::no_offsets;
@@ -13,12 +15,13 @@ use crate::pairs;
 use crate::recipe_generate::*;
 use crate::recipe_lengths;
 use crate::rng::Rng;
+use crate::starts;
 use crate::stations::{self, set_tally, tally_with};
 use crate::strides;
 use crate::worked;
 
 /// Each group with its part of the random calls; those that take long come last.
-pub const ALL: [(&str, Run, u64); 19] = [
+pub const ALL: [(&str, Run, u64); 20] = [
     ("random recipes", random_recipes, 14),
     ("layouts of the same rows", pairs::same_rows, 10),
     ("refused steps", refused_steps, 8),
@@ -35,6 +38,7 @@ pub const ALL: [(&str, Run, u64); 19] = [
     ("trays and output of every length, exhaustive", recipe_lengths::every_slice, 0),
     ("strides in a step", strides::every_stride_of_a_step, 0),
     ("no offsets, exhaustive", no_offsets::every_form_of_recipes, 0),
+    ("starting bits, exhaustive", starts::every_start, 0),
     ("row counts and argument lengths, exhaustive", every_length, 0),
     ("short recipes, exhaustive", short_recipes, 0),
     ("codes one after another, exhaustive", every_pair, 0),
@@ -121,8 +125,7 @@ pub const WAYS: [fn(&mut Input, &mut Rng); 6] = [
 
 fn spoil_length(input: &mut Input, rng: &mut Rng) {
     let odd = 1 + rng.below(3);
-    let few = input.numbers.len() < MOST_NUMBERS;
-    if input.numbers.is_empty() || few && rng.chance(1, 2) {
+    if input.numbers.is_empty() || rng.chance(1, 2) {
         input.numbers.extend((0..odd).map(|_| rng.below(11) as u32));
     } else {
         input.numbers.truncate(input.numbers.len() - odd);
@@ -131,7 +134,7 @@ fn spoil_length(input: &mut Input, rng: &mut Rng) {
 
 /// Reverses until there are too many steps.
 fn spoil_step_count(input: &mut Input, rng: &mut Rng) {
-    let steps = rng.pick(&[33, 33, 33, 34, 64, 256]);
+    let steps = rng.pick(&[33, 33, 33, 34, 64, 256, 257, 3000]);
     input.numbers.resize(4 * steps, 0);
 }
 
@@ -173,7 +176,8 @@ fn suit_arguments(input: &mut Input) {
     let arguments = &mut input.arguments[0];
     if arguments.values.len() < values && values <= MOST_ARGUMENTS {
         arguments.values.resize(values, 1);
-        arguments.bits = vec![0xff; model::bitmap_bytes(values)];
+        let bytes = arguments.bits.needed(values);
+        arguments.bits.bytes = vec![0xff; bytes];
     }
 }
 
@@ -209,7 +213,7 @@ fn malformed_recipes(checker: &mut Checker, _entry: Entry, rng: &mut Rng, calls:
                 rng.pick(&WAYS[1..])(&mut input, rng);
             }
             if rng.chance(1, 2) {
-                damage_some_column(&mut input, 1 + rng.below(3) as u32, rng);
+                damage_some_column(&mut input, rng.pick(&[1, 2, 3, 13]), rng);
             }
             let case = lend_recipe(&input, Room::Any, rng);
             require_number(checker, &case, 10, "the model does not see that it is malformed");
@@ -275,7 +279,7 @@ fn order_of_refusals(checker: &mut Checker, entry: Entry, rng: &mut Rng, calls: 
             continue;
         };
         require_number(checker, &refused.case, 0, "made to be accepted, and yet refused");
-        for number in [9, of_step, 3, 2, 1, 10, 15, 101, 100] {
+        for number in [9, of_step, 3, 2, 1, 13, 10, 15, 101, 100] {
             if !rng.chance(1, 3) && refused.add(number, rng) {
                 check_first(checker, entry, &refused.case, &refused.holding);
             }
@@ -302,7 +306,7 @@ impl Refused {
     fn add(&mut self, number: u32, rng: &mut Rng) -> bool {
         let mut column = None;
         match number {
-            1..=3 => {
+            1..=3 | 13 => {
                 column = damage_some_column(&mut self.input, number, rng);
                 if column.is_none() {
                     return false;
@@ -316,8 +320,7 @@ impl Refused {
             _ => self.input = recipe_input(&self.finished.refused, &[self.layout], rng),
         }
         if number != 9 && number <= 15 {
-            self.case.inputs = self.input.encode();
-            self.case.entry = self.input.entry;
+            self.case.lend(&self.input);
         }
         self.holding.push((number, column));
         true
@@ -398,7 +401,10 @@ fn entry_answers(checker: &mut Checker, entry: Entry, rng: &mut Rng, calls: u64)
     tallies_of_every_length(checker, entry, rng);
     for (slice, kind) in NumberSlice::all(entry) {
         ragged_slice(checker, entry, slice, kind, rng);
+    }
+    for (slice, kind) in NumberSlice::limited(entry) {
         slice_over_size(checker, entry, slice, kind, rng);
+        many_numbers_beside(checker, entry, slice, kind, rng);
     }
     while checker.calls < calls {
         let mut case = lend_recipe(&random_input(entry, small_shape(rng), rng), Room::Any, rng);
@@ -407,8 +413,23 @@ fn entry_answers(checker: &mut Checker, entry: Entry, rng: &mut Rng, calls: u64)
     }
 }
 
-/// Every slice of numbers exactly as large as the entry takes: accepted, but for the recipe itself,
-/// which has too many steps then.
+/// More numbers than a recipe has, beside a slice over size: 101 comes first.
+fn many_numbers_beside(
+    checker: &mut Checker,
+    entry: Entry,
+    slice: NumberSlice,
+    kind: SliceKind,
+    rng: &mut Rng,
+) {
+    let mut input = random_input(entry, small_shape(rng), rng);
+    input.numbers.resize(rng.pick(&[129, 132, 1025, 1028, 5000]), 0);
+    let mut case = lend_recipe(&input, Room::Any, rng);
+    grow(slice.of(&mut case), kind.most.unwrap_or(0) + 1, kind, rng);
+    check_answer(checker, &case, 101);
+}
+
+/// Every slice of numbers exactly as large as the entry takes: accepted. More numbers than a recipe
+/// has are malformed, however many.
 fn sizes_met_exactly(checker: &mut Checker, rng: &mut Rng) {
     let shape = RowShape {
         count: MOST_ROWS,
@@ -424,9 +445,7 @@ fn sizes_met_exactly(checker: &mut Checker, rng: &mut Rng) {
         let layout = Layout { behind: MOST_VALUES, numbers_under_nulls: true, ..Layout::default() };
         let input = recipe_input(&shown, &[layout], rng);
         let mut case = lend_recipe(&input, Room::Exact, rng);
-        let mut slices = NumberSlice::all(case.entry);
-        let (numbers, numbers_kind) = slices.remove(0);
-        for (slice, kind) in slices {
+        for (slice, kind) in NumberSlice::limited(case.entry) {
             grow(slice.of(&mut case), kind.most.unwrap_or(0), kind, rng);
         }
         for bitmap in case.outputs[..TALLY].iter_mut().skip(1).step_by(2) {
@@ -434,8 +453,10 @@ fn sizes_met_exactly(checker: &mut Checker, rng: &mut Rng) {
             bitmap.extend(rng.bytes(70_000));
         }
         require_number(checker, &case, 0, "at size, and yet refused");
-        grow(numbers.of(&mut case), numbers_kind.most.unwrap_or(0), numbers_kind, rng);
-        check_answer(checker, &case, 10);
+        for numbers in [129, 132, 1024, 1025, 1028, 20_000] {
+            case.inputs[0].resize(4 * numbers, 0);
+            check_answer(checker, &case, 10);
+        }
     }
 }
 
@@ -495,7 +516,8 @@ fn random_case(rng: &mut Rng) -> Case {
         rng.bytes(bytes)
     };
     outputs.push(near(TALLY_BYTES, rng));
-    Case { entry, inputs, outputs, counts: near(entry.count_bytes(), rng) }
+    let (starts, counts) = (random_starts(entry, rng), near(entry.count_bytes(), rng));
+    Case { entry, inputs, starts, outputs, counts }
 }
 
 // Short recipes, all of them.
@@ -534,12 +556,13 @@ fn check_arguments(
     values: usize,
     rng: &mut Rng,
 ) {
-    let needed = model::bitmap_bytes(values);
-    for bytes in [0, 1, needed.max(1) - 1, needed, needed + 1] {
+    for more in [0, 1, 2] {
         let mut input = laid_out(&recipe_over([rows, rows], columns, rng), rng);
         let arguments = &mut input.arguments[0];
         arguments.values = (0..values).map(|_| rng.between(-1, 3)).collect();
-        arguments.bits = rng.bytes(bytes);
+        let needed = arguments.bits.needed(values);
+        arguments.bits.bytes = rng.bytes((needed + more).max(1) - 1);
+        let bytes = arguments.bits.bytes.len();
         let case = lend_recipe(&input, Room::Longer(1), rng);
         checker.check(&case);
         let number = case.expected().number;

@@ -7,7 +7,7 @@
 use crate::compare::{Checker, Observed};
 use crate::entry::{encode_i32, encode_i64, Case as LentCase, Entry, Expected, Input};
 use crate::generate::{lend, Room};
-use crate::model::{ArgumentColumn, ListColumn, Operation, Tally, UNDER_NULL};
+use crate::model::{ArgumentColumn, Bitmap, ListColumn, Operation, Tally, UNDER_NULL};
 use crate::rng::Rng;
 use crate::stations::set_tally;
 
@@ -122,15 +122,15 @@ fn list_column(text: &str) -> ListColumn {
     let (offsets, elements) = rows_of(&rows, true);
     ListColumn {
         offsets,
-        rows: lent_bitmap(&rows),
+        rows: Bitmap::from_0(lent_bitmap(&rows)),
         values: numbers(&elements, 77),
-        elements: lent_bitmap(&elements),
+        elements: Bitmap::from_0(lent_bitmap(&elements)),
     }
 }
 
 fn argument_column(text: &str) -> ArgumentColumn {
     let items = parse(text);
-    ArgumentColumn { values: numbers(&items, i64::MIN), bits: lent_bitmap(&items) }
+    ArgumentColumn { values: numbers(&items, i64::MIN), bits: Bitmap::from_0(lent_bitmap(&items)) }
 }
 
 fn refused(number: u32) -> Observed {
@@ -458,7 +458,7 @@ struct Worked {
 
 /// A column that is lent and not taken, and would be refused if it were.
 fn untaken() -> ArgumentColumn {
-    ArgumentColumn { values: vec![0; 17], bits: vec![0] }
+    ArgumentColumn { values: vec![0; 17], bits: Bitmap { bytes: vec![0], start: 8 } }
 }
 
 fn worked(
@@ -486,14 +486,146 @@ fn from_text((name, operation, lists, arguments, wanted): &Case) -> Worked {
 fn list(offsets: &[i32], rows: &[u8], values: &[i64], elements: &[u8]) -> ListColumn {
     ListColumn {
         offsets: offsets.to_vec(),
-        rows: rows.to_vec(),
+        rows: Bitmap::from_0(rows.to_vec()),
         values: values.to_vec(),
-        elements: elements.to_vec(),
+        elements: Bitmap::from_0(elements.to_vec()),
     }
 }
 
 fn argument(values: &[i64], bits: &[u8]) -> ArgumentColumn {
-    ArgumentColumn { values: values.to_vec(), bits: bits.to_vec() }
+    ArgumentColumn { values: values.to_vec(), bits: Bitmap::from_0(bits.to_vec()) }
+}
+
+/// The list with its bitmaps from these bits.
+fn from_bits(mut list: ListColumn, rows_start: u32, elements_start: u32) -> ListColumn {
+    (list.rows.start, list.elements.start) = (rows_start, elements_start);
+    list
+}
+
+fn argument_from(start: u32, values: &[i64], bits: &[u8]) -> ArgumentColumn {
+    ArgumentColumn { values: values.to_vec(), bits: Bitmap { bytes: bits.to_vec(), start } }
+}
+
+/// Bitmaps from the middle of a byte, and from bits that there are not.
+fn cases_from_bits() -> Vec<Worked> {
+    let two = |bytes: &[u8]| list(&[0, 1, 2], bytes, &[4, 5], &[]);
+    let three = |bytes: &[u8]| list(&[0, 1, 2, 3], bytes, &[4, 5, 6], &[]);
+    let seven = |rows_start, elements_start| {
+        from_bits(list(&[0, 1], &[], &[7], &[]), rows_start, elements_start)
+    };
+    let falling = || list(&[1, 0], &[], &[7], &[]);
+    let short = || list(&[0, 1], &[], &[0; 9], &[0xff]);
+    let none = || list(&[], &[], &[], &[]);
+    let one = || argument(&[1], &[]);
+    vec![
+        // Bits 6 and 7: the first row is null.
+        worked("6, two rows", Reverse, vec![from_bits(two(&[0xbf]), 6, 0)], vec![], "null, [5]"),
+        worked(
+            "6, three rows",
+            Reverse,
+            vec![from_bits(three(&[0xbf]), 6, 0)],
+            vec![],
+            "refusal 2",
+        ),
+        // Bits 6 to 8: the last row is null.
+        worked(
+            "6, two bytes",
+            Reverse,
+            vec![from_bits(three(&[0xff, 0xfe]), 6, 0)],
+            vec![],
+            "[4], [5], null",
+        ),
+        // Bits 7 and 8: the second element is null.
+        worked(
+            "7, two elements",
+            Distinct,
+            vec![from_bits(list(&[0, 2], &[], &[7, 7], &[0x80, 0xfe]), 0, 7)],
+            vec![],
+            "[7,-]",
+        ),
+        worked("7 beside no bitmaps", PopBack, vec![from_bits(two(&[]), 7, 7)], vec![], "[], []"),
+        worked("8 beside no bitmap", PopFront, vec![seven(8, 0)], vec![], "refusal 13"),
+        worked("8 of the elements", AnyValue, vec![seven(0, 8)], vec![], "refusal 13"),
+        worked(
+            "the largest of no offsets",
+            Reverse,
+            vec![from_bits(none(), 0, u32::MAX)],
+            vec![],
+            "refusal 13",
+        ),
+        worked(
+            "index null by bit 3",
+            Element,
+            vec![seven(1, 2)],
+            vec![argument_from(3, &[1], &[0xf7])],
+            "-",
+        ),
+        worked(
+            "index valid by bit 3",
+            Element,
+            vec![seven(1, 2)],
+            vec![argument_from(3, &[1], &[8])],
+            "7",
+        ),
+        worked(
+            "index from 8",
+            Element,
+            vec![seven(0, 0)],
+            vec![argument_from(8, &[1], &[0xff])],
+            "refusal 13",
+        ),
+        worked(
+            "13 of the right before 1",
+            Union,
+            vec![falling(), seven(0, 9)],
+            vec![],
+            "refusal 13",
+        ),
+        worked(
+            "13 of the left before 1",
+            Union,
+            vec![seven(9, 0), falling()],
+            vec![],
+            "refusal 13",
+        ),
+        worked("13 before 2", Intersect, vec![short(), seven(16, 0)], vec![], "refusal 13"),
+        worked(
+            "13 before 3",
+            Intersect,
+            vec![seven(0, 0), from_bits(none(), 8, 0)],
+            vec![],
+            "refusal 13",
+        ),
+        worked(
+            "13 of the limit before 1",
+            Replace,
+            vec![falling()],
+            vec![one(), one(), argument_from(8, &[1], &[])],
+            "refusal 13",
+        ),
+        // To is null by bit 5, not by bit 0.
+        worked(
+            "second of three",
+            Slice,
+            vec![seven(0, 0)],
+            vec![one(), argument_from(5, &[1], &[0x01]), one()],
+            "null",
+        ),
+        worked(
+            "untaken from 8",
+            SliceWithoutStride,
+            vec![seven(0, 0)],
+            vec![one(), one(), argument_from(8, &[1], &[])],
+            "[7]",
+        ),
+        worked(
+            "times from 4",
+            ListRepeat,
+            vec![seven(0, 0)],
+            vec![argument_from(4, &[2], &[0x10])],
+            "[[7],[7]]",
+        ),
+    ]
 }
 
 /// Columns that the notation does not give: offsets above 0, short bitmaps, damage.
@@ -650,7 +782,7 @@ pub fn cases(checker: &mut Checker, _entry: Entry, rng: &mut Rng, _calls: u64) {
     let tables =
         [OF_DOCUMENT_01, OF_ONE_LIST, OF_TWO_LISTS, OF_SLICES, OF_RESIZE, OF_MATCHES, OF_REPEAT];
     let written = tables.into_iter().flatten().map(from_text);
-    let all = written.chain(laid_out_cases()).chain([case_o()]);
+    let all = written.chain(laid_out_cases()).chain(cases_from_bits()).chain([case_o()]);
     let library = checker.library;
     for worked in all.filter(|worked| library.has(worked.input.entry)) {
         for room in [Room::Exact, Room::Longer(2)] {
@@ -820,6 +952,8 @@ fn laid_out_recipes() -> Vec<Worked> {
     let short = || list(&[0, 1], &[], &[0; 9], &[0xff]);
     let none = || argument(&[], &[]);
     let no_offsets = || list(&[], &[1], &[8; 9], &[1, 1]);
+    let two_of = |start| vec![seven(), from_bits(seven(), 0, start)];
+    let from_8 = || from_bits(seven(), 8, 0);
     let one_offset = || list(&[1], &[], &[8; 9], &[]);
     let no_rows = || vec![no_offsets(), one_offset()];
     let rows_beside = || vec![no_offsets(), seven()];
@@ -827,6 +961,24 @@ fn laid_out_recipes() -> Vec<Worked> {
     let one_byte = || vec![one_offset(), list(&[], &[], &[8; 9], &[1])];
     let five = &[0, 0, 0, 0, 0];
     vec![
+        recipe("13 of no columns", 0, &[], two_of(0), argument_from(8, &[], &[]), "refusal 13"),
+        recipe("7 of no columns", 0, &[], two_of(7), argument_from(7, &[], &[1]), "[7]"),
+        recipe("13 of a list not used", 0, &REVERSE, two_of(8), none(), "refusal 13"),
+        recipe("13 before 1", 0, &REVERSE, vec![falling(), from_8()], none(), "refusal 13"),
+        recipe("13 before 2", 0, &REVERSE, vec![from_8(), short()], none(), "refusal 13"),
+        recipe("10 before 13", 0, five, two_of(8), none(), "refusal 10"),
+        recipe("10 of 133 numbers", 0, &[0; 133], two_of(0), none(), "refusal 10"),
+        recipe("10 of 1028 numbers", 0, &[0; 1028], two_of(0), none(), "refusal 10"),
+        recipe("10 of 257 steps before 13", 0, &[0; 1028], two_of(9), none(), "refusal 10"),
+        // Two columns from bit 6: bits 6 and 7, the fill null.
+        recipe(
+            "second column from bit 6",
+            2,
+            &[6, 0, 1, 0],
+            two_of(0),
+            argument_from(6, &[2, 3], &[0x7f]),
+            "[7,-]",
+        ),
         recipe("no offsets, no steps", 0, &[], no_rows(), none(), ""),
         recipe("no offsets, union", 8, &UNION, no_rows(), none(), ""),
         recipe("one offset, then none", 1, &[UNION, REVERSE].concat(), one_by_two(), none(), ""),
@@ -869,7 +1021,8 @@ fn tally_of_3(finished: i64, refused: i64) -> Vec<u8> {
 }
 
 /// A recipe as it lies in the slices: union, then resize to 2 with 2, of [1,-], a null row over 8,8
-/// and [4], beside [5], [6] and [4].
+/// and [4], beside [5], [6] and [4]. The row bits of the first list start at bit 2, its element bits
+/// at bit 1.
 fn recipe_as_bytes(tray_values: usize) -> LentCase {
     let dirty = |bytes: usize| vec![0xaa; bytes];
     let tray_one = [dirty(16), dirty(1), dirty(8 * tray_values), dirty(1)];
@@ -878,12 +1031,13 @@ fn recipe_as_bytes(tray_values: usize) -> LentCase {
     let tally = [tally_of_3(-1, 3), dirty(1)].concat();
     LentCase {
         entry: Entry::Recipe { station: 3, columns: 1 },
+        starts: vec![2, 1, 3, 5, 7],
         inputs: vec![
             encode_i32(&[9, 0, 0, 0, 6, 0, 0, 0]),
             encode_i32(&[1, 3, 5, 6]),
-            vec![0b101],
+            vec![0b10111],
             encode_i64(&[9, 1, 2, 8, 8, 4, 9]),
-            vec![0b1111011],
+            vec![0b11110110],
             encode_i32(&[0, 1, 2, 3]),
             vec![],
             encode_i64(&[5, 6, 4]),

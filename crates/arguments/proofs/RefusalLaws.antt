@@ -7,17 +7,18 @@ use native.Mathlib.Omega.{arith}
 use lib.Dec.{ltb, eqb}
 use lib.ListN.{length}
 use Rattle.model.specs.Basics.{pick, any}
-use Rattle.model.specs.Column.{Row, Column, Arguments, rowsOf, shownBy, rowCount, refusal1, refusal2, refusal2ᵃ}
+use Rattle.model.specs.Column.{Row, Column, Arguments, rowsOf, shownBy, rowCount, refusal13ᵃ, refusal2ᵃ}
 use Rattle.model.specs.Form.{Room}
 use Rattle.model.specs.Limits.{narrow}
 use Rattle.model.specs.Outcome.{Outcome, refused, gate, columnsRefusal, afterThree, listShown, listOutcome}
 use Rattle.model.specs.Refusals.{unequal, differsLent, wrongLimit}
 use Rattle.model.specs.Rows.{onCall, onLent, lentOf, listsIn, argumentsIn}
 use Rattle.model.proofs.ColumnLaws.{length-rows, length-shown}
+use Rattle.model.proofs.OutcomeLaws.{gate-shut, thirteen-of-arguments, lists-next, arguments-next}
 use Rattle.ops.specs.Ops.{callOf, takesOf, secondLimit, thirdLimit, table}
 use Rattle.ops.specs.declared.ListOp.{ListOp}
 use Rattle.ops.specs.declared.ListOp.the-variants as L
-use Rattle.arguments.specs.Taken.{shortIf, wrongIf, argumentsRefusal}
+use Rattle.arguments.specs.Taken.{overIf, startOver, shortIf, wrongIf, argumentsRefusal}
 
 or-false : (b : Bool) → b || false ≡ b
 or-false true = refl
@@ -47,6 +48,16 @@ call-shown L.ResizeWith c x y z = refl
 call-shown L.Replace c x y z = refl
 call-shown L.Remove c x y z = refl
 
+overs-are : (op : ListOp) (c : Column) (x y z : Arguments) → any refusal13ᵃ (argumentsIn (callOf op c x y z)) ≡ startOver op (x .bits .start) (y .bits .start) (z .bits .start)
+unfolding any argumentsIn callOf lentOf startOver overIf table refusal13ᵃ
+overs-are (L.Plain u) c x y z = refl
+overs-are L.Slice c x y z = or-right (ltb 7 (x .bits .start)) (ltb 7 (y .bits .start)) false
+overs-are L.SliceBy c x y z = rw (or-false (ltb 7 (z .bits .start))) (or-right (ltb 7 (x .bits .start)) (ltb 7 (y .bits .start)) (ltb 7 (z .bits .start)))
+overs-are L.Resize c x y z = or-right (ltb 7 (x .bits .start)) false false
+overs-are L.ResizeWith c x y z = or-right (ltb 7 (x .bits .start)) (ltb 7 (y .bits .start)) false
+overs-are L.Replace c x y z = rw (or-false (ltb 7 (z .bits .start))) (or-right (ltb 7 (x .bits .start)) (ltb 7 (y .bits .start)) (ltb 7 (z .bits .start)))
+overs-are L.Remove c x y z = or-right (ltb 7 (x .bits .start)) (ltb 7 (y .bits .start)) false
+
 abbrev shorts : ListOp → Arguments → Arguments → Arguments → Bool
 shorts op x y z = shortIf (ltb 0 (takesOf op)) x || shortIf (ltb 1 (takesOf op)) y || shortIf (ltb 2 (takesOf op)) z
 
@@ -73,48 +84,49 @@ wrongs-are L.ResizeWith c x y z = rw (length-rows c, length-shown x, length-show
 wrongs-are L.Replace c x y z = rw (length-rows c, length-shown x, length-shown y, length-shown z)
 wrongs-are L.Remove c x y z = rw (length-rows c, length-shown x, length-shown y) (sym (or-false (not (eqb (length (x .values)) (rowCount (c .offsets))) || (not (eqb (length (y .values)) 1) && not (eqb (length (y .values)) (rowCount (c .offsets)))))))
 
-abbrev one-two : Bool → Bool → Bool → ℕ
-one-two p q t = pick (p || false) 1 (pick ((q || false) || t) 2 0)
-
+-- 2 of the arguments, then 3
 module _ {A : Type 0} (o : Outcome A) where
-  early : (p q t u : Bool) (k : ℕ) → k ≡ one-two p q false → (k ≡ 0 → ⊥) → gate (one-two p q t) (gate (pick u 3 0) o) ≡ refused k
+  then-two : (t u : Bool) (j : ℕ) → j ≡ pick t 2 (pick u 3 0) → (j ≡ 0 → ⊥) → gate (pick t 2 0) (gate (pick u 3 0) o) ≡ refused j
   unfolding gate
-  early true q t u k e h = ap refused (sym e)
-  early false true t u k e h = ap refused (sym e)
-  early false false t u k e h = absurd (h e)
+  then-two true u j d h = ap refused (sym d)
+  then-two false true j d h = ap refused (sym d)
+  then-two false false j d h = absurd (h d)
 
-  then-two : (p q t u : Bool) (j : ℕ) → one-two p q false ≡ 0 → j ≡ pick t 2 (pick u 3 0) → (j ≡ 0 → ⊥) → gate (one-two p q t) (gate (pick u 3 0) o) ≡ refused j
+  goes-on : (t u : Bool) → _≡_ {A = ℕ} (pick t 2 (pick u 3 0)) 0 → gate (pick t 2 0) (gate (pick u 3 0) o) ≡ o
   unfolding gate
-  then-two true q t u j e d h = let n : ⊥ = omega arith in absurd n
-  then-two false true t u j e d h = let n : ⊥ = omega arith in absurd n
-  then-two false false true u j e d h = ap refused (sym d)
-  then-two false false false true j e d h = ap refused (sym d)
-  then-two false false false false j e d h = absurd (h d)
-
-  goes-on : (p q t u : Bool) → one-two p q false ≡ 0 → _≡_ {A = ℕ} (pick t 2 (pick u 3 0)) 0 → gate (one-two p q t) (gate (pick u 3 0) o) ≡ o
-  unfolding gate
-  goes-on true q t u e d = let n : ⊥ = omega arith in absurd n
-  goes-on false true t u e d = let n : ⊥ = omega arith in absurd n
-  goes-on false false true u e d = let n : ⊥ = omega arith in absurd n
-  goes-on false false false true e d = let n : ⊥ = omega arith in absurd n
-  goes-on false false false false e d = refl
+  goes-on true u d = let n : ⊥ = omega arith in absurd n
+  goes-on false true d = let n : ⊥ = omega arith in absurd n
+  goes-on false false d = refl
 
 module _ (op : ListOp) (c : Column) (x y z : Arguments) (l : Room) where
   abbrev after : Outcome (List Row)
   after = afterThree narrow (callOf op (rowsOf c) (shownBy x) (shownBy y) (shownBy z)) l
 
-  outcome-is : listOutcome narrow (callOf op c x y z) l ≡ gate (one-two (refusal1 c) (refusal2 c) (shorts op x y z)) (gate (pick (wrongs op (rowCount (c .offsets)) x y z) 3 0) after)
-  unfolding listOutcome columnsRefusal listShown any
-  outcome-is = rw (lists-are op c x y z, shorts-are op c x y z, call-shown op c x y z, wrongs-are op c x y z)
+  abbrev taken : List Arguments
+  taken = argumentsIn (callOf op c x y z)
 
-  pub call-early : (k : ℕ) → k ≡ columnsRefusal (c ∷ []) [] → (k ≡ 0 → ⊥) → listOutcome narrow (callOf op c x y z) l ≡ refused k
-  unfolding columnsRefusal any
-  call-early k e h = outcome-is ∙ early after (refusal1 c) (refusal2 c) (shorts op x y z) (wrongs op (rowCount (c .offsets)) x y z) k e h
+  abbrev rest : Outcome (List Row)
+  rest = gate (pick (wrongs op (rowCount (c .offsets)) x y z) 3 0) after
 
-  pub call-arguments : columnsRefusal (c ∷ []) [] ≡ 0 → (j : ℕ) → j ≡ argumentsRefusal op (rowCount (c .offsets)) x y z → (j ≡ 0 → ⊥) → listOutcome narrow (callOf op c x y z) l ≡ refused j
-  unfolding columnsRefusal any argumentsRefusal
-  call-arguments e j d h = outcome-is ∙ then-two after (refusal1 c) (refusal2 c) (shorts op x y z) (wrongs op (rowCount (c .offsets)) x y z) j e d h
+  outcome-is : listOutcome narrow (callOf op c x y z) l ≡ gate (columnsRefusal (c ∷ []) taken) rest
+  unfolding listOutcome listShown
+  outcome-is = rw (lists-are op c x y z, call-shown op c x y z, wrongs-are op c x y z)
 
-  pub call-goes : columnsRefusal (c ∷ []) [] ≡ 0 → argumentsRefusal op (rowCount (c .offsets)) x y z ≡ 0 → listOutcome narrow (callOf op c x y z) l ≡ after
-  unfolding columnsRefusal any argumentsRefusal
-  call-goes e d = outcome-is ∙ goes-on after (refusal1 c) (refusal2 c) (shorts op x y z) (wrongs op (rowCount (c .offsets)) x y z) e d
+  pub call-starts : startOver op (x .bits .start) (y .bits .start) (z .bits .start) ≡ true → listOutcome narrow (callOf op c x y z) l ≡ refused 13
+  unfolding gate
+  call-starts h = outcome-is ∙ rw (thirteen-of-arguments (c ∷ []) taken (overs-are op c x y z ∙ h))
+
+  module _ (s : startOver op (x .bits .start) (y .bits .start) (z .bits .start) ≡ false) where
+    pub call-early : (k : ℕ) → k ≡ columnsRefusal (c ∷ []) [] → (k ≡ 0 → ⊥) → listOutcome narrow (callOf op c x y z) l ≡ refused k
+    call-early k e h = outcome-is ∙ rw (lists-next (c ∷ []) taken (overs-are op c x y z ∙ s) k e h) (gate-shut k rest h)
+
+    number-is : columnsRefusal (c ∷ []) [] ≡ 0 → columnsRefusal (c ∷ []) taken ≡ pick (shorts op x y z) 2 0
+    number-is e = arguments-next (c ∷ []) taken (overs-are op c x y z ∙ s) (columnsRefusal (c ∷ []) []) refl e ∙ rw (shorts-are op c x y z)
+
+    pub call-arguments : columnsRefusal (c ∷ []) [] ≡ 0 → (j : ℕ) → j ≡ argumentsRefusal op (rowCount (c .offsets)) x y z → (j ≡ 0 → ⊥) → listOutcome narrow (callOf op c x y z) l ≡ refused j
+    unfolding argumentsRefusal
+    call-arguments e j d h = outcome-is ∙ rw (number-is e) (then-two after (shorts op x y z) (wrongs op (rowCount (c .offsets)) x y z) j d h)
+
+    pub call-goes : columnsRefusal (c ∷ []) [] ≡ 0 → argumentsRefusal op (rowCount (c .offsets)) x y z ≡ 0 → listOutcome narrow (callOf op c x y z) l ≡ after
+    unfolding argumentsRefusal
+    call-goes e d = outcome-is ∙ rw (number-is e) (goes-on after (shorts op x y z) (wrongs op (rowCount (c .offsets)) x y z) d)

@@ -4,7 +4,7 @@ use mathlib.Core.Path.{_≡_, refl, sym, _∙_, subst}
 use mathlib.Core.Bool.{Bool, true, false, not, _&&_, _||_}
 use mathlib.Core.List.{List}
 use native.Mathlib.Omega.{arith}
-use borrow.Author.Tests.{eqb-true}
+use borrow.Author.Tests.{eqb-true, ltb-false}
 use lib.Dec.{T, ltb, eqb}
 use lib.IntN.{ℤ, pos}
 use lib.ListN.{length, getD}
@@ -19,7 +19,7 @@ use Rattle.rows.specs.declared.Cell.the-variants as C
 use Rattle.ops.specs.Ops.{callOf, takesOf, secondLimit, thirdLimit, table}
 use Rattle.ops.specs.declared.ListOp.{ListOp}
 use Rattle.ops.specs.declared.ListOp.the-variants as L
-use Rattle.arguments.specs.Taken.{cellOf, placeIn, takenAt, Serves, Served, shortIf, wrongIf, argumentsRefusal}
+use Rattle.arguments.specs.Taken.{cellOf, placeIn, takenAt, Serves, Served, overIf, startOver, shortIf, wrongIf, argumentsRefusal}
 use Rattle.model.proofs.BoolLaws.{same-number}
 
 -- ---- a cell
@@ -76,13 +76,23 @@ at-row L.ResizeWith c x y z r h s = rw (row-at c r h, taken-own _ r h x (s .firs
 at-row L.Replace c x y z r h s = rw (row-at c r h, taken-own _ r h x (s .first refl), taken-own _ r h y (s .second refl), taken-limit _ r h z (s .third refl))
 at-row L.Remove c x y z r h s = rw (row-at c r h, taken-own _ r h x (s .first refl), taken-limit _ r h y (s .second refl))
 
--- ---- 2 and 3
+-- ---- 13, 2 and 3
 
 none-of : (x y z : Bool) → x || y || z ≡ false → (x ≡ false) × (y ≡ false) × (z ≡ false)
 none-of false false false e = (refl, refl, refl)
 none-of false false true e = absurd (subst T e tt)
 none-of false true z e = absurd (subst T e tt)
 none-of true y z e = absurd (subst T e tt)
+
+-- the columns that are taken, by how many they are
+pub over-is : (op : ListOp) (k x y z : ℕ) → takesOf op ≡ k → startOver op x y z ≡ (overIf (ltb 0 k) x || overIf (ltb 1 k) y || overIf (ltb 2 k) z)
+unfolding startOver
+over-is op k x y z e = rw e
+
+-- no column that is taken has a starting bit over 7
+pub none-over : (op : ListOp) (k x y z : ℕ) → takesOf op ≡ k → startOver op x y z ≡ false → (overIf (ltb 0 k) x ≡ false) × (overIf (ltb 1 k) y ≡ false) × (overIf (ltb 2 k) z ≡ false)
+unfolding startOver
+none-over op k x y z e h = rw (← e) (none-of (overIf (ltb 0 (takesOf op)) x) (overIf (ltb 1 (takesOf op)) y) (overIf (ltb 2 (takesOf op)) z) h)
 
 none-left : (p q : Bool) → _≡_ {A = ℕ} (pick p 2 (pick q 3 0)) 0 → (p ≡ false) × (q ≡ false)
 none-left true q e = let z : ⊥ = omega arith in absurd z
@@ -94,20 +104,21 @@ there-cases true true n len e h r l = let k = eqb-true len 1 e in omega arith
 there-cases true false n len e h r l = let k = same-number len n h in omega arith
 there-cases false t n len e h r l = let k = same-number len n h in omega arith
 
-served-if : (on limit : Bool) (n : ℕ) (a : Arguments) → a .bits .start < 8 → shortIf on a ≡ false → wrongIf on limit n (length (a .values)) ≡ false → on ≡ true → Serves limit n a
-unfolding shortIf wrongIf refusal2ᵃ placeIn
-served-if true limit n a s h w o = record { bits = record { small = s; long = h }; there = there-cases limit (eqb (length (a .values)) 1) n (length (a .values)) refl w }
+served-if : (on limit : Bool) (n : ℕ) (a : Arguments) → overIf on (a .bits .start) ≡ false → shortIf on a ≡ false → wrongIf on limit n (length (a .values)) ≡ false → on ≡ true → Serves limit n a
+unfolding overIf shortIf wrongIf refusal2ᵃ placeIn
+served-if true limit n a s h w o = record { bits = record { small = omega (arith, ltb-false 7 (a .bits .start) s); long = h }; there = there-cases limit (eqb (length (a .values)) 1) n (length (a .values)) refl w }
 served-if false limit n a s h w o = absurd (subst T (sym o) tt)
 
 module _ (op : ListOp) (n : ℕ) (x y z : Arguments) where
-  pub served : x .bits .start < 8 → y .bits .start < 8 → z .bits .start < 8 → argumentsRefusal op n x y z ≡ 0 → Served op n x y z
+  pub served : startOver op (x .bits .start) (y .bits .start) (z .bits .start) ≡ false → argumentsRefusal op n x y z ≡ 0 → Served op n x y z
   unfolding argumentsRefusal
-  served sx sy sz e =
+  served b e =
+      let v = none-over op (takesOf op) (x .bits .start) (y .bits .start) (z .bits .start) refl b in
       let p = none-left _ _ e in
       let s = none-of _ _ _ (p .0) in
       let w = none-of _ _ _ (p .1) in
       record {
-        first = served-if (ltb 0 (takesOf op)) false n x sx (s .0) (w .0);
-        second = served-if (ltb 1 (takesOf op)) (secondLimit op) n y sy (s .1) (w .1);
-        third = served-if (ltb 2 (takesOf op)) (thirdLimit op) n z sz (s .2) (w .2);
+        first = served-if (ltb 0 (takesOf op)) false n x (v .0) (s .0) (w .0);
+        second = served-if (ltb 1 (takesOf op)) (secondLimit op) n y (v .1) (s .1) (w .1);
+        third = served-if (ltb 2 (takesOf op)) (thirdLimit op) n z (v .2) (s .2) (w .2);
       }

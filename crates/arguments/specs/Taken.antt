@@ -42,6 +42,14 @@ pub record Served (op : ListOp) (n : ℕ) (x y z : Arguments) : Type 0 where
   pub second : ltb 1 (takesOf op) ≡ true → Serves (secondLimit op) n y
   pub third : ltb 2 (takesOf op) ≡ true → Serves (thirdLimit op) n z
 
+-- 13 of an argument column that is taken, by its starting bit alone
+unfoldable pub overIf : Bool → ℕ → Bool
+overIf on start = on && ltb 7 start
+
+-- 13 of any
+unfoldable pub startOver : ListOp → ℕ → ℕ → ℕ → Bool
+startOver op x y z = overIf (ltb 0 (takesOf op)) x || overIf (ltb 1 (takesOf op)) y || overIf (ltb 2 (takesOf op)) z
+
 -- 2 and 3 of an argument column that is taken
 unfoldable pub shortIf : Bool → Arguments → Bool
 shortIf on a = on && refusal2ᵃ a

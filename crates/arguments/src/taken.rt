@@ -1,15 +1,15 @@
-// The arguments of a row, taken from the columns that the operation takes, and refusals 2 and 3 of those.
+// The arguments of a row, taken from the columns that the operation takes, and refusals 13, 2 and 3 of those.
 use ops::ListOp;
 use ops::RowOp;
 use rows::Cell;
 ghost use Prim.Native.Nat.{_<_, _≤_};
-ghost use Rattle.arguments.specs.Taken.{Served, Serves, argumentsRefusal, cellOf, opAt, placeIn, shortIf, takenAt, wrongIf};
+ghost use Rattle.arguments.specs.Taken.{Served, Serves, argumentsRefusal, cellOf, opAt, overIf, placeIn, shortIf, startOver, takenAt, wrongIf};
 ghost use Rattle.bitmap.specs.Push.{Covers};
 ghost use Rattle.model.specs.Inner.{nowArguments, nowBits, lentArgumentsFrom, lentBits, lentElem};
 ghost use Rattle.model.specs.Limits.{narrow};
 ghost use lib.Dec.{eqb};
 ghost use lib.ListN.{length};
-ghost use mathlib.Core.Bool.{_&&_, true};
+ghost use mathlib.Core.Bool.{_&&_, false, true};
 ghost use mathlib.Core.Path.{_≡_};
 
 // The argument at place i.
@@ -90,9 +90,28 @@ pub fn op_at(
     ops::row_op(op, valid, len, x, y, z)
 }
 
+// Whether a column that is taken has a starting bit over 7.
+fn is_over_if(on: bool, start: usize) -> bool
+    ensures { λ b. ⌜ b ≡ overIf on start ⌝ }
+{
+    if !on {
+        return false;
+    }
+    7 < start
+}
+
+// Whether any column that is taken has one; the others are not looked at.
+pub fn is_start_over(op: ListOp, xstart: usize, ystart: usize, zstart: usize) -> bool
+    ensures { λ b. ⌜ b ≡ startOver op xstart ystart zstart ⌝ }
+{
+    let t = ops::takes(op);
+    let k = t.columns;
+    is_over_if(0 < k, xstart) | is_over_if(1 < k, ystart) | is_over_if(2 < k, zstart)
+}
+
 // Whether a column that is taken has too short a bitmap.
 fn is_short_if(on: bool, values: &[i64], bits: &[u8], start: usize) -> bool
-    requires { ⌜ start < 8 ⌝ }
+    requires { ⌜ overIf on start ≡ false ⌝ }
     ensures { λ b. ⌜ b ≡ shortIf on (lentArgumentsFrom values bits start) ⌝ }
 {
     if !on {
@@ -128,9 +147,7 @@ pub fn arguments_refusal(
     zbits: &[u8],
     zstart: usize,
 ) -> u8
-    requires { ⌜ xstart < 8 ⌝ }
-    requires { ⌜ ystart < 8 ⌝ }
-    requires { ⌜ zstart < 8 ⌝ }
+    requires { ⌜ startOver op xstart ystart zstart ≡ false ⌝ }
     ensures { λ k. ⌜ k ≡ argumentsRefusal op n (lentArgumentsFrom xs xbits xstart) (lentArgumentsFrom ys ybits ystart) (lentArgumentsFrom zs zbits zstart) ⌝ }
 {
     let t = ops::takes(op);

@@ -8,7 +8,16 @@ ghost use lib.Count.{ones};
 ghost use lib.ListN.{length};
 ghost use mathlib.Core.Path.{_≡_};
 
-// Whether bit i is set, counted from a starting bit; the sum of the two may be past the largest number.
+// Whether bit i is set.
+fn bit_at(bitmap: &[u8], i: usize) -> bool
+    requires { ⌜ i / 8 < length (now bitmap) ⌝ }
+    ensures { λ r. ⌜ r ≡ bitAt (now (bitmap .entry)) i ⌝ }
+{
+    let byte = bitmap[i / 8];
+    ((byte >> ((i % 8) as u8)) & 1) == 1
+}
+
+// The same, counted from a starting bit; the sum of the two may be past the largest number.
 fn bit_from(bitmap: &[u8], start: usize, i: usize) -> bool
     requires { ⌜ start < 8 ⌝ }
     requires { ⌜ (start + i) / 8 < length (now bitmap) ⌝ }
@@ -59,7 +68,7 @@ pub fn is_short(bitmap: &[u8], start: usize, n: usize) -> bool
     bitmap.len() < bytes_from(start, n)
 }
 
-// Whether bit i of n is set, or the bitmap is empty.
+// Whether bit i of n is set, or the bitmap is empty; a bitmap that starts at bit 0, as most do, needs no counting from a start.
 pub fn is_valid(bitmap: &[u8], start: usize, i: usize, n: usize) -> bool
     requires { ⌜ Covers (nowBits bitmap start) n ⌝ }
     requires { ⌜ i < n ⌝ }
@@ -67,6 +76,9 @@ pub fn is_valid(bitmap: &[u8], start: usize, i: usize, n: usize) -> bool
 {
     if bitmap.len() == 0 {
         return true;
+    }
+    if start == 0 {
+        return bit_at(bitmap, i);
     }
     bit_from(bitmap, start, i)
 }

@@ -10,10 +10,13 @@ pub(crate) fn case_o() -> bool {
     let answer = lists::repeat::general_list_repeat(
         &[0, 2, 3],
         &[0b10],
+        0,
         &[8, 8, 4],
         &[],
+        0,
         &[1, 2],
         &[],
+        0,
         &mut out_offsets,
         &mut out_rows,
         &mut inner_offsets,

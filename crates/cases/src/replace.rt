@@ -8,7 +8,7 @@ pub(crate) fn case_m() -> bool {
     let mut out_values = [77i64; 4];
     let mut out_elements = [0xaau8; 2];
     let answer = lists::replace::general_replace(
-        &[0, 3], &[1], &[9, 7, 9], &[0b10], &[7], &[0], &[5], &[], &[1], &[],
+        &[0, 3], &[1], 0, &[9, 7, 9], &[0b10], 0, &[7], &[0], 0, &[5], &[], 0, &[1], &[], 0,
         &mut out_offsets, &mut out_rows, &mut out_values, &mut out_elements,
     );
     compare::list_counts(answer, 1, 3, 0, 1)

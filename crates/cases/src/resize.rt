@@ -9,7 +9,7 @@ pub(crate) fn case_l() -> bool {
     let mut out_values = [77i64; 5];
     let mut out_elements = [0xaau8; 2];
     let answer = lists::resize::general_list_resize(
-        &[0, 2], &[], &[1, 2], &[], &[4], &[], Optional::Lent, &[9], &[0b1111_1110],
+        &[0, 2], &[], 0, &[1, 2], &[], 0, &[4], &[], 0, Optional::Lent, &[9], &[0b1111_1110], 0,
         &mut out_offsets, &mut out_rows, &mut out_values, &mut out_elements,
     );
     compare::list_counts(answer, 1, 4, 0, 2)

@@ -1,4 +1,5 @@
-// Case A: reverse [1,2,-], null, [] gives [-,2,1], null, []. The null row lies over two values, one of them null.
+// Case A: reverse [1,2,-], null, [] gives [-,2,1], null, []. The null row lies over two values, one of them null. The
+// bitmaps start at bits 5 and 4.
 use compare::UNDER_NULL;
 
 pub(crate) fn case_a() -> bool {
@@ -8,9 +9,11 @@ pub(crate) fn case_a() -> bool {
     let mut out_elements = [0xaau8; 2];
     let answer = lists::reverse::general_array_reverse(
         &[0, 3, 5, 5],
-        &[0b1111_1101],
+        &[0b1011_1111],
+        5,
         &[1, 2, 9, 8, 8],
-        &[0b1111_0011],
+        &[0b0011_0101, 0b1111_1111],
+        4,
         &mut out_offsets,
         &mut out_rows,
         &mut out_values,

@@ -11,8 +11,10 @@ pub(crate) fn case_b() -> bool {
     let answer = lists::set_ops::general_array_distinct(
         &[2, 7],
         &[],
+        0,
         &[1, 3, 3, 4, 3, 1, 1],
         &[0b0101_0111],
+        0,
         &mut out_offsets,
         &mut out_rows,
         &mut out_values,
@@ -33,7 +35,7 @@ pub(crate) fn case_c() -> bool {
     let mut out_values = [77i64; 5];
     let mut out_elements = [0xaau8; 2];
     let answer = lists::set_ops::generic_set_lists(
-        &[0, 3], &[], &[2, 1, 2], &[], &[1, 4], &[0b1111_1111], &[9, 1, 5, 2], &[0b110], SetOp::Union,
+        &[0, 3], &[], 0, &[2, 1, 2], &[], 0, &[1, 4], &[0b1111_1111], 0, &[9, 1, 5, 2], &[0b110], 0, SetOp::Union,
         &mut out_offsets, &mut out_rows, &mut out_values, &mut out_elements,
     );
     compare::list_counts(answer, 1, 4, 0, 1)
@@ -51,7 +53,7 @@ pub(crate) fn case_d() -> bool {
     let mut out_values = [77i64; 3];
     let mut out_elements = [0xaau8; 2];
     let answer = lists::set_ops::generic_set_lists(
-        &[0, 2], &[1], &[1, 2], &[0b11], &[0, 2], &[], &[2, 1], &[], SetOp::Intersect,
+        &[0, 2], &[1], 0, &[1, 2], &[0b11], 0, &[0, 2], &[], 0, &[2, 1], &[], 0, SetOp::Intersect,
         &mut out_offsets, &mut out_rows, &mut out_values, &mut out_elements,
     );
     compare::list_counts(answer, 1, 2, 0, 0)
@@ -69,7 +71,7 @@ pub(crate) fn case_e() -> bool {
     let mut out_values = [77i64; 3];
     let mut out_elements = [0xaau8; 2];
     let answer = lists::set_ops::generic_set_lists(
-        &[0, 2], &[], &[1, 2], &[], &[0, 3], &[], &[2, 9, 1], &[0b111], SetOp::Intersect,
+        &[0, 2], &[], 0, &[1, 2], &[], 0, &[0, 3], &[], 0, &[2, 9, 1], &[0b111], 0, SetOp::Intersect,
         &mut out_offsets, &mut out_rows, &mut out_values, &mut out_elements,
     );
     compare::list_counts(answer, 1, 2, 0, 0)

@@ -1,14 +1,25 @@
 // The refusals that every operation starts with, and the last one. An inner crate: its callers meet what it asks.
 use column::offsets;
-ghost use Prim.Native.Nat.{_<_};
 ghost use Rattle.model.specs.Contract.{room, valueRoom};
 ghost use Rattle.model.specs.Form.{fitsIn, fitsValues};
 ghost use Rattle.model.specs.Inner.{lentFrom};
 ghost use Rattle.model.specs.Outcome.{columnsRefusal};
+ghost use lib.Dec.{ltb};
+ghost use mathlib.Core.Bool.{_||_};
 ghost use mathlib.Core.List.{[], _∷_};
 ghost use mathlib.Core.Path.{_≡_};
 
-// Refusals 1 and 2 of a list column; 0 where neither applies.
+// Whether a starting bit of either bitmap is over 7.
+pub fn is_start_over(rstart: usize, estart: usize) -> bool
+    ensures { λ b. ⌜ b ≡ ltb 7 rstart || ltb 7 estart ⌝ }
+{
+    if 7 < rstart {
+        return true;
+    }
+    7 < estart
+}
+
+// Refusals 13, 1 and 2 of a list column; 0 where none applies.
 pub fn list_refusal(
     offsets: &[i32],
     rows: &[u8],
@@ -17,10 +28,11 @@ pub fn list_refusal(
     elements: &[u8],
     estart: usize,
 ) -> u8
-    requires { ⌜ rstart < 8 ⌝ }
-    requires { ⌜ estart < 8 ⌝ }
     ensures { λ k. ⌜ k ≡ columnsRefusal (lentFrom offsets rows rstart values elements estart ∷ []) [] ⌝ }
 {
+    if is_start_over(rstart, estart) {
+        return 13;
+    }
     if offsets::are_bad(offsets, values.len()) {
         return 1;
     }

@@ -11,11 +11,12 @@ use Rattle.model.specs.Contract.{Slice}
 use Rattle.model.specs.Form.{Room, ValueRoom, RepeatRoom, over}
 use Rattle.model.specs.Tally.{Tally}
 use Rattle.wire.specs.Bytes.{bytesOf4, bytesOf8, bytesOfCounts}
-use Rattle.entry.specs.Entry.{decoded, decodedArguments, bytesRoom, bytesValueRoom}
+use Rattle.entry.specs.Entry.{decodedFrom, decodedArgumentsFrom, bytesRoom, bytesValueRoom}
 use Rattle.entry.specs.Inner.{numberIn, countsIn}
 use Rattle.entry_repeat.specs.Repeat.{bytesRepeatRoom}
 use Rattle.tally_bytes.specs.Bytes.{withTally}
 use Rattle.recipe_bytes.specs.Recipe.{Zero}
+use Rattle.claims.specs.Slots.{Number}
 
 -- the four slices of a list column in bytes, lent, for an answer or as a tray
 pub record ByteSlices : Type 0 where
@@ -29,11 +30,26 @@ pub record BytePair : Type 0 where
   pub numbers : Slice ℕ
   pub bits : Slice ℕ
 
-abbrev pub bytesColumn : ByteSlices → Column
-bytesColumn c = decoded (c .offsets) (c .rows) (c .values) (c .elements)
+-- a list column in bytes that is lent to an operation: its slices, and each bitmap's starting bit
+pub record ListBytesLent : Type 0 where
+  pub offsets : Slice ℕ
+  pub rows : Slice ℕ
+  pub rows-start : Number
+  pub values : Slice ℕ
+  pub elements : Slice ℕ
+  pub elements-start : Number
 
-abbrev pub bytesArguments : BytePair → Arguments
-bytesArguments x = decodedArguments (x .numbers) (x .bits)
+-- and an argument column
+pub record ValueBytesLent : Type 0 where
+  pub numbers : Slice ℕ
+  pub bits : Slice ℕ
+  pub start : Number
+
+abbrev pub listIn : ListBytesLent → Column
+listIn c = decodedFrom (c .offsets) (c .rows) (c .rows-start .entry) (c .values) (c .elements) (c .elements-start .entry)
+
+abbrev pub argumentsIn : ValueBytesLent → Arguments
+argumentsIn x = decodedArgumentsFrom (x .numbers) (x .bits) (x .start .entry)
 
 abbrev pub roomIn : ByteSlices → Room
 roomIn o = bytesRoom (o .offsets) (o .rows) (o .values) (o .elements)
@@ -59,6 +75,21 @@ enter2 x k = (x .numbers .entry, (x .bits .entry, k))
 
 abbrev pub leave2 : {A : Type 0} → BytePair → A → Before1 (Before1 A)
 leave2 x k = (x .numbers .exit, (x .bits .exit, k))
+
+abbrev pub Before3 : Type 0 → Type 0
+Before3 A = Before1 (Before1 (ℕ × A))
+
+abbrev pub enter6 : {A : Type 0} → ListBytesLent → A → Before3 (Before3 A)
+enter6 c k = (c .offsets .entry, (c .rows .entry, (c .rows-start .entry, (c .values .entry, (c .elements .entry, (c .elements-start .entry, k))))))
+
+abbrev pub leave6 : {A : Type 0} → ListBytesLent → A → Before3 (Before3 A)
+leave6 c k = (c .offsets .exit, (c .rows .exit, (c .rows-start .exit, (c .values .exit, (c .elements .exit, (c .elements-start .exit, k))))))
+
+abbrev pub enter3 : {A : Type 0} → ValueBytesLent → A → Before3 A
+enter3 x k = (x .numbers .entry, (x .bits .entry, (x .start .entry, k)))
+
+abbrev pub leave3 : {A : Type 0} → ValueBytesLent → A → Before3 A
+leave3 x k = (x .numbers .exit, (x .bits .exit, (x .start .exit, k)))
 
 -- the slice s holds w over what it held as the call began
 abbrev pub HoldsOver : List ℕ → Slice ℕ → Type 0

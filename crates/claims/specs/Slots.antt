@@ -4,12 +4,14 @@ use Prim.Native.Nat.{ℕ}
 use lib.IntN.{ℤ}
 use lib.ListN.{length}
 use denote.Ref.{RefT, now}
+use denote.Triple.Both.{Both}
 use Rattle.model.specs.Limits.{narrow}
 use Rattle.model.specs.Form.{Room, ValueRoom, RepeatRoom}
 use Rattle.model.specs.Rows.{ListCall}
 use Rattle.model.specs.Column.{Column, Arguments}
 use Rattle.model.specs.Call.{Call, list, recipe}
-use Rattle.model.specs.Contract.{Slice, lent, lentArguments, roomOf, valueRoom, repeatRoomOf}
+use Rattle.model.specs.Contract.{Slice, roomOf, valueRoom, repeatRoomOf}
+use Rattle.model.specs.Inner.{lentFrom, lentArgumentsFrom}
 use Rattle.model.specs.Recipe.{Recipe}
 use Rattle.model.specs.Run.{Run, listRunEnd, valueRunEnd, repeatRunEnd, recipeRunEnd}
 use Rattle.model.specs.declared.ListAnswer.{ListAnswer}
@@ -31,12 +33,31 @@ pub record Pair : Type 0 where
   pub values : Slice ℤ
   pub bits : Slice ℕ
 
--- the column that slices hold as the call begins, and the places that they have
-abbrev pub lentColumn : Slices → Column
-lentColumn c = lent (c .offsets) (c .rows) (c .values) (c .elements)
+-- a number that is passed by value, at entry and at exit
+abbrev pub Number : Type 0
+Number = Both ℕ ℕ
 
-abbrev pub lentPair : Pair → Arguments
-lentPair x = lentArguments (x .values) (x .bits)
+-- a list column that is lent to an operation: its slices, and each bitmap's starting bit
+pub record LentList : Type 0 where
+  pub offsets : Slice ℤ
+  pub rows : Slice ℕ
+  pub rows-start : Number
+  pub values : Slice ℤ
+  pub elements : Slice ℕ
+  pub elements-start : Number
+
+-- and an argument column
+pub record LentValues : Type 0 where
+  pub values : Slice ℤ
+  pub bits : Slice ℕ
+  pub start : Number
+
+-- the column that slices hold as the call begins, and the places that they have
+abbrev pub listLent : LentList → Column
+listLent c = lentFrom (c .offsets) (c .rows) (c .rows-start .entry) (c .values) (c .elements) (c .elements-start .entry)
+
+abbrev pub valuesLent : LentValues → Arguments
+valuesLent x = lentArgumentsFrom (x .values) (x .bits) (x .start .entry)
 
 abbrev pub slicesRoom : Slices → Room
 slicesRoom o = roomOf (o .offsets) (o .rows) (o .values) (o .elements)
@@ -63,6 +84,21 @@ entry2 x k = (x .values .entry, (x .bits .entry, k))
 abbrev pub exit2 : {A : Type 0} → Pair → A → Before2 A
 exit2 x k = (x .values .exit, (x .bits .exit, k))
 
+abbrev pub Before3 : Type 0 → Type 0
+Before3 A = Before2 (ℕ × A)
+
+abbrev pub entry6 : {A : Type 0} → LentList → A → Before3 (Before3 A)
+entry6 c k = (c .offsets .entry, (c .rows .entry, (c .rows-start .entry, (c .values .entry, (c .elements .entry, (c .elements-start .entry, k))))))
+
+abbrev pub exit6 : {A : Type 0} → LentList → A → Before3 (Before3 A)
+exit6 c k = (c .offsets .exit, (c .rows .exit, (c .rows-start .exit, (c .values .exit, (c .elements .exit, (c .elements-start .exit, k))))))
+
+abbrev pub entry3 : {A : Type 0} → LentValues → A → Before3 A
+entry3 x k = (x .values .entry, (x .bits .entry, (x .start .entry, k)))
+
+abbrev pub exit3 : {A : Type 0} → LentValues → A → Before3 A
+exit3 x k = (x .values .exit, (x .bits .exit, (x .start .exit, k)))
+
 -- a call of q that answered a and had o for its output is a run
 abbrev pub ListRuns : ListCall Column Arguments → ListAnswer → Slices → Type 0
 ListRuns q a o = Run narrow (list q (slicesRoom o)) (listRunEnd a (now (o .offsets .exit)) (now (o .rows .exit)) (now (o .values .exit)) (now (o .elements .exit)))
@@ -79,9 +115,9 @@ RepeatRuns q a b o =
     (repeatRunEnd a (now (b .values .exit)) (now (b .bits .exit)) (now (o .offsets .exit)) (now (o .rows .exit)) (now (o .values .exit)) (now (o .elements .exit)))
 
 -- a recipe p of station s on the lists c and d with arguments x, through the trays l and m into o; t is the tally that went in
-abbrev pub RecipeRuns : ℕ → Recipe → Slices → Slices → Pair → Slices → Slices → Slices → Tally → RecipeAnswer → Type 0
+abbrev pub RecipeRuns : ℕ → Recipe → LentList → LentList → LentValues → Slices → Slices → Slices → Tally → RecipeAnswer → Type 0
 RecipeRuns s p c d x l m o t a =
-    Run narrow (recipe s p (lentColumn c) (lentColumn d) (lentPair x) (slicesRoom l) (slicesRoom m) (slicesRoom o) (tallyOf t))
+    Run narrow (recipe s p (listLent c) (listLent d) (valuesLent x) (slicesRoom l) (slicesRoom m) (slicesRoom o) (tallyOf t))
     (recipeRunEnd (a .answer)
     (now (o .offsets .exit)) (now (o .rows .exit)) (now (o .values .exit)) (now (o .elements .exit))
     (now (l .offsets .exit)) (now (l .rows .exit)) (now (l .values .exit)) (now (l .elements .exit))

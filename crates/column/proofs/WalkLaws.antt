@@ -4,12 +4,13 @@ use mathlib.Core.Bool.{Bool, true, false, _||_}
 use mathlib.Core.List.{List, [], _∷_, map}
 use Prim.Native.Nat.{ℕ, _+_, _-_, _≤_, _<_}
 use native.Mathlib.Omega.{arith}
+use borrow.Author.Tests.{ltb-false}
 use lib.IntN.{ℤ, pos}
 use lib.ListN.{length, set, length-set}
 use lib.Seq.{length-sets}
 use Rattle.model.specs.Basics.{tab, pick, any}
 use Rattle.model.specs.Bitmap.{shortBits}
-use Rattle.model.specs.Column.{Row, Column, elemAt, rowAt, rowCount, offsetAt, refusal1, refusal2}
+use Rattle.model.specs.Column.{Row, Column, elemAt, rowAt, rowCount, offsetAt, overSeven, refusal13, refusal1, refusal2}
 use Rattle.model.specs.Form.{valueOf, elemsOf, flat}
 use Rattle.model.specs.Outcome.{columnsRefusal}
 use Rattle.model.proofs.TabLaws.{tab-step, tab-none, length-tab}
@@ -127,15 +128,21 @@ module _ (W : ℕ → Row) (n : ℕ) where
 
 -- ---- the checks
 
-none-cases : (x y : Bool) → _≡_ {A = ℕ} (pick (x || false) 1 (pick ((y || false) || false) 2 0)) 0 → (x ≡ false) × (y ≡ false)
-none-cases true y e = let z : ⊥ = omega arith in absurd z
-none-cases false true e = let z : ⊥ = omega arith in absurd z
-none-cases false false e = (refl, refl)
+none-cases : (w x y : Bool) → _≡_ {A = ℕ} (pick ((w || false) || false) 13 (pick (x || false) 1 (pick ((y || false) || false) 2 0))) 0 → (w ≡ false) × (x ≡ false) × (y ≡ false)
+none-cases true x y e = let z : ⊥ = omega arith in absurd z
+none-cases false true y e = let z : ⊥ = omega arith in absurd z
+none-cases false false true e = let z : ⊥ = omega arith in absurd z
+none-cases false false false e = (refl, refl, refl)
 
--- a list column that gives neither 1 nor 2 can be read
-pub readable : (c : Column) → c .rows .start ≤ 7 → c .elements .start ≤ 7 → columnsRefusal (c ∷ []) [] ≡ 0 → Readable c
-unfolding columnsRefusal any refusal2
-readable c s t z =
-    let n = none-cases (refusal1 c) (shortBits (c .rows) (rowCount (c .offsets)) || shortBits (c .elements) (length (c .values))) z in
-    let b = or-none (shortBits (c .rows) (rowCount (c .offsets))) (shortBits (c .elements) (length (c .values))) (n .1) in
-    record { offsets = n .0; rows = record { small = omega arith; long = b .0 }; elements = record { small = omega arith; long = b .1 } }
+-- a list column that gives neither 13 nor 1 nor 2 can be read
+pub readable : (c : Column) → columnsRefusal (c ∷ []) [] ≡ 0 → Readable c
+unfolding columnsRefusal any refusal13 refusal2
+readable c z =
+    let n = none-cases (overSeven (c .rows) || overSeven (c .elements)) (refusal1 c) (shortBits (c .rows) (rowCount (c .offsets)) || shortBits (c .elements) (length (c .values))) z in
+    let s = or-none (overSeven (c .rows)) (overSeven (c .elements)) (n .0) in
+    let b = or-none (shortBits (c .rows) (rowCount (c .offsets))) (shortBits (c .elements) (length (c .values))) (n .2) in
+    record {
+      offsets = n .1;
+      rows = record { small = omega (arith, ltb-false 7 (c .rows .start) (s .0)); long = b .0 };
+      elements = record { small = omega (arith, ltb-false 7 (c .elements .start) (s .1)); long = b .1 };
+    }

@@ -44,7 +44,7 @@ unfoldable pub putRows : Outs → List Row → Outs
 putRows s [] = s
 putRows s (w ∷ ws) = putRows (putRow s w) ws
 
--- a column that refusals 1 and 2 don't apply to, with bitmaps that begin in their first byte
+-- a column that refusals 13, 1 and 2 don't apply to
 pub record Readable (c : Column) : Type 0 where
   pub offsets : refusal1 c ≡ false
   pub rows : Covers (c .rows) (rowCount (c .offsets))

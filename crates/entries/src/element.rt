@@ -5,7 +5,7 @@ use entry::sizes;
 use lists::extract;
 use model::ValueAnswer;
 ghost use Prim.Native.Nat.{_/_, _≤_};
-ghost use Rattle.entry.specs.Entry.{ValueEntry, decoded, decodedArguments, listSizes, mostOffsets, mostRows, mostValues, size, valueSizes};
+ghost use Rattle.entry.specs.Entry.{ValueEntry, decodedArgumentsFrom, decodedFrom, listSizes, mostOffsets, mostRows, mostValues, size, valueSizes};
 ghost use Rattle.entry.specs.Inner.{ListFits, ValueRuns};
 ghost use Rattle.model.specs.Basics.{given};
 ghost use Rattle.model.specs.Limits.{narrow};
@@ -17,10 +17,13 @@ ghost use mathlib.Core.List.{_++_};
 fn run(
     offsets: &[u8],
     rows: &[u8],
+    rows_start: usize,
     values: &[u8],
     elements: &[u8],
+    elements_start: usize,
     indexes: &[u8],
     index_bits: &[u8],
+    index_start: usize,
     m: usize,
     v: &mut [i64],
     out_rows: &mut [u8],
@@ -28,7 +31,7 @@ fn run(
     requires lent { ⌜ ListFits (length (now offsets)) (length (now values)) mostOffsets mostValues ⌝ }
     requires arguments { ⌜ length (now indexes) / 8 ≤ mostRows ⌝ }
     requires output { ⌜ m ≤ length (now v) ⌝ }
-    ensures { λ a. ⌜ ValueRuns (elementOutcome narrow (decoded offsets rows values elements) (decodedArguments indexes «index_bits»)) m a v «out_rows» ⌝ }
+    ensures { λ a. ⌜ ValueRuns (elementOutcome narrow (decodedFrom offsets rows «rows_start» values elements «elements_start») (decodedArgumentsFrom indexes «index_bits» «index_start»)) m a v «out_rows» ⌝ }
 {
     let mut lo = [0i32; sizes::MOST_OFFSETS];
     let mut lv = [0i64; sizes::MOST_VALUES];
@@ -41,10 +44,13 @@ fn run(
     extract::general_array_element(
         &lo[..no],
         rows,
+        rows_start,
         &lv[..nv],
         elements,
+        elements_start,
         &li[..ni],
         index_bits,
+        index_start,
         &mut v[..m],
         out_rows,
     )
@@ -54,15 +60,18 @@ fn run(
 pub fn enter(
     offsets: &[u8],
     rows: &[u8],
+    rows_start: usize,
     values: &[u8],
     elements: &[u8],
+    elements_start: usize,
     indexes: &[u8],
     index_bits: &[u8],
+    index_start: usize,
     out_values: &mut [u8],
     out_rows: &mut [u8],
     counts: &mut [u8],
 ) -> u32
-    ensures { λ n. ⌜ ValueEntry (given (elementOutcome narrow (decoded offsets rows values elements) (decodedArguments indexes «index_bits»))) (listSizes (size offsets) (size values) ++ valueSizes (size indexes)) n «out_values» «out_rows» counts ⌝ }
+    ensures { λ n. ⌜ ValueEntry (given (elementOutcome narrow (decodedFrom offsets rows «rows_start» values elements «elements_start») (decodedArgumentsFrom indexes «index_bits» «index_start»))) (listSizes (size offsets) (size values) ++ valueSizes (size indexes)) n «out_values» «out_rows» counts ⌝ }
 {
     let k = sizes::element_refusal(
         offsets.len(),
@@ -79,10 +88,13 @@ pub fn enter(
     let answer = run(
         offsets,
         rows,
+        rows_start,
         values,
         elements,
+        elements_start,
         indexes,
         index_bits,
+        index_start,
         m,
         &mut v,
         out_rows,

@@ -8,7 +8,7 @@ use model::ListAnswer;
 use model::Unary;
 use ops::ListOp;
 ghost use Prim.Native.Nat.{_≤_};
-ghost use Rattle.entry.specs.Entry.{ListEntry, decoded, listSizes, mostOffsets, mostValues, size};
+ghost use Rattle.entry.specs.Entry.{ListEntry, decodedFrom, listSizes, mostOffsets, mostValues, size};
 ghost use Rattle.entry.specs.Inner.{ListFits, ListRuns};
 ghost use Rattle.entry_codes.specs.Calls.{unaryCall};
 ghost use Rattle.model.specs.Limits.{narrow};
@@ -20,13 +20,13 @@ ghost use lib.ListN.{length};
 #[rattlefmt::skip]
 fn run(
     op: Unary,
-    offsets: &[u8], rows: &[u8], values: &[u8], elements: &[u8],
+    offsets: &[u8], rows: &[u8], rows_start: usize, values: &[u8], elements: &[u8], elements_start: usize,
     mo: usize, mv: usize, o: &mut [i32], out_rows: &mut [u8], v: &mut [i64], out_elements: &mut [u8],
 ) -> ListAnswer
     requires lent { ⌜ ListFits (length (now offsets)) (length (now values)) mostOffsets mostValues ⌝ }
     requires offsets { ⌜ mo ≤ length (now o) ⌝ }
     requires values { ⌜ mv ≤ length (now v) ⌝ }
-    ensures { λ a. ⌜ ListRuns (listOutcome narrow (unary op (decoded offsets rows values elements))) mo mv a o «out_rows» v «out_elements» ⌝ }
+    ensures { λ a. ⌜ ListRuns (listOutcome narrow (unary op (decodedFrom offsets rows «rows_start» values elements «elements_start»))) mo mv a o «out_rows» v «out_elements» ⌝ }
 {
     let mut lo = [0i32; sizes::MOST_OFFSETS];
     let mut lv = [0i64; sizes::MOST_VALUES];
@@ -36,7 +36,7 @@ fn run(
     let vs = &lv[..nv];
     // The walk looks at no argument columns here: any slices stand in their places.
     list_walk::run(
-        ListOp::Plain(op), &lo[..no], rows, 0, vs, elements, 0,
+        ListOp::Plain(op), &lo[..no], rows, rows_start, vs, elements, elements_start,
         vs, elements, 0,
         vs, elements, 0,
         vs, elements, 0,
@@ -49,15 +49,17 @@ pub fn enter(
     op: u32,
     offsets: &[u8],
     rows: &[u8],
+    rows_start: usize,
     values: &[u8],
     elements: &[u8],
+    elements_start: usize,
     out_offsets: &mut [u8],
     out_rows: &mut [u8],
     out_values: &mut [u8],
     out_elements: &mut [u8],
     counts: &mut [u8],
 ) -> u32
-    ensures { λ n. ⌜ ListEntry (unaryCall op (decoded offsets rows values elements)) (listSizes (size offsets) (size values)) n «out_offsets» «out_rows» «out_values» «out_elements» counts ⌝ }
+    ensures { λ n. ⌜ ListEntry (unaryCall op (decodedFrom offsets rows «rows_start» values elements «elements_start»)) (listSizes (size offsets) (size values)) n «out_offsets» «out_rows» «out_values» «out_elements» counts ⌝ }
 {
     let named = unary_of(op);
     match named {
@@ -81,8 +83,10 @@ pub fn enter(
                 operation,
                 offsets,
                 rows,
+                rows_start,
                 values,
                 elements,
+                elements_start,
                 mo,
                 mv,
                 &mut o,

@@ -8,7 +8,7 @@ use lists::set_ops;
 use model::ListAnswer;
 use model::SetOp;
 ghost use Prim.Native.Nat.{_≤_};
-ghost use Rattle.entry.specs.Entry.{ListEntry, decoded, listSizes, mostOffsets, mostValues, size};
+ghost use Rattle.entry.specs.Entry.{ListEntry, decodedFrom, listSizes, mostOffsets, mostValues, size};
 ghost use Rattle.entry.specs.Inner.{ListFits, ListRuns};
 ghost use Rattle.entry_codes.specs.Calls.{setCall};
 ghost use Rattle.model.specs.Limits.{narrow};
@@ -21,15 +21,15 @@ ghost use mathlib.Core.List.{_++_};
 #[rattlefmt::skip]
 fn run(
     op: SetOp,
-    l_offsets: &[u8], l_rows: &[u8], l_values: &[u8], l_elements: &[u8],
-    r_offsets: &[u8], r_rows: &[u8], r_values: &[u8], r_elements: &[u8],
+    l_offsets: &[u8], l_rows: &[u8], l_rows_start: usize, l_values: &[u8], l_elements: &[u8], l_elements_start: usize,
+    r_offsets: &[u8], r_rows: &[u8], r_rows_start: usize, r_values: &[u8], r_elements: &[u8], r_elements_start: usize,
     mo: usize, mv: usize, o: &mut [i32], out_rows: &mut [u8], v: &mut [i64], out_elements: &mut [u8],
 ) -> ListAnswer
     requires left { ⌜ ListFits (length (now «l_offsets»)) (length (now «l_values»)) mostOffsets mostValues ⌝ }
     requires right { ⌜ ListFits (length (now «r_offsets»)) (length (now «r_values»)) mostOffsets mostValues ⌝ }
     requires offsets { ⌜ mo ≤ length (now o) ⌝ }
     requires values { ⌜ mv ≤ length (now v) ⌝ }
-    ensures { λ a. ⌜ ListRuns (listOutcome narrow (setOp op (decoded «l_offsets» «l_rows» «l_values» «l_elements») (decoded «r_offsets» «r_rows» «r_values» «r_elements»))) mo mv a o «out_rows» v «out_elements» ⌝ }
+    ensures { λ a. ⌜ ListRuns (listOutcome narrow (setOp op (decodedFrom «l_offsets» «l_rows» «l_rows_start» «l_values» «l_elements» «l_elements_start») (decodedFrom «r_offsets» «r_rows» «r_rows_start» «r_values» «r_elements» «r_elements_start»))) mo mv a o «out_rows» v «out_elements» ⌝ }
 {
     let mut lo = [0i32; sizes::MOST_OFFSETS];
     let mut lv = [0i64; sizes::MOST_VALUES];
@@ -42,8 +42,8 @@ fn run(
     let po = r_offsets.len() / 4;
     let pv = r_values.len() / 8;
     set_ops::generic_set_lists(
-        &lo[..no], l_rows, &lv[..nv], l_elements,
-        &ro[..po], r_rows, &rv[..pv], r_elements,
+        &lo[..no], l_rows, l_rows_start, &lv[..nv], l_elements, l_elements_start,
+        &ro[..po], r_rows, r_rows_start, &rv[..pv], r_elements, r_elements_start,
         op, &mut o[..mo], out_rows, &mut v[..mv], out_elements,
     )
 }
@@ -52,12 +52,12 @@ fn run(
 #[rattlefmt::skip]
 pub fn enter(
     op: u32,
-    l_offsets: &[u8], l_rows: &[u8], l_values: &[u8], l_elements: &[u8],
-    r_offsets: &[u8], r_rows: &[u8], r_values: &[u8], r_elements: &[u8],
+    l_offsets: &[u8], l_rows: &[u8], l_rows_start: usize, l_values: &[u8], l_elements: &[u8], l_elements_start: usize,
+    r_offsets: &[u8], r_rows: &[u8], r_rows_start: usize, r_values: &[u8], r_elements: &[u8], r_elements_start: usize,
     out_offsets: &mut [u8], out_rows: &mut [u8], out_values: &mut [u8], out_elements: &mut [u8],
     counts: &mut [u8],
 ) -> u32
-    ensures { λ n. ⌜ ListEntry (setCall op (decoded «l_offsets» «l_rows» «l_values» «l_elements») (decoded «r_offsets» «r_rows» «r_values» «r_elements»)) (listSizes (size «l_offsets») (size «l_values») ++ listSizes (size «r_offsets») (size «r_values»)) n «out_offsets» «out_rows» «out_values» «out_elements» counts ⌝ }
+    ensures { λ n. ⌜ ListEntry (setCall op (decodedFrom «l_offsets» «l_rows» «l_rows_start» «l_values» «l_elements» «l_elements_start») (decodedFrom «r_offsets» «r_rows» «r_rows_start» «r_values» «r_elements» «r_elements_start»)) (listSizes (size «l_offsets») (size «l_values») ++ listSizes (size «r_offsets») (size «r_values»)) n «out_offsets» «out_rows» «out_values» «out_elements» counts ⌝ }
 {
     let named = operation_of(op);
     match named {
@@ -82,8 +82,8 @@ pub fn enter(
             let mut v = [0i64; sizes::MOST_VALUES];
             let answer = run(
                 operation,
-                l_offsets, l_rows, l_values, l_elements,
-                r_offsets, r_rows, r_values, r_elements,
+                l_offsets, l_rows, l_rows_start, l_values, l_elements, l_elements_start,
+                r_offsets, r_rows, r_rows_start, r_values, r_elements, r_elements_start,
                 mo, mv, &mut o, out_rows, &mut v, out_elements,
             );
             answers::put_list(answer, &o, &v, out_offsets, out_values, counts)

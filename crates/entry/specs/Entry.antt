@@ -18,12 +18,12 @@ use Rattle.wire.specs.Bytes.{ints4, ints8, bytesOf4, bytesOf8, bytesOfCounts}
 
 -- ---- what is lent
 
--- the column in four slices of bytes as the call begins, and the argument column in two
-abbrev pub decoded : Slice ℕ → Slice ℕ → Slice ℕ → Slice ℕ → Column
-decoded o r v e = column (ints4 (now (o .entry))) (from 0 (now (r .entry))) (ints8 (now (v .entry))) (from 0 (now (e .entry)))
+-- the column in four slices of bytes as the call begins, each bitmap followed by its starting bit; and the argument column in two
+abbrev pub decodedFrom : Slice ℕ → Slice ℕ → ℕ → Slice ℕ → Slice ℕ → ℕ → Column
+decodedFrom o r i v e j = column (ints4 (now (o .entry))) (from i (now (r .entry))) (ints8 (now (v .entry))) (from j (now (e .entry)))
 
-abbrev pub decodedArguments : Slice ℕ → Slice ℕ → Arguments
-decodedArguments v b = arguments (ints8 (now (v .entry))) (from 0 (now (b .entry)))
+abbrev pub decodedArgumentsFrom : Slice ℕ → Slice ℕ → ℕ → Arguments
+decodedArgumentsFrom v b i = arguments (ints8 (now (v .entry))) (from i (now (b .entry)))
 
 -- the bytes that a slice has
 abbrev pub size : Slice ℕ → ℕ

@@ -34,9 +34,9 @@ recipe-sized ss c t h = let p = pick-none (ltb t 256) 100 (sizeRefusal ss c 32) 
 
 -- the arrays have places for all numbers
 pub all-fit : (bns ba bo bv bso bsv po pv qo qv lo lv : ℕ) → All Fits (((recipeSizes bns ba ++ pairSizes bo bv bso bsv) ++ pairSizes po pv qo qv) ++ listSizes lo lv)
-    → InputsFit bns bo bv bso bsv ba × TraysFit (po / 4) (pv / 8) (qo / 4) (qv / 8) × ListFits lo lv mostOffsets mostValues
+    → InputsFit bo bv bso bsv ba × TraysFit (po / 4) (pv / 8) (qo / 4) (qv / 8) × ListFits lo lv mostOffsets mostValues
 all-fit bns ba bo bv bso bsv po pv qo qv lo lv (more f1 (more f2 (more f3 (more f4 (more f5 (more f6 (more f7 (more f8 (more f9 (more f10 (more f11 (more f12 none)))))))))))) = (
-  record { numbers = f1; list = record { offsets = f3; values = f4 }; second = record { offsets = f5; values = f6 }; arguments = f2 },
+  record { list = record { offsets = f3; values = f4 }; second = record { offsets = f5; values = f6 }; arguments = f2 },
   record { one-offsets = f7; one-values = f8; two-offsets = f9; two-values = f10 },
   record { offsets = f11; values = f12 },
 )

@@ -11,12 +11,12 @@ use Rattle.model.specs.Form.{Room}
 use Rattle.model.specs.Outcome.{Outcome}
 use Rattle.entry.specs.Entry.{Numbers, numbers, listSizes, size, bytesRoom, sizeRefusal, ListAnswered}
 use Rattle.tally_bytes.specs.Bytes.{talliedIn}
-use Rattle.recipe_bytes.specs.Inner.{mostNumbers, mostArguments}
+use Rattle.recipe_bytes.specs.Inner.{mostArguments}
 use Rattle.recipe_bytes.specs.Recipe.{Zero}
 
--- a recipe's numbers and its argument values, by their bytes
+-- a recipe's numbers, of which any many are taken, and its argument values, by their bytes
 abbrev pub recipeSizes : ℕ → ℕ → List Numbers
-recipeSizes ns a = numbers 4 mostNumbers ns ∷ numbers 8 mostArguments a ∷ []
+recipeSizes ns a = numbers 4 ns ns ∷ numbers 8 mostArguments a ∷ []
 
 -- offsets and values of two lists or of two trays
 abbrev pub pairSizes : ℕ → ℕ → ℕ → ℕ → List Numbers

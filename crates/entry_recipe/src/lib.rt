@@ -4,7 +4,6 @@ use copies::clear_u8;
 use entry::answers;
 use entry::sizes;
 use recipe_bytes::MOST_ARGUMENTS;
-use recipe_bytes::MOST_NUMBERS;
 use tally_bytes::get_tally;
 use tally_bytes::put_tally;
 ghost use Rattle.entry.specs.Entry.{listSizes, outsize, ragged, size};
@@ -22,10 +21,11 @@ fn is_recipe_ragged(numbers: usize, arguments: usize) -> bool
     sizes::is_ragged(numbers, 4) | sizes::is_ragged(arguments, 8)
 }
 
+// A recipe of any length is taken.
 fn is_recipe_outsize(numbers: usize, arguments: usize) -> bool
     ensures { λ r. ⌜ r ≡ any outsize (recipeSizes numbers arguments) ⌝ }
 {
-    sizes::is_outsize(numbers, 4, MOST_NUMBERS) | sizes::is_outsize(arguments, 8, MOST_ARGUMENTS)
+    sizes::is_outsize(arguments, 8, MOST_ARGUMENTS)
 }
 
 fn is_pair_ragged(
@@ -95,15 +95,15 @@ fn clear_four(a: &mut [u8], b: &mut [u8], c: &mut [u8], d: &mut [u8])
 #[rattlefmt::skip]
 pub fn enter(
     station: u32, columns: u32, numbers: &[u8],
-    offsets: &[u8], rows: &[u8], values: &[u8], elements: &[u8],
-    second_offsets: &[u8], second_rows: &[u8], second_values: &[u8], second_elements: &[u8],
-    arguments: &[u8], argument_bits: &[u8],
+    offsets: &[u8], rows: &[u8], rows_start: u32, values: &[u8], elements: &[u8], elements_start: u32,
+    second_offsets: &[u8], second_rows: &[u8], second_rows_start: u32, second_values: &[u8], second_elements: &[u8], second_elements_start: u32,
+    arguments: &[u8], argument_bits: &[u8], argument_start: u32,
     one_offsets: &mut [u8], one_rows: &mut [u8], one_values: &mut [u8], one_elements: &mut [u8],
     two_offsets: &mut [u8], two_rows: &mut [u8], two_values: &mut [u8], two_elements: &mut [u8],
     out_offsets: &mut [u8], out_rows: &mut [u8], out_values: &mut [u8], out_elements: &mut [u8],
     counts: &mut [u8], tally: &mut [u8],
 ) -> u32
-    ensures { λ n. ⌜ RecipeEntry station (recipeIn station columns numbers offsets rows values elements «second_offsets» «second_rows» «second_values» «second_elements» arguments «argument_bits») (recipeSizes (size numbers) (size arguments) ++ pairSizes (size offsets) (size values) (size «second_offsets») (size «second_values»)) n «one_offsets» «one_rows» «one_values» «one_elements» «two_offsets» «two_rows» «two_values» «two_elements» «out_offsets» «out_rows» «out_values» «out_elements» counts tally ⌝ }
+    ensures { λ n. ⌜ RecipeEntry station (recipeIn station columns numbers offsets rows «rows_start» values elements «elements_start» «second_offsets» «second_rows» «second_rows_start» «second_values» «second_elements» «second_elements_start» arguments «argument_bits» «argument_start») (recipeSizes (size numbers) (size arguments) ++ pairSizes (size offsets) (size values) (size «second_offsets») (size «second_values»)) n «one_offsets» «one_rows» «one_values» «one_elements» «two_offsets» «two_rows» «two_values» «two_elements» «out_offsets» «out_rows» «out_values» «out_elements» counts tally ⌝ }
 {
     let k = recipe_refusal(
         numbers.len(),
@@ -131,9 +131,9 @@ pub fn enter(
     let mut v = [0i64; sizes::MOST_VALUES];
     let done = recipe_bytes::run(
         before, station, columns, ho, hv, io, iv, mo, mv, numbers,
-        offsets, rows, values, elements,
-        second_offsets, second_rows, second_values, second_elements,
-        arguments, argument_bits,
+        offsets, rows, rows_start, values, elements, elements_start,
+        second_offsets, second_rows, second_rows_start, second_values, second_elements, second_elements_start,
+        arguments, argument_bits, argument_start,
         one_rows, one_elements,
         two_rows, two_elements,
         &mut o, out_rows, &mut v, out_elements,

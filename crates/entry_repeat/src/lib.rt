@@ -4,7 +4,7 @@ use entry::sizes;
 use lists::repeat;
 use model::RepeatAnswer;
 ghost use Prim.Native.Nat.{_/_, _≤_};
-ghost use Rattle.entry.specs.Entry.{decoded, decodedArguments, listSizes, mostOffsets, mostRows, mostValues, outsize, ragged, size, sizeRefusal, valueSizes};
+ghost use Rattle.entry.specs.Entry.{decodedArgumentsFrom, decodedFrom, listSizes, mostOffsets, mostRows, mostValues, outsize, ragged, size, sizeRefusal, valueSizes};
 ghost use Rattle.entry.specs.Inner.{ListFits};
 ghost use Rattle.entry_repeat.specs.Repeat.{RepeatEntry, repeatSizes};
 ghost use Rattle.model.specs.Basics.{any, given};
@@ -57,8 +57,8 @@ fn repeat_refusal(
 // Decodes the columns, and runs the operation with room for mo offsets in o, mi inner offsets in io and mv values in v.
 #[rattlefmt::skip]
 fn run(
-    offsets: &[u8], rows: &[u8], values: &[u8], elements: &[u8],
-    times: &[u8], times_bits: &[u8],
+    offsets: &[u8], rows: &[u8], rows_start: usize, values: &[u8], elements: &[u8], elements_start: usize,
+    times: &[u8], times_bits: &[u8], times_start: usize,
     mo: usize, mi: usize, mv: usize, o: &mut [i32], out_rows: &mut [u8], io: &mut [i32], inner_rows: &mut [u8], v: &mut [i64],
     out_elements: &mut [u8],
 ) -> RepeatAnswer
@@ -67,7 +67,7 @@ fn run(
     requires offsets { ⌜ mo ≤ length (now o) ⌝ }
     requires inner { ⌜ mi ≤ length (now io) ⌝ }
     requires values { ⌜ mv ≤ length (now v) ⌝ }
-    ensures { λ a. ⌜ RepeatRuns (repeatOutcome narrow (decoded offsets rows values elements) (decodedArguments times «times_bits»)) mo mi mv a o «out_rows» io «inner_rows» v «out_elements» ⌝ }
+    ensures { λ a. ⌜ RepeatRuns (repeatOutcome narrow (decodedFrom offsets rows «rows_start» values elements «elements_start») (decodedArgumentsFrom times «times_bits» «times_start»)) mo mi mv a o «out_rows» io «inner_rows» v «out_elements» ⌝ }
 {
     let mut lo = [0i32; sizes::MOST_OFFSETS];
     let mut lv = [0i64; sizes::MOST_VALUES];
@@ -78,8 +78,8 @@ fn run(
     let nv = values.len() / 8;
     let nt = times.len() / 8;
     repeat::general_list_repeat(
-        &lo[..no], rows, &lv[..nv], elements,
-        &lt[..nt], times_bits,
+        &lo[..no], rows, rows_start, &lv[..nv], elements, elements_start,
+        &lt[..nt], times_bits, times_start,
         &mut o[..mo], out_rows, &mut io[..mi], inner_rows, &mut v[..mv], out_elements,
     )
 }
@@ -87,14 +87,14 @@ fn run(
 // Tests the sizes, runs the operation, and encodes what it counts.
 #[rattlefmt::skip]
 pub fn enter(
-    offsets: &[u8], rows: &[u8], values: &[u8], elements: &[u8],
-    times: &[u8], times_bits: &[u8],
+    offsets: &[u8], rows: &[u8], rows_start: usize, values: &[u8], elements: &[u8], elements_start: usize,
+    times: &[u8], times_bits: &[u8], times_start: usize,
     out_offsets: &mut [u8], out_rows: &mut [u8],
     inner_offsets: &mut [u8], inner_rows: &mut [u8],
     out_values: &mut [u8], out_elements: &mut [u8],
     counts: &mut [u8],
 ) -> u32
-    ensures { λ n. ⌜ RepeatEntry (given (repeatOutcome narrow (decoded offsets rows values elements) (decodedArguments times «times_bits»))) (listSizes (size offsets) (size values) ++ valueSizes (size times)) n «out_offsets» «out_rows» «inner_offsets» «inner_rows» «out_values» «out_elements» counts ⌝ }
+    ensures { λ n. ⌜ RepeatEntry (given (repeatOutcome narrow (decodedFrom offsets rows «rows_start» values elements «elements_start») (decodedArgumentsFrom times «times_bits» «times_start»))) (listSizes (size offsets) (size values) ++ valueSizes (size times)) n «out_offsets» «out_rows» «inner_offsets» «inner_rows» «out_values» «out_elements» counts ⌝ }
 {
     let k = repeat_refusal(
         offsets.len(),
@@ -115,8 +115,8 @@ pub fn enter(
     let mut io = [0i32; MOST_INNER_OFFSETS];
     let mut v = [0i64; sizes::MOST_VALUES];
     let answer = run(
-        offsets, rows, values, elements,
-        times, times_bits,
+        offsets, rows, rows_start, values, elements, elements_start,
+        times, times_bits, times_start,
         mo, mi, mv, &mut o, out_rows, &mut io, inner_rows, &mut v, out_elements,
     );
     repeat_bytes::put_repeat(

@@ -8,7 +8,7 @@ use entry_codes::with_of;
 use model::ListAnswer;
 use ops::ListOp;
 ghost use Prim.Native.Nat.{_/_, _≤_};
-ghost use Rattle.entry.specs.Entry.{ListEntry, decoded, decodedArguments, listSizes, mostOffsets, mostRows, mostValues, outsize, ragged, size, sizeRefusal, valueSizes};
+ghost use Rattle.entry.specs.Entry.{ListEntry, decodedArgumentsFrom, decodedFrom, listSizes, mostOffsets, mostRows, mostValues, outsize, ragged, size, sizeRefusal, valueSizes};
 ghost use Rattle.entry.specs.Inner.{ListFits, ListRuns};
 ghost use Rattle.entry_codes.specs.Calls.{withCall};
 ghost use Rattle.model.specs.Basics.{any};
@@ -59,10 +59,10 @@ fn with_refusal(
 #[rattlefmt::skip]
 fn run(
     op: ListOp,
-    offsets: &[u8], rows: &[u8], values: &[u8], elements: &[u8],
-    first: &[u8], first_bits: &[u8],
-    second: &[u8], second_bits: &[u8],
-    third: &[u8], third_bits: &[u8],
+    offsets: &[u8], rows: &[u8], rows_start: usize, values: &[u8], elements: &[u8], elements_start: usize,
+    first: &[u8], first_bits: &[u8], first_start: usize,
+    second: &[u8], second_bits: &[u8], second_start: usize,
+    third: &[u8], third_bits: &[u8], third_start: usize,
     mo: usize, mv: usize, o: &mut [i32], out_rows: &mut [u8], v: &mut [i64], out_elements: &mut [u8],
 ) -> ListAnswer
     requires lent { ⌜ ListFits (length (now offsets)) (length (now values)) mostOffsets mostValues ⌝ }
@@ -71,7 +71,7 @@ fn run(
     requires third { ⌜ length (now third) / 8 ≤ mostRows ⌝ }
     requires offsets { ⌜ mo ≤ length (now o) ⌝ }
     requires values { ⌜ mv ≤ length (now v) ⌝ }
-    ensures { λ a. ⌜ ListRuns (listOutcome narrow (callOf op (decoded offsets rows values elements) (decodedArguments first «first_bits») (decodedArguments second «second_bits») (decodedArguments third «third_bits»))) mo mv a o «out_rows» v «out_elements» ⌝ }
+    ensures { λ a. ⌜ ListRuns (listOutcome narrow (callOf op (decodedFrom offsets rows «rows_start» values elements «elements_start») (decodedArgumentsFrom first «first_bits» «first_start») (decodedArgumentsFrom second «second_bits» «second_start») (decodedArgumentsFrom third «third_bits» «third_start»))) mo mv a o «out_rows» v «out_elements» ⌝ }
 {
     let mut lo = [0i32; sizes::MOST_OFFSETS];
     let mut lv = [0i64; sizes::MOST_VALUES];
@@ -88,10 +88,10 @@ fn run(
     let ny = second.len() / 8;
     let nz = third.len() / 8;
     list_walk::run(
-        op, &lo[..no], rows, 0, &lv[..nv], elements, 0,
-        &lx[..nx], first_bits, 0,
-        &ly[..ny], second_bits, 0,
-        &lz[..nz], third_bits, 0,
+        op, &lo[..no], rows, rows_start, &lv[..nv], elements, elements_start,
+        &lx[..nx], first_bits, first_start,
+        &ly[..ny], second_bits, second_start,
+        &lz[..nz], third_bits, third_start,
         &mut o[..mo], out_rows, &mut v[..mv], out_elements,
     )
 }
@@ -100,14 +100,14 @@ fn run(
 #[rattlefmt::skip]
 pub fn enter(
     op: u32,
-    offsets: &[u8], rows: &[u8], values: &[u8], elements: &[u8],
-    first: &[u8], first_bits: &[u8],
-    second: &[u8], second_bits: &[u8],
-    third: &[u8], third_bits: &[u8],
+    offsets: &[u8], rows: &[u8], rows_start: usize, values: &[u8], elements: &[u8], elements_start: usize,
+    first: &[u8], first_bits: &[u8], first_start: usize,
+    second: &[u8], second_bits: &[u8], second_start: usize,
+    third: &[u8], third_bits: &[u8], third_start: usize,
     out_offsets: &mut [u8], out_rows: &mut [u8], out_values: &mut [u8], out_elements: &mut [u8],
     counts: &mut [u8],
 ) -> u32
-    ensures { λ n. ⌜ ListEntry (withCall op (decoded offsets rows values elements) (decodedArguments first «first_bits») (decodedArguments second «second_bits») (decodedArguments third «third_bits»)) (listSizes (size offsets) (size values) ++ (valueSizes (size first) ++ (valueSizes (size second) ++ valueSizes (size third)))) n «out_offsets» «out_rows» «out_values» «out_elements» counts ⌝ }
+    ensures { λ n. ⌜ ListEntry (withCall op (decodedFrom offsets rows «rows_start» values elements «elements_start») (decodedArgumentsFrom first «first_bits» «first_start») (decodedArgumentsFrom second «second_bits» «second_start») (decodedArgumentsFrom third «third_bits» «third_start»)) (listSizes (size offsets) (size values) ++ (valueSizes (size first) ++ (valueSizes (size second) ++ valueSizes (size third)))) n «out_offsets» «out_rows» «out_values» «out_elements» counts ⌝ }
 {
     let named = with_of(op);
     match named {
@@ -127,10 +127,10 @@ pub fn enter(
             let mut v = [0i64; sizes::MOST_VALUES];
             let answer = run(
                 operation,
-                offsets, rows, values, elements,
-                first, first_bits,
-                second, second_bits,
-                third, third_bits,
+                offsets, rows, rows_start, values, elements, elements_start,
+                first, first_bits, first_start,
+                second, second_bits, second_start,
+                third, third_bits, third_start,
                 mo, mv, &mut o, out_rows, &mut v, out_elements,
             );
             answers::put_list(answer, &o, &v, out_offsets, out_values, counts)

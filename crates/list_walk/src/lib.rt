@@ -188,13 +188,11 @@ pub fn run(
     zs: &[i64], zbits: &[u8], zstart: usize,
     out_offsets: &mut [i32], out_rows: &mut [u8], out_values: &mut [i64], out_elements: &mut [u8],
 ) -> ListAnswer
-    requires { ⌜ rstart < 8 ⌝ }
-    requires { ⌜ estart < 8 ⌝ }
-    requires { ⌜ xstart < 8 ⌝ }
-    requires { ⌜ ystart < 8 ⌝ }
-    requires { ⌜ zstart < 8 ⌝ }
     ensures { λ k. ⌜ ListAnswers (listOutcome narrow (callOf op (lentFrom offsets rows rstart values elements estart) (lentArgumentsFrom xs xbits xstart) (lentArgumentsFrom ys ybits ystart) (lentArgumentsFrom zs zbits zstart))) k «out_offsets» «out_rows» «out_values» «out_elements» ⌝ }
 {
+    if taken::is_start_over(op, xstart, ystart, zstart) {
+        return ListAnswer::Refused(13);
+    }
     let k = checks::list_refusal(offsets, rows, rstart, values, elements, estart);
     if k != 0 {
         return ListAnswer::Refused(k);

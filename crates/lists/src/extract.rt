@@ -6,7 +6,8 @@ use model::Optional;
 use model::Unary;
 use model::ValueAnswer;
 use value_places::ValueOp;
-ghost use Rattle.model.specs.Contract.{ListAnswers, ValueAnswers, lent, lentArguments, lentIf};
+ghost use Rattle.model.specs.Contract.{ListAnswers, ValueAnswers, lentIf};
+ghost use Rattle.model.specs.Inner.{lentArgumentsFrom, lentFrom};
 ghost use Rattle.model.specs.Limits.{narrow};
 ghost use Rattle.model.specs.Outcome.{anyValueOutcome, elementOutcome, listOutcome};
 ghost use Rattle.model.specs.Rows.{slice, unary};
@@ -15,14 +16,16 @@ ghost use Rattle.model.specs.Rows.{slice, unary};
 pub fn general_array_any_value(
     offsets: &[i32],
     rows: &[u8],
+    rows_start: usize,
     values: &[i64],
     elements: &[u8],
+    elements_start: usize,
     out_values: &mut [i64],
     out_rows: &mut [u8],
 ) -> ValueAnswer
-    ensures { λ a. ⌜ ValueAnswers (anyValueOutcome (lent offsets rows values elements)) a «out_values» «out_rows» ⌝ }
+    ensures { λ a. ⌜ ValueAnswers (anyValueOutcome (lentFrom offsets rows «rows_start» values elements «elements_start»)) a «out_values» «out_rows» ⌝ }
 {
-    let k = checks::list_refusal(offsets, rows, 0, values, elements, 0);
+    let k = checks::list_refusal(offsets, rows, rows_start, values, elements, elements_start);
     if k != 0 {
         return ValueAnswer::Refused(k);
     }
@@ -30,13 +33,13 @@ pub fn general_array_any_value(
         ValueOp::AnyValue,
         offsets,
         rows,
-        0,
+        rows_start,
         values,
         elements,
-        0,
+        elements_start,
         values,
         elements,
-        0,
+        elements_start,
         out_values,
         out_rows,
     )
@@ -46,25 +49,28 @@ pub fn general_array_any_value(
 pub fn general_array_element(
     offsets: &[i32],
     rows: &[u8],
+    rows_start: usize,
     values: &[i64],
     elements: &[u8],
+    elements_start: usize,
     indexes: &[i64],
     index_bits: &[u8],
+    index_start: usize,
     out_values: &mut [i64],
     out_rows: &mut [u8],
 ) -> ValueAnswer
-    ensures { λ a. ⌜ ValueAnswers (elementOutcome narrow (lent offsets rows values elements) (lentArguments indexes «index_bits»)) a «out_values» «out_rows» ⌝ }
+    ensures { λ a. ⌜ ValueAnswers (elementOutcome narrow (lentFrom offsets rows «rows_start» values elements «elements_start») (lentArgumentsFrom indexes «index_bits» «index_start»)) a «out_values» «out_rows» ⌝ }
 {
     let k = value_places::element_refusal(
         offsets,
         rows,
-        0,
+        rows_start,
         values,
         elements,
-        0,
+        elements_start,
         indexes,
         index_bits,
-        0,
+        index_start,
     );
     if k != 0 {
         return ValueAnswer::Refused(k);
@@ -73,36 +79,36 @@ pub fn general_array_element(
         ValueOp::Element,
         offsets,
         rows,
-        0,
+        rows_start,
         values,
         elements,
-        0,
+        elements_start,
         indexes,
         index_bits,
-        0,
+        index_start,
         out_values,
         out_rows,
     )
 }
 
-// The part of each row between two bounds, by a stride; without a stride, its slices are not looked at.
+// The part of each row between two bounds, by a stride; without a stride, its slices and its starting bit are not looked at.
 #[rattlefmt::skip]
 pub fn general_array_slice(
-    offsets: &[i32], rows: &[u8], values: &[i64], elements: &[u8],
-    from_array: &[i64], from_bits: &[u8],
-    to_array: &[i64], to_bits: &[u8],
-    stride: Optional, stride_array: &[i64], stride_bits: &[u8],
+    offsets: &[i32], rows: &[u8], rows_start: usize, values: &[i64], elements: &[u8], elements_start: usize,
+    from_array: &[i64], from_bits: &[u8], from_start: usize,
+    to_array: &[i64], to_bits: &[u8], to_start: usize,
+    stride: Optional, stride_array: &[i64], stride_bits: &[u8], stride_start: usize,
     out_offsets: &mut [i32], out_rows: &mut [u8], out_values: &mut [i64], out_elements: &mut [u8],
 ) -> ListAnswer
-    ensures { λ a. ⌜ ListAnswers (listOutcome narrow (slice (lent offsets rows values elements) (lentArguments «from_array» «from_bits») (lentArguments «to_array» «to_bits») (lentIf stride (lentArguments «stride_array» «stride_bits»)))) a «out_offsets» «out_rows» «out_values» «out_elements» ⌝ }
+    ensures { λ a. ⌜ ListAnswers (listOutcome narrow (slice (lentFrom offsets rows «rows_start» values elements «elements_start») (lentArgumentsFrom «from_array» «from_bits» «from_start») (lentArgumentsFrom «to_array» «to_bits» «to_start») (lentIf stride (lentArgumentsFrom «stride_array» «stride_bits» «stride_start»)))) a «out_offsets» «out_rows» «out_values» «out_elements» ⌝ }
 {
     let op = optional_ops::slice_by(stride);
     list_walk::run(
         op,
-        offsets, rows, 0, values, elements, 0,
-        from_array, from_bits, 0,
-        to_array, to_bits, 0,
-        stride_array, stride_bits, 0,
+        offsets, rows, rows_start, values, elements, elements_start,
+        from_array, from_bits, from_start,
+        to_array, to_bits, to_start,
+        stride_array, stride_bits, stride_start,
         out_offsets, out_rows, out_values, out_elements,
     )
 }
@@ -111,21 +117,25 @@ pub fn general_array_slice(
 pub fn general_pop_front_list(
     offsets: &[i32],
     rows: &[u8],
+    rows_start: usize,
     values: &[i64],
     elements: &[u8],
+    elements_start: usize,
     out_offsets: &mut [i32],
     out_rows: &mut [u8],
     out_values: &mut [i64],
     out_elements: &mut [u8],
 ) -> ListAnswer
-    ensures { λ a. ⌜ ListAnswers (listOutcome narrow (unary Unary.PopFront (lent offsets rows values elements))) a «out_offsets» «out_rows» «out_values» «out_elements» ⌝ }
+    ensures { λ a. ⌜ ListAnswers (listOutcome narrow (unary Unary.PopFront (lentFrom offsets rows «rows_start» values elements «elements_start»))) a «out_offsets» «out_rows» «out_values» «out_elements» ⌝ }
 {
     plain::run(
         Unary::PopFront,
         offsets,
         rows,
+        rows_start,
         values,
         elements,
+        elements_start,
         out_offsets,
         out_rows,
         out_values,
@@ -137,21 +147,25 @@ pub fn general_pop_front_list(
 pub fn general_pop_back_list(
     offsets: &[i32],
     rows: &[u8],
+    rows_start: usize,
     values: &[i64],
     elements: &[u8],
+    elements_start: usize,
     out_offsets: &mut [i32],
     out_rows: &mut [u8],
     out_values: &mut [i64],
     out_elements: &mut [u8],
 ) -> ListAnswer
-    ensures { λ a. ⌜ ListAnswers (listOutcome narrow (unary Unary.PopBack (lent offsets rows values elements))) a «out_offsets» «out_rows» «out_values» «out_elements» ⌝ }
+    ensures { λ a. ⌜ ListAnswers (listOutcome narrow (unary Unary.PopBack (lentFrom offsets rows «rows_start» values elements «elements_start»))) a «out_offsets» «out_rows» «out_values» «out_elements» ⌝ }
 {
     plain::run(
         Unary::PopBack,
         offsets,
         rows,
+        rows_start,
         values,
         elements,
+        elements_start,
         out_offsets,
         out_rows,
         out_values,

@@ -2,7 +2,8 @@
 use model::ListAnswer;
 use model::Unary;
 use ops::ListOp;
-ghost use Rattle.model.specs.Contract.{ListAnswers, lent};
+ghost use Rattle.model.specs.Contract.{ListAnswers};
+ghost use Rattle.model.specs.Inner.{lentFrom};
 ghost use Rattle.model.specs.Limits.{narrow};
 ghost use Rattle.model.specs.Outcome.{listOutcome};
 ghost use Rattle.model.specs.Rows.{unary};
@@ -11,14 +12,14 @@ ghost use Rattle.model.specs.Rows.{unary};
 #[rattlefmt::skip]
 pub(crate) fn run(
     op: Unary,
-    offsets: &[i32], rows: &[u8], values: &[i64], elements: &[u8],
+    offsets: &[i32], rows: &[u8], rows_start: usize, values: &[i64], elements: &[u8], elements_start: usize,
     out_offsets: &mut [i32], out_rows: &mut [u8], out_values: &mut [i64], out_elements: &mut [u8],
 ) -> ListAnswer
-    ensures { λ a. ⌜ ListAnswers (listOutcome narrow (unary op (lent offsets rows values elements))) a «out_offsets» «out_rows» «out_values» «out_elements» ⌝ }
+    ensures { λ a. ⌜ ListAnswers (listOutcome narrow (unary op (lentFrom offsets rows «rows_start» values elements «elements_start»))) a «out_offsets» «out_rows» «out_values» «out_elements» ⌝ }
 {
     list_walk::run(
         ListOp::Plain(op),
-        offsets, rows, 0, values, elements, 0,
+        offsets, rows, rows_start, values, elements, elements_start,
         values, elements, 0,
         values, elements, 0,
         values, elements, 0,

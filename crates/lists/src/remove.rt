@@ -2,26 +2,27 @@
 // After remove.rs of datafusion-functions-nested 55.2.0, Apache License 2.0, Apache Software Foundation; changed, see NOTICE.
 use model::ListAnswer;
 use ops::ListOp;
-ghost use Rattle.model.specs.Contract.{ListAnswers, lent, lentArguments};
+ghost use Rattle.model.specs.Contract.{ListAnswers};
+ghost use Rattle.model.specs.Inner.{lentArgumentsFrom, lentFrom};
 ghost use Rattle.model.specs.Limits.{narrow};
 ghost use Rattle.model.specs.Outcome.{listOutcome};
 ghost use Rattle.model.specs.Rows.{remove};
 
 #[rattlefmt::skip]
 pub fn general_remove(
-    offsets: &[i32], rows: &[u8], values: &[i64], elements: &[u8],
-    element_array: &[i64], element_bits: &[u8],
-    arr_n: &[i64], n_bits: &[u8],
+    offsets: &[i32], rows: &[u8], rows_start: usize, values: &[i64], elements: &[u8], elements_start: usize,
+    element_array: &[i64], element_bits: &[u8], element_start: usize,
+    arr_n: &[i64], n_bits: &[u8], n_start: usize,
     out_offsets: &mut [i32], out_rows: &mut [u8], out_values: &mut [i64], out_elements: &mut [u8],
 ) -> ListAnswer
-    ensures { λ a. ⌜ ListAnswers (listOutcome narrow (remove (lent offsets rows values elements) (lentArguments «element_array» «element_bits») (lentArguments «arr_n» «n_bits»))) a «out_offsets» «out_rows» «out_values» «out_elements» ⌝ }
+    ensures { λ a. ⌜ ListAnswers (listOutcome narrow (remove (lentFrom offsets rows «rows_start» values elements «elements_start») (lentArgumentsFrom «element_array» «element_bits» «element_start») (lentArgumentsFrom «arr_n» «n_bits» «n_start»))) a «out_offsets» «out_rows» «out_values» «out_elements» ⌝ }
 {
     list_walk::run(
         ListOp::Remove,
-        offsets, rows, 0, values, elements, 0,
-        element_array, element_bits, 0,
-        arr_n, n_bits, 0,
-        arr_n, n_bits, 0,
+        offsets, rows, rows_start, values, elements, elements_start,
+        element_array, element_bits, element_start,
+        arr_n, n_bits, n_start,
+        arr_n, n_bits, n_start,
         out_offsets, out_rows, out_values, out_elements,
     )
 }

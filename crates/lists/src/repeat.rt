@@ -1,23 +1,24 @@
 // List-repeat: each list as many times as its count says.
 // After repeat.rs of datafusion-functions-nested 55.2.0, Apache License 2.0, Apache Software Foundation; changed, see NOTICE.
 use model::RepeatAnswer;
-ghost use Rattle.model.specs.Contract.{RepeatAnswers, lent, lentArguments};
+ghost use Rattle.model.specs.Contract.{RepeatAnswers};
+ghost use Rattle.model.specs.Inner.{lentArgumentsFrom, lentFrom};
 ghost use Rattle.model.specs.Limits.{narrow};
 ghost use Rattle.model.specs.Outcome.{repeatOutcome};
 
 #[rattlefmt::skip]
 pub fn general_list_repeat(
-    offsets: &[i32], rows: &[u8], values: &[i64], elements: &[u8],
-    count_array: &[i64], count_bits: &[u8],
+    offsets: &[i32], rows: &[u8], rows_start: usize, values: &[i64], elements: &[u8], elements_start: usize,
+    count_array: &[i64], count_bits: &[u8], count_start: usize,
     out_offsets: &mut [i32], out_rows: &mut [u8],
     inner_offsets: &mut [i32], inner_rows: &mut [u8],
     out_values: &mut [i64], out_elements: &mut [u8],
 ) -> RepeatAnswer
-    ensures { λ a. ⌜ RepeatAnswers (repeatOutcome narrow (lent offsets rows values elements) (lentArguments «count_array» «count_bits»)) a «out_offsets» «out_rows» «inner_offsets» «inner_rows» «out_values» «out_elements» ⌝ }
+    ensures { λ a. ⌜ RepeatAnswers (repeatOutcome narrow (lentFrom offsets rows «rows_start» values elements «elements_start») (lentArgumentsFrom «count_array» «count_bits» «count_start»)) a «out_offsets» «out_rows» «inner_offsets» «inner_rows» «out_values» «out_elements» ⌝ }
 {
     repeat_walk::run(
-        offsets, rows, 0, values, elements, 0,
-        count_array, count_bits, 0,
+        offsets, rows, rows_start, values, elements, elements_start,
+        count_array, count_bits, count_start,
         out_offsets, out_rows,
         inner_offsets, inner_rows,
         out_values, out_elements,

@@ -2,27 +2,28 @@
 // After replace.rs of datafusion-functions-nested 55.2.0, Apache License 2.0, Apache Software Foundation; changed, see NOTICE.
 use model::ListAnswer;
 use ops::ListOp;
-ghost use Rattle.model.specs.Contract.{ListAnswers, lent, lentArguments};
+ghost use Rattle.model.specs.Contract.{ListAnswers};
+ghost use Rattle.model.specs.Inner.{lentArgumentsFrom, lentFrom};
 ghost use Rattle.model.specs.Limits.{narrow};
 ghost use Rattle.model.specs.Outcome.{listOutcome};
 ghost use Rattle.model.specs.Rows.{replace};
 
 #[rattlefmt::skip]
 pub fn general_replace(
-    offsets: &[i32], rows: &[u8], values: &[i64], elements: &[u8],
-    from_array: &[i64], from_bits: &[u8],
-    to_array: &[i64], to_bits: &[u8],
-    arr_n: &[i64], n_bits: &[u8],
+    offsets: &[i32], rows: &[u8], rows_start: usize, values: &[i64], elements: &[u8], elements_start: usize,
+    from_array: &[i64], from_bits: &[u8], from_start: usize,
+    to_array: &[i64], to_bits: &[u8], to_start: usize,
+    arr_n: &[i64], n_bits: &[u8], n_start: usize,
     out_offsets: &mut [i32], out_rows: &mut [u8], out_values: &mut [i64], out_elements: &mut [u8],
 ) -> ListAnswer
-    ensures { λ a. ⌜ ListAnswers (listOutcome narrow (replace (lent offsets rows values elements) (lentArguments «from_array» «from_bits») (lentArguments «to_array» «to_bits») (lentArguments «arr_n» «n_bits»))) a «out_offsets» «out_rows» «out_values» «out_elements» ⌝ }
+    ensures { λ a. ⌜ ListAnswers (listOutcome narrow (replace (lentFrom offsets rows «rows_start» values elements «elements_start») (lentArgumentsFrom «from_array» «from_bits» «from_start») (lentArgumentsFrom «to_array» «to_bits» «to_start») (lentArgumentsFrom «arr_n» «n_bits» «n_start»))) a «out_offsets» «out_rows» «out_values» «out_elements» ⌝ }
 {
     list_walk::run(
         ListOp::Replace,
-        offsets, rows, 0, values, elements, 0,
-        from_array, from_bits, 0,
-        to_array, to_bits, 0,
-        arr_n, n_bits, 0,
+        offsets, rows, rows_start, values, elements, elements_start,
+        from_array, from_bits, from_start,
+        to_array, to_bits, to_start,
+        arr_n, n_bits, n_start,
         out_offsets, out_rows, out_values, out_elements,
     )
 }

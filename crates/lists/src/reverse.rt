@@ -3,7 +3,8 @@
 use crate::plain;
 use model::ListAnswer;
 use model::Unary;
-ghost use Rattle.model.specs.Contract.{ListAnswers, lent};
+ghost use Rattle.model.specs.Contract.{ListAnswers};
+ghost use Rattle.model.specs.Inner.{lentFrom};
 ghost use Rattle.model.specs.Limits.{narrow};
 ghost use Rattle.model.specs.Outcome.{listOutcome};
 ghost use Rattle.model.specs.Rows.{unary};
@@ -11,21 +12,25 @@ ghost use Rattle.model.specs.Rows.{unary};
 pub fn general_array_reverse(
     offsets: &[i32],
     rows: &[u8],
+    rows_start: usize,
     values: &[i64],
     elements: &[u8],
+    elements_start: usize,
     out_offsets: &mut [i32],
     out_rows: &mut [u8],
     out_values: &mut [i64],
     out_elements: &mut [u8],
 ) -> ListAnswer
-    ensures { λ a. ⌜ ListAnswers (listOutcome narrow (unary Unary.Reverse (lent offsets rows values elements))) a «out_offsets» «out_rows» «out_values» «out_elements» ⌝ }
+    ensures { λ a. ⌜ ListAnswers (listOutcome narrow (unary Unary.Reverse (lentFrom offsets rows «rows_start» values elements «elements_start»))) a «out_offsets» «out_rows» «out_values» «out_elements» ⌝ }
 {
     plain::run(
         Unary::Reverse,
         offsets,
         rows,
+        rows_start,
         values,
         elements,
+        elements_start,
         out_offsets,
         out_rows,
         out_values,

@@ -4,7 +4,8 @@ use crate::plain;
 use model::ListAnswer;
 use model::SetOp;
 use model::Unary;
-ghost use Rattle.model.specs.Contract.{ListAnswers, lent};
+ghost use Rattle.model.specs.Contract.{ListAnswers};
+ghost use Rattle.model.specs.Inner.{lentFrom};
 ghost use Rattle.model.specs.Limits.{narrow};
 ghost use Rattle.model.specs.Outcome.{listOutcome};
 ghost use Rattle.model.specs.Rows.{setOp, unary};
@@ -12,21 +13,25 @@ ghost use Rattle.model.specs.Rows.{setOp, unary};
 pub fn general_array_distinct(
     offsets: &[i32],
     rows: &[u8],
+    rows_start: usize,
     values: &[i64],
     elements: &[u8],
+    elements_start: usize,
     out_offsets: &mut [i32],
     out_rows: &mut [u8],
     out_values: &mut [i64],
     out_elements: &mut [u8],
 ) -> ListAnswer
-    ensures { λ a. ⌜ ListAnswers (listOutcome narrow (unary Unary.Distinct (lent offsets rows values elements))) a «out_offsets» «out_rows» «out_values» «out_elements» ⌝ }
+    ensures { λ a. ⌜ ListAnswers (listOutcome narrow (unary Unary.Distinct (lentFrom offsets rows «rows_start» values elements «elements_start»))) a «out_offsets» «out_rows» «out_values» «out_elements» ⌝ }
 {
     plain::run(
         Unary::Distinct,
         offsets,
         rows,
+        rows_start,
         values,
         elements,
+        elements_start,
         out_offsets,
         out_rows,
         out_values,
@@ -37,17 +42,17 @@ pub fn general_array_distinct(
 // Union or intersect, row by row.
 #[rattlefmt::skip]
 pub fn generic_set_lists<'a>(
-    l_offsets: &[i32], l_rows: &[u8], l_values: &'a [i64], l_elements: &[u8],
-    r_offsets: &[i32], r_rows: &[u8], r_values: &'a [i64], r_elements: &[u8],
+    l_offsets: &[i32], l_rows: &[u8], l_rows_start: usize, l_values: &'a [i64], l_elements: &[u8], l_elements_start: usize,
+    r_offsets: &[i32], r_rows: &[u8], r_rows_start: usize, r_values: &'a [i64], r_elements: &[u8], r_elements_start: usize,
     set_op: SetOp,
     out_offsets: &mut [i32], out_rows: &mut [u8], out_values: &mut [i64], out_elements: &mut [u8],
 ) -> ListAnswer
-    ensures { λ a. ⌜ ListAnswers (listOutcome narrow (setOp «set_op» (lent «l_offsets» «l_rows» «l_values» «l_elements») (lent «r_offsets» «r_rows» «r_values» «r_elements»))) a «out_offsets» «out_rows» «out_values» «out_elements» ⌝ }
+    ensures { λ a. ⌜ ListAnswers (listOutcome narrow (setOp «set_op» (lentFrom «l_offsets» «l_rows» «l_rows_start» «l_values» «l_elements» «l_elements_start») (lentFrom «r_offsets» «r_rows» «r_rows_start» «r_values» «r_elements» «r_elements_start»))) a «out_offsets» «out_rows» «out_values» «out_elements» ⌝ }
 {
     set_walk::run(
         set_op,
-        l_offsets, l_rows, 0, l_values, l_elements, 0,
-        r_offsets, r_rows, 0, r_values, r_elements, 0,
+        l_offsets, l_rows, l_rows_start, l_values, l_elements, l_elements_start,
+        r_offsets, r_rows, r_rows_start, r_values, r_elements, r_elements_start,
         out_offsets, out_rows, out_values, out_elements,
     )
 }

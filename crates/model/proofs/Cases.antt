@@ -7,7 +7,7 @@ use lib.IntN.{ℤ, pos, negsuc}
 use Rattle.model.specs.Basics.{tab, any, absent, given}
 use Rattle.model.specs.Limits.{narrow}
 use Rattle.model.specs.Bitmap.{from, validAt, shortBits, byteOf, packN, pack, nulls}
-use Rattle.model.specs.Column.{Column, column, Arguments, arguments, count, elemAt, rowAt, rowsOf, shownBy, falls, badOffsets, refusal2, refusal2ᵃ}
+use Rattle.model.specs.Column.{Column, column, Arguments, arguments, count, elemAt, rowAt, rowsOf, shownBy, falls, badOffsets, refusal13, refusal13ᵃ, refusal2, refusal2ᵃ}
 use Rattle.model.specs.Form.{Room, ValueRoom, RepeatRoom, isVal, valueOf, isRow, elemsOf, flat, offsetsFrom, isOuter, innerOf, inner}
 use Rattle.model.specs.Elements.{eqZ, sameElem, isIn, firsts, unaryElems, common, setElems, resized, replaced, removed, elementAt}
 use Rattle.model.specs.Slice.{fits, fromPlace, inRow, fromBound, toPlace, toBound, stepCount, against, isZero, strided, between, slicePlan, stepFrom, sliced}
@@ -143,7 +143,7 @@ table =
 pub cases : map (λ (c : Case). end narrow (c .call)) table ≡ map (λ (c : Case). c .ends) table
 unfolding table
     end answerOf written listNumbers listBitmaps listEnd valueEnd repeatEnd listOutcome elementOutcome repeatOutcome gate columnsRefusal fitted fittedValues fittedRepeat afterThree listShown elementsMade elementsRefusal elementShown repeatsMade repeatShown
-    tab any validAt shortBits byteOf packN pack nulls count elemAt rowAt rowsOf shownBy falls badOffsets refusal2 refusal2ᵃ
+    tab any validAt shortBits byteOf packN pack nulls count elemAt rowAt rowsOf shownBy falls badOffsets refusal13 refusal13ᵃ refusal2 refusal2ᵃ
     isVal valueOf isRow elemsOf flat offsetsFrom isOuter innerOf inner
     eqZ sameElem isIn firsts unaryElems common setElems resized replaced removed elementAt
     fits fromPlace inRow fromBound toPlace toBound stepCount against isZero strided between slicePlan stepFrom sliced

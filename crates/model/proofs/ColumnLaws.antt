@@ -1,7 +1,7 @@
 -- What a column shows, by its rows and places.
 -- "Two columns show equal rows when they have equally many rows, the same rows are null, and every other row has one length in
 -- both and at each place a null in both or the same value": then the rows that they show are one list. So for equal arguments.
-use Prim.Native.Nat.{ℕ, _<_}
+use Prim.Native.Nat.{ℕ, _+_, _-_, _<_}
 use mathlib.Core.Path.{_≡_, refl, ap, _∙_}
 use mathlib.Core.Bool.{Bool, true, false}
 use mathlib.Core.List.{List, [], _∷_}
@@ -10,8 +10,8 @@ use native.Mathlib.Omega.{arith}
 use lib.ListN.{length}
 use lib.IntN.{ℤ}
 use Rattle.model.specs.Basics.{pick, tab}
-use Rattle.model.specs.Bitmap.{validAt}
-use Rattle.model.specs.Column.{Elem, nul, val, Row, nullRow, listRow, Column, Arguments, rowCount, lengthAt, elemAt, rowAt, rowsOf, shownBy, badOffsets, refusal1, EqualRows, EqualArguments}
+use Rattle.model.specs.Bitmap.{Bits, validAt}
+use Rattle.model.specs.Column.{Elem, nul, val, Row, nullRow, listRow, Column, column, Arguments, arguments, rowCount, offsetAt, lengthAt, elemAt, rowAt, rowsOf, shownBy, badOffsets, refusal1, EqualRows, EqualArguments}
 use Rattle.model.specs.Rows.{rowOf, argumentOf}
 use Rattle.model.proofs.TabLaws.{tab-ext, length-tab, getD-tab}
 
@@ -63,6 +63,18 @@ no-units-good c h = none (c .offsets) h
     none : (o : List ℤ) → length o ≡ 0 → badOffsets o (length (c .values)) ≡ false
     none [] e = refl
     none (x ∷ o) e = let z : ⊥ = omega arith in absurd z
+
+-- ---- other starting bits
+
+-- "Columns with equal rows but other starting bits answer alike in two runs.": columns whose bitmaps differ, in starting bits and in bytes,
+-- show equal rows where each row, and each place of a valid row, is null in both or in neither
+pub other-bits : (o v : List ℤ) (rb rb′ eb eb′ : Bits) → ((r : ℕ) → r < rowCount o → validAt rb r ≡ validAt rb′ r)
+    → ((r i : ℕ) → r < rowCount o → validAt rb r ≡ true → i < offsetAt o (r + 1) - offsetAt o r → validAt eb (offsetAt o r + i) ≡ validAt eb′ (offsetAt o r + i)) → EqualRows (column o rb v eb) (column o rb′ v eb′)
+unfolding elemAt
+other-bits o v rb rb′ eb eb′ h g = record { many = refl; nulls = h; lengths = λ r l w. refl; places = λ r i l w k. rw (g r i l w k) }
+
+pub other-bitsᵃ : (v : List ℤ) (b b′ : Bits) → ((i : ℕ) → i < length v → validAt b i ≡ validAt b′ i) → EqualArguments (arguments v b) (arguments v b′)
+other-bitsᵃ v b b′ h = record { many = refl; nulls = h; values = λ i l w. refl }
 
 -- ---- what is shown at a place
 

@@ -9,7 +9,7 @@ use lib.Dec.{ltb, eqb}
 abbrev pub bitAt : List ℕ → ℕ → Bool
 bitAt bytes i = eqb (getD bytes (i / 8) 0 / 2 ^ (i % 8) % 2) 1
 
--- a column's bitmap: its bytes, and its first bit (0 for every column of document 01)
+-- a column's bitmap: its bytes, and the bit of them that it starts at
 pub record Bits : Type 0 where
   pub start : ℕ
   pub bytes : List ℕ

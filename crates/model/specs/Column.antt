@@ -6,6 +6,7 @@ use mathlib.Core.List.{List, [], _∷_}
 use lib.ListN.{length, getD}
 use lib.IntN.{ℤ, pos, negsuc}
 use lib.Signed.{ltZ}
+use lib.Dec.{ltb}
 use Rattle.model.specs.Basics.{pick, tab}
 use Rattle.model.specs.Bitmap.{Bits, validAt, shortBits}
 
@@ -89,21 +90,36 @@ badOffsets (o ∷ os) n = ltZ o (pos 0) || falls o os n
 abbrev pub refusal1 : Column → Bool
 refusal1 c = badOffsets (c .offsets) (length (c .values))
 
--- "2 (a non-empty bitmap too short for its rows, or for all the values lent)"
+-- Document 02, Note 8: "Each list, ListView and argument column now carries a starting bit, 0 to 7, for each of its bitmaps. .. 13, a
+-- starting bit over 7": the bit alone decides, also beside a bitmap of length 0
+abbrev pub overSeven : Bits → Bool
+overSeven b = ltb 7 (b .start)
+
+unfoldable pub refusal13 : Column → Bool
+refusal13 c = overSeven (c .rows) || overSeven (c .elements)
+
+unfoldable pub refusal13ᵃ : Arguments → Bool
+refusal13ᵃ a = overSeven (a .bits)
+
+-- "2 (a non-empty bitmap too short for its rows, or for all the values lent)"; "Coverage in 2 counts from there", the starting bit
 unfoldable pub refusal2 : Column → Bool
 refusal2 c = shortBits (c .rows) (rowCount (c .offsets)) || shortBits (c .elements) (length (c .values))
 
 unfoldable pub refusal2ᵃ : Arguments → Bool
 refusal2ᵃ a = shortBits (a .bits) (length (a .values))
 
--- "A list or argument column is well-formed when neither 1 nor 2 below applies to it."
+-- "A list or argument column is well-formed when neither 1 nor 2 below applies to it.", and "a column with one", a starting bit over 7,
+-- "is not well-formed"
 pub record WellFormed (c : Column) : Type 0 where
+  pub not13 : refusal13 c ≡ false
   pub not1 : refusal1 c ≡ false
   pub not2 : refusal2 c ≡ false
 
 pub record WellFormedᵃ (a : Arguments) : Type 0 where
+  pub not13 : refusal13ᵃ a ≡ false
   pub not2 : refusal2ᵃ a ≡ false
 
+-- "Columns with equal rows but other starting bits answer alike in two runs.": neither of the two below speaks of starting bits
 -- "Two columns show equal rows when they have equally many rows, the same rows are null, and every other row has one length in
 -- both and at each place a null in both or the same value."
 pub record EqualRows (c d : Column) : Type 0 where

@@ -1,4 +1,4 @@
--- How a contract names a call: the column that slices hold as the call begins, and the outputs at entry and at exit.
+-- How a contract names a call: the outputs at entry and at exit. The columns that slices hold as the call begins are in Inner.
 use Prim.Native.Nat.{ℕ}
 use mathlib.Core.Path.{_≡_}
 use mathlib.Core.List.{List, [], _∷_, map}
@@ -6,8 +6,8 @@ use lib.ListN.{length, replicate}
 use lib.IntN.{ℤ, pos}
 use denote.Ref.{RefT, now}
 use denote.Triple.Both.{Both}
-use Rattle.model.specs.Bitmap.{from, pack}
-use Rattle.model.specs.Column.{Elem, Row, Column, column, Arguments, arguments}
+use Rattle.model.specs.Bitmap.{pack}
+use Rattle.model.specs.Column.{Elem, Row, Arguments}
 use Rattle.model.specs.Form.{Room, ValueRoom, RepeatRoom, Outer, isOuter, outerLength, inner, flat, over, offsetsFrom, formOffsets, formRows, formValues, formElements}
 use Rattle.model.specs.Outcome.{Outcome}
 use Rattle.model.specs.Call.{Answer, refusal, counts, answerOf, written, listCounts, valueCounts, repeatCounts}
@@ -41,13 +41,6 @@ toldRepeat (R.Refused k) = refusal k
 -- an output slice after the call: "Slots past the result keep their content.", and a refused call writes none
 abbrev pub after : {A B : Type 0} → (A → List B) → Outcome A → List B → List B
 after f x d = over (written f x) d
-
--- the column that four slices hold as the call begins
-abbrev pub lent : Slice ℤ → Slice ℕ → Slice ℤ → Slice ℕ → Column
-lent o r v e = column (now (o .entry)) (from 0 (now (r .entry))) (now (v .entry)) (from 0 (now (e .entry)))
-
-abbrev pub lentArguments : Slice ℤ → Slice ℕ → Arguments
-lentArguments v b = arguments (now (v .entry)) (from 0 (now (b .entry)))
 
 -- an argument column that may be absent
 unfoldable pub lentIf : Optional → Arguments → Lent Arguments

@@ -1,4 +1,4 @@
--- How an inner function's contract names the columns in its slices, with the bits that their bitmaps begin at. A `requires` names a
+-- How a contract names the columns in its slices, with the bits that their bitmaps begin at. A `requires` names a
 -- slice as it is then, `now`; an `ensures` as the call began, `lent`.
 use Prim.Native.Nat.{ℕ}
 use mathlib.Core.List.{List}

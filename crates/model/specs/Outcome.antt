@@ -6,7 +6,7 @@ use lib.ListN.{length}
 use lib.Dec.{eqb}
 use Rattle.model.specs.Basics.{pick, tab, any}
 use Rattle.model.specs.Limits.{Limits}
-use Rattle.model.specs.Column.{Elem, Row, Column, Arguments, rowsOf, shownBy, refusal1, refusal2, refusal2ᵃ}
+use Rattle.model.specs.Column.{Elem, Row, Column, Arguments, rowsOf, shownBy, refusal13, refusal13ᵃ, refusal1, refusal2, refusal2ᵃ}
 use Rattle.model.specs.Form.{Room, ValueRoom, RepeatRoom, Outer, flat, fitsIn, fitsValues, fitsRepeat}
 use Rattle.model.specs.Rows.{ListCall, onCall, listsIn, argumentsIn, rowsMade, rowOf, argumentOf, anyValueOf, elementOf, repeatOf}
 use Rattle.model.specs.Refusals.{differs, unequal, firstOf, rowsRefusal, elementRefusal, repeatRefusal}
@@ -20,9 +20,9 @@ pub data Outcome (A : Type 0) : Type 0 where
 unfoldable pub gate : {A : Type 0} → ℕ → Outcome A → Outcome A
 gate k o = pick (eqb k 0) o (refused k)
 
--- "Every operation first gives 1 .., list by list; then 2"
+-- "Every operation first gives 1 .., list by list; then 2"; Note 8: "13, a starting bit over 7, .. before 1": of any column, before 1 of any
 unfoldable pub columnsRefusal : List Column → List Arguments → ℕ
-columnsRefusal cs es = pick (any refusal1 cs) 1 (pick (any refusal2 cs || any refusal2ᵃ es) 2 0)
+columnsRefusal cs es = pick (any refusal13 cs || any refusal13ᵃ es) 13 (pick (any refusal1 cs) 1 (pick (any refusal2 cs || any refusal2ᵃ es) 2 0))
 
 -- "Last is 9"
 unfoldable pub fitted : List Row → Room → Outcome (List Row)
@@ -65,7 +65,7 @@ repeatsMade ws ns = tab (λ r. repeatOf (rowOf ws r) (argumentOf ns r)) 0 (lengt
 unfoldable pub repeatShown : Limits → List Row → List Elem → RepeatRoom → Outcome (List Outer)
 repeatShown L ws ns l = gate (pick (differs (length ws) ns) 3 0) (gate (repeatRefusal L ws ns) (fittedRepeat (repeatsMade ws ns) l))
 
--- the operations on the columns lent: 1 and 2, and then what is shown decides
+-- the operations on the columns lent: 13, 1 and 2, and then what is shown decides
 unfoldable pub listOutcome : Limits → ListCall Column Arguments → Room → Outcome (List Row)
 listOutcome L q l = gate (columnsRefusal (listsIn q) (argumentsIn q)) (listShown L (onCall rowsOf shownBy q) l)
 

@@ -109,7 +109,7 @@ formedRecipe L p ws rs es a b o = gate (pick (recipeUnequal (p .columns) ws rs e
 unfoldable pub recipeShown : Limits → Recipe → List Row → List Row → List Elem → Room → Room → Room → Outcome (List Row)
 recipeShown L p ws rs es a b o = gate (pick (malformed p) 10 0) (formedRecipe L p ws rs es a b o)
 
--- "10 before all else, for a malformed recipe; then 1, 2, 3"
+-- "10 before all else, for a malformed recipe; then 1, 2, 3"; 13 "after 10 and before 1"
 unfoldable pub recipeOutcome : Limits → Recipe → Column → Column → Arguments → Room → Room → Room → Outcome (List Row)
 recipeOutcome L p c d e a b o =
     gate (pick (malformed p) 10 0) (gate (columnsRefusal (c ∷ d ∷ []) (e ∷ [])) (formedRecipe L p (rowsOf c) (rowsOf d) (shownBy e) a b o))

@@ -12,12 +12,12 @@ use Rattle.model.specs.Outcome.{Outcome}
 use Rattle.model.specs.Recipe.{recipeOutcome, stationed}
 use Rattle.recipes.specs.Recipes.{recipe}
 use Rattle.wire.specs.Bytes.{nats}
-use Rattle.entry.specs.Entry.{decoded, decodedArguments, size}
+use Rattle.entry.specs.Entry.{decodedFrom, decodedArgumentsFrom, size}
 
 -- what a recipe comes to for the lengths of tray one, tray two and the output, of slices of bytes as the call begins (as `recipeLent`)
-abbrev pub recipeIn : ℕ → ℕ → Slice ℕ → Slice ℕ → Slice ℕ → Slice ℕ → Slice ℕ → Slice ℕ → Slice ℕ → Slice ℕ → Slice ℕ → Slice ℕ → Slice ℕ → Room → Room → Room → Outcome (List Row)
-recipeIn station columns ns o r v e so sr sv se a b l m n =
-    stationed station (recipeOutcome narrow (recipe (nats 4 (now (ns .entry))) columns) (decoded o r v e) (decoded so sr sv se) (decodedArguments a b) l m n)
+abbrev pub recipeIn : ℕ → ℕ → Slice ℕ → Slice ℕ → Slice ℕ → ℕ → Slice ℕ → Slice ℕ → ℕ → Slice ℕ → Slice ℕ → ℕ → Slice ℕ → Slice ℕ → ℕ → Slice ℕ → Slice ℕ → ℕ → Room → Room → Room → Outcome (List Row)
+recipeIn station columns ns o r i v e j so sr si sv se sj a b k l m n =
+    stationed station (recipeOutcome narrow (recipe (nats 4 (now (ns .entry))) columns) (decodedFrom o r i v e j) (decodedFrom so sr si sv se sj) (decodedArgumentsFrom a b k) l m n)
 
 -- the lengths of a tray of o offsets and v values, whose bitmaps are r and e
 abbrev pub trayRoom : ℕ → Slice ℕ → ℕ → Slice ℕ → Room

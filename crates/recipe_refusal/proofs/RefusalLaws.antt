@@ -8,7 +8,7 @@ use borrow.Author.Tests.{eq-eqb, ne-eqb, eqb-true, eqb-false, ltb-false}
 use lib.Dec.{eqb, ltb}
 use lib.ListN.{length}
 use Rattle.model.specs.Basics.{pick, any}
-use Rattle.model.specs.Column.{Column, Arguments, rowsOf, shownBy, rowCount, refusal1, refusal2, refusal2ᵃ}
+use Rattle.model.specs.Column.{Column, Arguments, rowsOf, shownBy, rowCount, refusal13, refusal13ᵃ, refusal1, refusal2, refusal2ᵃ}
 use Rattle.model.specs.Form.{Room}
 use Rattle.model.specs.Limits.{narrow}
 use Rattle.model.specs.Outcome.{Outcome, refused, gate, columnsRefusal}
@@ -16,9 +16,10 @@ use Rattle.model.specs.Recipe.{Recipe, malformed, stepsOf, wrongStep, stepped, 
 use Rattle.model.specs.Refusals.{orElse}
 use Rattle.model.proofs.BoolLaws.{never-true, or-none, same-number}
 use Rattle.model.proofs.ColumnLaws.{length-rows, length-shown}
+use Rattle.model.proofs.OutcomeLaws.{thirteen-of-arguments, lists-next, arguments-next}
 use Rattle.recipe_refusal.specs.Refused.{recipe, recipeRefusal}
 
--- ---- 10, 1, 2 and 3
+-- ---- 10, 13, 1, 2 and 3
 
 before : {A : Type 0} (k j : ℕ) (o : Outcome A) → gate k (gate j o) ≡ gate (orElse k j) o
 unfolding gate
@@ -44,24 +45,9 @@ outcome-is p c d e a b o = cases (malformed p)
     cases true = ten _ _
     cases false = none _ ∙ before (columnsRefusal (c ∷ d ∷ []) (e ∷ [])) (pick (recipeUnequal (p .columns) (rowsOf c) (rowsOf d) (shownBy e)) 3 0) _
 
--- 1 and 2 of the lists, and 2 of the arguments after them
-abbrev lists : Bool → Bool → Bool → ℕ
-lists p q s = pick p 1 (pick (q || s) 2 0)
-
-lists-refuse : (p q s : Bool) (j k : ℕ) → k ≡ lists p q false → (k ≡ 0 → ⊥) → k ≡ orElse (lists p q (s || false)) j
-lists-refuse true q s j k e h = e
-lists-refuse false true s j k e h = e
-lists-refuse false false s j k e h = absurd (h e)
-
-short-refuses : (p q : Bool) (j : ℕ) → lists p q false ≡ 0 → _≡_ {A = ℕ} 2 (orElse (lists p q (true || false)) j)
-short-refuses true q j e = let z : ⊥ = omega arith in absurd z
-short-refuses false true j e = let z : ⊥ = omega arith in absurd z
-short-refuses false false j e = refl
-
-lists-pass : (p q : Bool) (j : ℕ) → lists p q false ≡ 0 → orElse (lists p q (false || false)) j ≡ j
-lists-pass true q j e = let z : ⊥ = omega arith in absurd z
-lists-pass false true j e = let z : ⊥ = omega arith in absurd z
-lists-pass false false j e = refl
+-- a number before another
+or-this : (k j : ℕ) → (k ≡ 0 → ⊥) → orElse k j ≡ k
+or-this k j h = rw (ne-eqb k 0 h)
 
 module _ (ns : List ℕ) (k : ℕ) (c d : Column) (e : Arguments) where
   abbrev unequal : Bool
@@ -72,27 +58,39 @@ module _ (ns : List ℕ) (k : ℕ) (c d : Column) (e : Arguments) where
   refused-ten h = rw h
 
   module _ (h : malformed (recipe ns k) ≡ false) where
-    pub refused-lists : (j : ℕ) → j ≡ columnsRefusal (c ∷ d ∷ []) [] → (j ≡ 0 → ⊥) → j ≡ recipeRefusal (recipe ns k) c d e
-    unfolding recipeRefusal columnsRefusal any
-    refused-lists j q z = rw h (lists-refuse (refusal1 c || (refusal1 d || false)) (refusal2 c || (refusal2 d || false)) (refusal2ᵃ e) (pick unequal 3 0) j q z)
+    pub refused-starts : ltb 7 (e .bits .start) ≡ true → 13 ≡ recipeRefusal (recipe ns k) c d e
+    unfolding recipeRefusal any refusal13ᵃ
+    refused-starts t = rw (h, thirteen-of-arguments (c ∷ d ∷ []) (e ∷ []) (rw t))
 
-    module _ (z : columnsRefusal (c ∷ d ∷ []) [] ≡ 0) where
-      pub refused-short : refusal2ᵃ e ≡ true → 2 ≡ recipeRefusal (recipe ns k) c d e
-      unfolding recipeRefusal columnsRefusal any
-      refused-short s = rw (h, s) (short-refuses (refusal1 c || (refusal1 d || false)) (refusal2 c || (refusal2 d || false)) (pick unequal 3 0) z)
+    module _ (t : ltb 7 (e .bits .start) ≡ false) where
+      not-over : any refusal13ᵃ (e ∷ []) ≡ false
+      unfolding any refusal13ᵃ
+      not-over = rw t
 
-      then-three : refusal2ᵃ e ≡ false → recipeRefusal (recipe ns k) c d e ≡ pick unequal 3 0
-      unfolding recipeRefusal columnsRefusal any
-      then-three s = rw (h, s) (lists-pass (refusal1 c || (refusal1 d || false)) (refusal2 c || (refusal2 d || false)) (pick unequal 3 0) z)
+      pub refused-lists : (j : ℕ) → j ≡ columnsRefusal (c ∷ d ∷ []) [] → (j ≡ 0 → ⊥) → j ≡ recipeRefusal (recipe ns k) c d e
+      unfolding recipeRefusal
+      refused-lists j q z = rw (h, lists-next (c ∷ d ∷ []) (e ∷ []) not-over j q z) (sym (or-this j (pick unequal 3 0) z))
 
-      module _ (s : refusal2ᵃ e ≡ false) where
-        pub refused-rows : (rowCount (c .offsets) ≡ rowCount (d .offsets) → ⊥) → 3 ≡ recipeRefusal (recipe ns k) c d e
-        unfolding recipeUnequal
-        refused-rows n = sym (then-three s ∙ rw (length-rows c, length-rows d, ne-eqb (rowCount (c .offsets)) (rowCount (d .offsets)) n))
+      module _ (z : columnsRefusal (c ∷ d ∷ []) [] ≡ 0) where
+        number-is : columnsRefusal (c ∷ d ∷ []) (e ∷ []) ≡ pick (any refusal2ᵃ (e ∷ [])) 2 0
+        number-is = arguments-next (c ∷ d ∷ []) (e ∷ []) not-over (columnsRefusal (c ∷ d ∷ []) []) refl z
 
-        pub refused-length : rowCount (c .offsets) ≡ rowCount (d .offsets) → (b : Bool) → b ≡ not (eqb (length (e .values)) (k * rowCount (c .offsets))) → recipeRefusal (recipe ns k) c d e ≡ pick b 3 0
-        unfolding recipeUnequal
-        refused-length n b q = then-three s ∙ rw (length-rows c, length-rows d, length-shown e, eq-eqb (rowCount (c .offsets)) (rowCount (d .offsets)) n, ← q)
+        pub refused-short : refusal2ᵃ e ≡ true → 2 ≡ recipeRefusal (recipe ns k) c d e
+        unfolding recipeRefusal any
+        refused-short s = rw (h, number-is, s)
+
+        then-three : refusal2ᵃ e ≡ false → recipeRefusal (recipe ns k) c d e ≡ pick unequal 3 0
+        unfolding recipeRefusal any
+        then-three s = rw (h, number-is, s)
+
+        module _ (s : refusal2ᵃ e ≡ false) where
+          pub refused-rows : (rowCount (c .offsets) ≡ rowCount (d .offsets) → ⊥) → 3 ≡ recipeRefusal (recipe ns k) c d e
+          unfolding recipeUnequal
+          refused-rows n = sym (then-three s ∙ rw (length-rows c, length-rows d, ne-eqb (rowCount (c .offsets)) (rowCount (d .offsets)) n))
+
+          pub refused-length : rowCount (c .offsets) ≡ rowCount (d .offsets) → (b : Bool) → b ≡ not (eqb (length (e .values)) (k * rowCount (c .offsets))) → recipeRefusal (recipe ns k) c d e ≡ pick b 3 0
+          unfolding recipeUnequal
+          refused-length n b q = then-three s ∙ rw (length-rows c, length-rows d, length-shown e, eq-eqb (rowCount (c .offsets)) (rowCount (d .offsets)) n, ← q)
 
 -- a recipe that is not malformed has no more than eight columns
 third-none : (a b c d : Bool) → ((a || b) || c) || d ≡ false → c ≡ false
@@ -110,6 +108,7 @@ few-lent ns k h = ltb-false 8 k (third-none (not (eqb (length ns % 4) 0)) (ltb 3
 pub record Passed (ns : List ℕ) (k : ℕ) (c d : Column) (e : Arguments) : Type 0 where
   pub formed : malformed (recipe ns k) ≡ false
   pub lists : columnsRefusal (c ∷ d ∷ []) [] ≡ 0
+  pub small : e .bits .start < 8
   pub long : refusal2ᵃ e ≡ false
   pub equal : rowCount (d .offsets) ≡ rowCount (c .offsets)
   pub many : length (e .values) ≡ k * rowCount (c .offsets)
@@ -125,17 +124,19 @@ or-else-none k j h = cases (eqb k 0) refl h
     cases true e p = (eqb-true k 0 e, p)
     cases false e p = absurd (eqb-false k 0 e p)
 
--- 2 of the lists and of the arguments
-lists-none : (p q t : Bool) → _≡_ {A = ℕ} (pick p 1 (pick (q || (t || false)) 2 0)) 0 → (_≡_ {A = ℕ} (pick p 1 (pick (q || false) 2 0)) 0) × (t ≡ false)
-lists-none true q t h = let z : ⊥ = omega arith in absurd z
-lists-none false true t h = let z : ⊥ = omega arith in absurd z
-lists-none false false true h = let z : ⊥ = omega arith in absurd z
-lists-none false false false h = (refl, refl)
+-- 13 and 2 of the lists and of the arguments
+lists-none : (w v p q t : Bool) → _≡_ {A = ℕ} (pick (w || (v || false)) 13 (pick p 1 (pick (q || (t || false)) 2 0))) 0 → (_≡_ {A = ℕ} (pick (w || false) 13 (pick p 1 (pick (q || false) 2 0))) 0) × (v ≡ false) × (t ≡ false)
+lists-none true v p q t h = let z : ⊥ = omega arith in absurd z
+lists-none false true p q t h = let z : ⊥ = omega arith in absurd z
+lists-none false false true q t h = let z : ⊥ = omega arith in absurd z
+lists-none false false false true t h = let z : ⊥ = omega arith in absurd z
+lists-none false false false false true h = let z : ⊥ = omega arith in absurd z
+lists-none false false false false false h = (refl, refl, refl)
 
 module _ (ns : List ℕ) (k : ℕ) (c d : Column) (e : Arguments) where
-  both-none : columnsRefusal (c ∷ d ∷ []) (e ∷ []) ≡ 0 → (columnsRefusal (c ∷ d ∷ []) [] ≡ 0) × (refusal2ᵃ e ≡ false)
-  unfolding columnsRefusal any
-  both-none h = lists-none (refusal1 c || (refusal1 d || false)) (refusal2 c || (refusal2 d || false)) (refusal2ᵃ e) h
+  both-none : columnsRefusal (c ∷ d ∷ []) (e ∷ []) ≡ 0 → (columnsRefusal (c ∷ d ∷ []) [] ≡ 0) × (ltb 7 (e .bits .start) ≡ false) × (refusal2ᵃ e ≡ false)
+  unfolding columnsRefusal any refusal13ᵃ
+  both-none h = lists-none (any refusal13 (c ∷ d ∷ [])) (ltb 7 (e .bits .start)) (any refusal1 (c ∷ d ∷ [])) (any refusal2 (c ∷ d ∷ [])) (refusal2ᵃ e) h
 
   equal-none : recipeUnequal k (rowsOf c) (rowsOf d) (shownBy e) ≡ false → (rowCount (c .offsets) ≡ rowCount (d .offsets)) × (length (e .values) ≡ k * rowCount (c .offsets))
   unfolding recipeUnequal
@@ -152,4 +153,4 @@ module _ (ns : List ℕ) (k : ℕ) (c d : Column) (e : Arguments) where
       let u = pick-none (recipeUnequal k (rowsOf c) (rowsOf d) (shownBy e)) 3 0 (omega arith) (b .1) in
       let l = both-none (b .0) in
       let q = equal-none (u .0) in
-      record { formed = a .0; lists = l .0; long = l .1; equal = sym (q .0); many = q .1 }
+      record { formed = a .0; lists = l .0; small = omega (arith, ltb-false 7 (e .bits .start) (l .1)); long = l .2; equal = sym (q .0); many = q .1 }

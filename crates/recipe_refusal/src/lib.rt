@@ -1,7 +1,7 @@
 // What refuses a recipe before its steps. An inner crate: its callers meet what it asks.
 use codes::check;
 use column::offsets;
-ghost use Prim.Native.Nat.{_*_, _<_, _≤_};
+ghost use Prim.Native.Nat.{_*_, _≤_};
 ghost use Rattle.model.specs.Column.{rowCount};
 ghost use Rattle.model.specs.Inner.{lentArgumentsFrom, lentFrom};
 ghost use Rattle.recipe_refusal.specs.Refused.{recipe, recipeRefusal};
@@ -19,7 +19,7 @@ fn is_wrong_length(offsets: &[i32], args: &[i64], columns: usize) -> bool
     args.len() != columns * n
 }
 
-// 10 of the recipe, else 1, 2 or 3 of the columns, else 0.
+// 10 of the recipe, else 13, 1, 2 or 3 of the columns, else 0. The arguments' starting bit is tested even where there are no columns.
 #[rattlefmt::skip]
 pub fn refusal<'a>(
     numbers: &[u32], columns: usize,
@@ -27,15 +27,13 @@ pub fn refusal<'a>(
     roffsets: &[i32], rrows: &[u8], r_rstart: usize, rvalues: &'a [i64], relements: &[u8], r_estart: usize,
     args: &[i64], bits: &[u8], start: usize,
 ) -> u8
-    requires { ⌜ rstart < 8 ⌝ }
-    requires { ⌜ estart < 8 ⌝ }
-    requires { ⌜ «r_rstart» < 8 ⌝ }
-    requires { ⌜ «r_estart» < 8 ⌝ }
-    requires { ⌜ start < 8 ⌝ }
     ensures { λ k. ⌜ k ≡ recipeRefusal (recipe (now (numbers .entry)) columns) (lentFrom offsets rows rstart values elements estart) (lentFrom roffsets rrows «r_rstart» rvalues relements «r_estart») (lentArgumentsFrom args bits start) ⌝ }
 {
     if check::is_malformed(numbers, columns) {
         return 10;
+    }
+    if 7 < start {
+        return 13;
     }
     let k = set_checks::lists_refusal(
         offsets, rows, rstart, values, elements, estart,

@@ -1,7 +1,6 @@
 // The call of a recipe, but for its trays and its tally.
 use column::offsets;
 use model::ListAnswer;
-ghost use Prim.Native.Nat.{_<_};
 ghost use Rattle.model.specs.Contract.{ListAnswers, roomOf};
 ghost use Rattle.model.specs.Inner.{lentArgumentsFrom, lentFrom};
 ghost use Rattle.model.specs.Limits.{narrow};
@@ -19,11 +18,6 @@ pub(crate) fn attempt<'a>(
     two_offsets: &mut [i32], two_rows: &mut [u8], two_values: &mut [i64], two_elements: &mut [u8],
     out_offsets: &mut [i32], out_rows: &mut [u8], out_values: &mut [i64], out_elements: &mut [u8],
 ) -> ListAnswer
-    requires { ⌜ rstart < 8 ⌝ }
-    requires { ⌜ estart < 8 ⌝ }
-    requires { ⌜ «r_rstart» < 8 ⌝ }
-    requires { ⌜ «r_estart» < 8 ⌝ }
-    requires { ⌜ start < 8 ⌝ }
     ensures { λ a. ⌜ ListAnswers (recipeOutcome narrow (recipe (now (numbers .entry)) columns) (lentFrom offsets rows rstart values elements estart) (lentFrom roffsets rrows «r_rstart» rvalues relements «r_estart») (lentArgumentsFrom args bits start) (roomOf «one_offsets» «one_rows» «one_values» «one_elements») (roomOf «two_offsets» «two_rows» «two_values» «two_elements»)) a «out_offsets» «out_rows» «out_values» «out_elements» ⌝ }
 {
     let k = recipe_refusal::refusal(

@@ -11,31 +11,31 @@ ghost use Rattle.tally.specs.Tallies.{tallyOf};
 ghost use mathlib.Core.Path.{_≡_};
 
 // Runs a recipe for a station, 0 to 15: its numbers, four a step, on the first list; the second list serves union and intersect; the
-// argument columns, as many as `columns` says, lie one after another in one slice with one bitmap. The trays are zero afterwards, whatever
-// comes.
+// argument columns, as many as `columns` says, lie one after another in one slice with one bitmap. Beside each bitmap stands the bit that it
+// starts at. The trays are zero afterwards, whatever comes.
 #[rattlefmt::skip]
 pub fn run_recipe<'a>(
     tally: Tally, station: u32, numbers: &[u32], columns: usize,
-    offsets: &[i32], rows: &[u8], values: &'a [i64], elements: &[u8],
-    second_offsets: &[i32], second_rows: &[u8], second_values: &'a [i64], second_elements: &[u8],
-    arguments: &[i64], argument_bits: &[u8],
+    offsets: &[i32], rows: &[u8], rows_start: usize, values: &'a [i64], elements: &[u8], elements_start: usize,
+    second_offsets: &[i32], second_rows: &[u8], second_rows_start: usize, second_values: &'a [i64], second_elements: &[u8], second_elements_start: usize,
+    arguments: &[i64], argument_bits: &[u8], argument_start: usize,
     one_offsets: &mut [i32], one_rows: &mut [u8], one_values: &mut [i64], one_elements: &mut [u8],
     two_offsets: &mut [i32], two_rows: &mut [u8], two_values: &mut [i64], two_elements: &mut [u8],
     out_offsets: &mut [i32], out_rows: &mut [u8], out_values: &mut [i64], out_elements: &mut [u8],
 ) -> RecipeAnswer
-    ensures { λ a. ⌜ ListAnswers (recipeLent station columns numbers offsets rows values elements «second_offsets» «second_rows» «second_values» «second_elements» arguments «argument_bits» (roomOf «one_offsets» «one_rows» «one_values» «one_elements») (roomOf «two_offsets» «two_rows» «two_values» «two_elements»)) (a .answer) «out_offsets» «out_rows» «out_values» «out_elements» ⌝ }
+    ensures { λ a. ⌜ ListAnswers (recipeLent station columns numbers offsets rows «rows_start» values elements «elements_start» «second_offsets» «second_rows» «second_rows_start» «second_values» «second_elements» «second_elements_start» arguments «argument_bits» «argument_start» (roomOf «one_offsets» «one_rows» «one_values» «one_elements») (roomOf «two_offsets» «two_rows» «two_values» «two_elements»)) (a .answer) «out_offsets» «out_rows» «out_values» «out_elements» ⌝ }
     ensures { λ _. ⌜ Clears «one_offsets» «one_rows» «one_values» «one_elements» ⌝ }
     ensures { λ _. ⌜ Clears «two_offsets» «two_rows» «two_values» «two_elements» ⌝ }
-    ensures { λ a. ⌜ tallyOf (a .tally) ≡ tallied station (recipeLent station columns numbers offsets rows values elements «second_offsets» «second_rows» «second_values» «second_elements» arguments «argument_bits» (roomOf «one_offsets» «one_rows» «one_values» «one_elements») (roomOf «two_offsets» «two_rows» «two_values» «two_elements») (roomOf «out_offsets» «out_rows» «out_values» «out_elements»)) (tallyOf tally) ⌝ }
+    ensures { λ a. ⌜ tallyOf (a .tally) ≡ tallied station (recipeLent station columns numbers offsets rows «rows_start» values elements «elements_start» «second_offsets» «second_rows» «second_rows_start» «second_values» «second_elements» «second_elements_start» arguments «argument_bits» «argument_start» (roomOf «one_offsets» «one_rows» «one_values» «one_elements») (roomOf «two_offsets» «two_rows» «two_values» «two_elements») (roomOf «out_offsets» «out_rows» «out_values» «out_elements»)) (tallyOf tally) ⌝ }
 {
     let answer = if station > 15 {
         ListAnswer::Refused(15)
     } else {
         call::attempt(
             numbers, columns,
-            offsets, rows, 0, values, elements, 0,
-            second_offsets, second_rows, 0, second_values, second_elements, 0,
-            arguments, argument_bits, 0,
+            offsets, rows, rows_start, values, elements, elements_start,
+            second_offsets, second_rows, second_rows_start, second_values, second_elements, second_elements_start,
+            arguments, argument_bits, argument_start,
             one_offsets, one_rows, one_values, one_elements,
             two_offsets, two_rows, two_values, two_elements,
             out_offsets, out_rows, out_values, out_elements,

@@ -8,9 +8,9 @@ use borrow.Author.Tests.{eq-eqb, ne-eqb, ltb-false}
 use lib.Dec.{ltb}
 use lib.IntN.{ℤ, pos}
 use lib.ListN.{length, getD, replicate, length-append, length-replicate}
-use Rattle.model.specs.Basics.{pick, tab, any}
+use Rattle.model.specs.Basics.{pick, tab}
 use Rattle.model.specs.Bitmap.{Bits, validAt, shortBits}
-use Rattle.model.specs.Column.{Elem, nul, val, Row, Column, Arguments, elemAt, rowAt, rowsOf, shownBy, rowCount, offsetAt, refusal1, refusal2, refusal2ᵃ}
+use Rattle.model.specs.Column.{Elem, nul, val, Row, Column, Arguments, elemAt, rowAt, rowsOf, shownBy, rowCount, offsetAt}
 use Rattle.model.specs.Form.{isOuter, innerOf, inner, lengthOf, flat, RepeatRoom}
 use Rattle.model.specs.Limits.{narrow}
 use Rattle.model.specs.Refusals.{timesOf, repeatedBy, total, repeatRefusal}
@@ -18,7 +18,7 @@ use Rattle.model.specs.Rows.{repeatOf, rowOf, argumentOf}
 use Rattle.model.specs.Outcome.{refused, gate, columnsRefusal, fittedRepeat, repeatsMade, repeatShown, repeatOutcome}
 use Rattle.model.proofs.TabLaws.{length-tab, tab-ext}
 use Rattle.model.proofs.ColumnLaws.{length-rows, length-shown, by-row}
-use Rattle.model.proofs.OutcomeLaws.{gate-open, early, two-or-on}
+use Rattle.model.proofs.OutcomeLaws.{gate-open, beside-starts, beside-early, beside-two, beside-open}
 use Rattle.column.specs.Rows.{rowFrom, lenFrom}
 use Rattle.column.proofs.RowLaws.{elems-from, flat-append}
 use Rattle.column.proofs.WalkLaws.{row-from}
@@ -139,21 +139,22 @@ fit-if false false t v x y e = (refl, refl, ap (λ (s : Sums). one s) e, ap (λ 
     two (Of a b) = b
 
 module _ (c : Column) (a : Arguments) (l : RepeatRoom) where
-  pub repeat-early : (k : ℕ) → k ≡ columnsRefusal (c ∷ []) [] → (k ≡ 0 → ⊥) → repeatOutcome narrow c a l ≡ refused k
-  unfolding repeatOutcome columnsRefusal any
-  repeat-early k e h = early k _ (refusal1 c) (refusal2 c) (refusal2ᵃ a) e h
+  pub repeat-starts : ltb 7 (a .bits .start) ≡ true → repeatOutcome narrow c a l ≡ refused 13
+  unfolding repeatOutcome
+  repeat-starts h = beside-starts c a _ h
 
-  then-two : (k : ℕ) → k ≡ columnsRefusal (c ∷ []) [] → k ≡ 0 → repeatOutcome narrow c a l ≡ pick (refusal2ᵃ a) (refused 2) (repeatShown narrow (rowsOf c) (shownBy a) l)
-  unfolding repeatOutcome columnsRefusal any
-  then-two k e h = two-or-on k _ (refusal1 c) (refusal2 c) (refusal2ᵃ a) e h
+  module _ (s : ltb 7 (a .bits .start) ≡ false) (k : ℕ) (e : k ≡ columnsRefusal (c ∷ []) []) where
+    pub repeat-early : (k ≡ 0 → ⊥) → repeatOutcome narrow c a l ≡ refused k
+    unfolding repeatOutcome
+    repeat-early h = beside-early c a _ s k e h
 
-  pub repeat-two : (k : ℕ) → k ≡ columnsRefusal (c ∷ []) [] → k ≡ 0 → shortBits (a .bits) (length (a .values)) ≡ true → repeatOutcome narrow c a l ≡ refused 2
-  unfolding refusal2ᵃ
-  repeat-two k e h s = then-two k e h ∙ rw s
+    pub repeat-two : k ≡ 0 → shortBits (a .bits) (length (a .values)) ≡ true → repeatOutcome narrow c a l ≡ refused 2
+    unfolding repeatOutcome
+    repeat-two h t = beside-two c a _ s k e h t
 
-  pub repeat-shown : (k : ℕ) → k ≡ columnsRefusal (c ∷ []) [] → k ≡ 0 → shortBits (a .bits) (length (a .values)) ≡ false → repeatOutcome narrow c a l ≡ repeatShown narrow (rowsOf c) (shownBy a) l
-  unfolding refusal2ᵃ
-  repeat-shown k e h s = then-two k e h ∙ rw s
+    pub repeat-shown : k ≡ 0 → shortBits (a .bits) (length (a .values)) ≡ false → repeatOutcome narrow c a l ≡ repeatShown narrow (rowsOf c) (shownBy a) l
+    unfolding repeatOutcome
+    repeat-shown h t = beside-open c a _ s k e h t
 
   pub repeat-three : (length (a .values) ≡ rowCount (c .offsets) → ⊥) → repeatShown narrow (rowsOf c) (shownBy a) l ≡ refused 3
   unfolding repeatShown gate

@@ -195,11 +195,11 @@ pub fn run(
     inner_offsets: &mut [i32], inner_rows: &mut [u8],
     out_values: &mut [i64], out_elements: &mut [u8],
 ) -> RepeatAnswer
-    requires { ⌜ rstart < 8 ⌝ }
-    requires { ⌜ estart < 8 ⌝ }
-    requires { ⌜ cstart < 8 ⌝ }
     ensures { λ k. ⌜ RepeatAnswers (repeatOutcome narrow (lentFrom offsets rows rstart values elements estart) (lentArgumentsFrom counts «count_bits» cstart)) k «out_offsets» «out_rows» «inner_offsets» «inner_rows» «out_values» «out_elements» ⌝ }
 {
+    if 7 < cstart {
+        return RepeatAnswer::Refused(13);
+    }
     let k = checks::list_refusal(offsets, rows, rstart, values, elements, estart);
     if k != 0 {
         return RepeatAnswer::Refused(k);

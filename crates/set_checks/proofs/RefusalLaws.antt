@@ -1,67 +1,50 @@
--- Laws of refusals 1 and 2 of two lists.
+-- Laws of refusals 13, 1 and 2 of two lists.
 use mathlib.Core.Path.{_≡_, refl}
 use mathlib.Core.Bool.{Bool, true, false, _||_}
 use mathlib.Core.List.{[], _∷_}
 use Prim.Native.Nat.{ℕ}
 use native.Mathlib.Omega.{arith}
 use Rattle.model.specs.Basics.{pick, any}
-use Rattle.model.specs.Column.{Column, refusal1, refusal2}
+use Rattle.model.specs.Column.{Column, refusal13, refusal1, refusal2}
 use Rattle.model.specs.Outcome.{columnsRefusal}
+use Rattle.set_checks.specs.Earlier.{earlier}
 
-abbrev one : Bool → Bool → ℕ
-one x z = pick (x || false) 1 (pick ((z || false) || false) 2 0)
+-- 13, 1 and 2 of one list and of two
+abbrev one : Bool → Bool → Bool → ℕ
+one w x y = pick ((w || false) || false) 13 (pick (x || false) 1 (pick ((y || false) || false) 2 0))
 
-abbrev both : Bool → Bool → Bool → Bool → ℕ
-both x y z w = pick (x || (y || false)) 1 (pick ((z || (w || false)) || false) 2 0)
+abbrev both : Bool → Bool → Bool → Bool → Bool → Bool → ℕ
+both w x y w′ x′ y′ = pick ((w || (w′ || false)) || false) 13 (pick (x || (x′ || false)) 1 (pick ((y || (y′ || false)) || false) 2 0))
 
-left-one : (x y z w : Bool) → one x z ≡ 1 → both x y z w ≡ 1
-left-one true y z w h = refl
-left-one false y true w h = let n : ⊥ = omega arith in absurd n
-left-one false y false w h = let n : ⊥ = omega arith in absurd n
+first-of : (w x y w′ x′ y′ : Bool) → earlier (one w x y) (one w′ x′ y′) ≡ both w x y w′ x′ y′
+first-of true x y w′ x′ y′ = refl
+first-of false true y true x′ y′ = refl
+first-of false true y false true y′ = refl
+first-of false true y false false true = refl
+first-of false true y false false false = refl
+first-of false false true true x′ y′ = refl
+first-of false false true false true y′ = refl
+first-of false false true false false true = refl
+first-of false false true false false false = refl
+first-of false false false true x′ y′ = refl
+first-of false false false false true y′ = refl
+first-of false false false false false true = refl
+first-of false false false false false false = refl
 
-right-one : (x y z w : Bool) → one y w ≡ 1 → both x y z w ≡ 1
-right-one true y z w h = refl
-right-one false true z w h = refl
-right-one false false z true h = let n : ⊥ = omega arith in absurd n
-right-one false false z false h = let n : ⊥ = omega arith in absurd n
-
-left-two : (x y z w : Bool) → (one x z ≡ 1 → ⊥) → (one y w ≡ 1 → ⊥) → (one x z ≡ 0 → ⊥) → one x z ≡ both x y z w
-left-two true y z w h k l = absurd (h refl)
-left-two false true z w h k l = absurd (k refl)
-left-two false false true w h k l = refl
-left-two false false false w h k l = absurd (l refl)
-
-right-left : (x y z w : Bool) → (one y w ≡ 1 → ⊥) → one x z ≡ 0 → one y w ≡ both x y z w
-right-left true y z w k l = let n : ⊥ = omega arith in absurd n
-right-left false true z w k l = absurd (k refl)
-right-left false false true w k l = let n : ⊥ = omega arith in absurd n
-right-left false false false true k l = refl
-right-left false false false false k l = refl
-
-none-both : (x y z w : Bool) → both x y z w ≡ 0 → (one x z ≡ 0) × (one y w ≡ 0)
-none-both true y z w e = let n : ⊥ = omega arith in absurd n
-none-both false true z w e = let n : ⊥ = omega arith in absurd n
-none-both false false true w e = let n : ⊥ = omega arith in absurd n
-none-both false false false true e = let n : ⊥ = omega arith in absurd n
-none-both false false false false e = (refl, refl)
+none-both : (w x y w′ x′ y′ : Bool) → both w x y w′ x′ y′ ≡ 0 → (one w x y ≡ 0) × (one w′ x′ y′ ≡ 0)
+none-both true x y w′ x′ y′ e = let n : ⊥ = omega arith in absurd n
+none-both false x y true x′ y′ e = let n : ⊥ = omega arith in absurd n
+none-both false true y false x′ y′ e = let n : ⊥ = omega arith in absurd n
+none-both false false y false true y′ e = let n : ⊥ = omega arith in absurd n
+none-both false false true false false y′ e = let n : ⊥ = omega arith in absurd n
+none-both false false false false false true e = let n : ⊥ = omega arith in absurd n
+none-both false false false false false false e = (refl, refl)
 
 module _ (c d : Column) where
-  pub first-one : columnsRefusal (c ∷ []) [] ≡ 1 → columnsRefusal (c ∷ d ∷ []) [] ≡ 1
+  pub of-both : earlier (columnsRefusal (c ∷ []) []) (columnsRefusal (d ∷ []) []) ≡ columnsRefusal (c ∷ d ∷ []) []
   unfolding columnsRefusal any
-  first-one = left-one (refusal1 c) (refusal1 d) (refusal2 c) (refusal2 d)
-
-  pub second-one : columnsRefusal (d ∷ []) [] ≡ 1 → columnsRefusal (c ∷ d ∷ []) [] ≡ 1
-  unfolding columnsRefusal any
-  second-one = right-one (refusal1 c) (refusal1 d) (refusal2 c) (refusal2 d)
-
-  pub first-two : (columnsRefusal (c ∷ []) [] ≡ 1 → ⊥) → (columnsRefusal (d ∷ []) [] ≡ 1 → ⊥) → (columnsRefusal (c ∷ []) [] ≡ 0 → ⊥) → columnsRefusal (c ∷ []) [] ≡ columnsRefusal (c ∷ d ∷ []) []
-  unfolding columnsRefusal any
-  first-two = left-two (refusal1 c) (refusal1 d) (refusal2 c) (refusal2 d)
-
-  pub second-left : (columnsRefusal (d ∷ []) [] ≡ 1 → ⊥) → columnsRefusal (c ∷ []) [] ≡ 0 → columnsRefusal (d ∷ []) [] ≡ columnsRefusal (c ∷ d ∷ []) []
-  unfolding columnsRefusal any
-  second-left = right-left (refusal1 c) (refusal1 d) (refusal2 c) (refusal2 d)
+  of-both = first-of (refusal13 c) (refusal1 c) (refusal2 c) (refusal13 d) (refusal1 d) (refusal2 d)
 
   pub both-formed : columnsRefusal (c ∷ d ∷ []) [] ≡ 0 → (columnsRefusal (c ∷ []) [] ≡ 0) × (columnsRefusal (d ∷ []) [] ≡ 0)
   unfolding columnsRefusal any
-  both-formed = none-both (refusal1 c) (refusal1 d) (refusal2 c) (refusal2 d)
+  both-formed = none-both (refusal13 c) (refusal1 c) (refusal2 c) (refusal13 d) (refusal1 d) (refusal2 d)

@@ -1,4 +1,4 @@
-// What the operations on two lists check: refusals 1, 2, 3 and 8, and which rows are valid in both. An inner crate: its callers meet
+// What the operations on two lists check: refusals 13, 1, 2, 3 and 8, and which rows are valid in both. An inner crate: its callers meet
 // what it asks.
 // After set_ops.rs of datafusion-functions-nested 55.2.0, Apache License 2.0, Apache Software Foundation; changed, see NOTICE.
 use column::offsets;
@@ -11,12 +11,29 @@ ghost use Rattle.model.specs.Inner.{lentBits, lentFrom, nowBits};
 ghost use Rattle.model.specs.Limits.{narrow};
 ghost use Rattle.model.specs.Outcome.{columnsRefusal};
 ghost use Rattle.model.specs.Refusals.{unionRefusal};
+ghost use Rattle.set_checks.specs.Earlier.{earlier};
 ghost use lib.Dec.{eqb};
 ghost use mathlib.Core.Bool.{_&&_};
 ghost use mathlib.Core.List.{[], _∷_};
 ghost use mathlib.Core.Path.{_≡_};
 
-// 1 of either list, else 2 of either, else 0.
+// Which of two lists' refusals comes first.
+fn earlier(left: u8, right: u8) -> u8
+    ensures { λ k. ⌜ k ≡ earlier left right ⌝ }
+{
+    if (left == 13) | (right == 13) {
+        return 13;
+    }
+    if (left == 1) | (right == 1) {
+        return 1;
+    }
+    if (left == 2) | (right == 2) {
+        return 2;
+    }
+    0
+}
+
+// 13 of either list, else 1 of either, else 2 of either, else 0.
 pub fn lists_refusal(
     loffsets: &[i32],
     lrows: &[u8],
@@ -31,24 +48,11 @@ pub fn lists_refusal(
     relements: &[u8],
     r_estart: usize,
 ) -> u8
-    requires { ⌜ «l_rstart» < 8 ⌝ }
-    requires { ⌜ «l_estart» < 8 ⌝ }
-    requires { ⌜ «r_rstart» < 8 ⌝ }
-    requires { ⌜ «r_estart» < 8 ⌝ }
     ensures { λ k. ⌜ k ≡ columnsRefusal (lentFrom loffsets lrows «l_rstart» lvalues lelements «l_estart» ∷ lentFrom roffsets rrows «r_rstart» rvalues relements «r_estart» ∷ []) [] ⌝ }
 {
     let left = checks::list_refusal(loffsets, lrows, l_rstart, lvalues, lelements, l_estart);
-    if left == 1 {
-        return 1;
-    }
     let right = checks::list_refusal(roffsets, rrows, r_rstart, rvalues, relements, r_estart);
-    if right == 1 {
-        return 1;
-    }
-    if left != 0 {
-        return left;
-    }
-    right
+    earlier(left, right)
 }
 
 // Whether both lists have as many rows: 3 where not.

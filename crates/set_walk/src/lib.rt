@@ -191,10 +191,6 @@ pub fn run<'a>(
     roffsets: &[i32], rrows: &[u8], r_rstart: usize, rvalues: &'a [i64], relements: &[u8], r_estart: usize,
     out_offsets: &mut [i32], out_rows: &mut [u8], out_values: &mut [i64], out_elements: &mut [u8],
 ) -> ListAnswer
-    requires { ⌜ «l_rstart» < 8 ⌝ }
-    requires { ⌜ «l_estart» < 8 ⌝ }
-    requires { ⌜ «r_rstart» < 8 ⌝ }
-    requires { ⌜ «r_estart» < 8 ⌝ }
     ensures { λ k. ⌜ ListAnswers (listOutcome narrow (setOp op (lentFrom loffsets lrows «l_rstart» lvalues lelements «l_estart») (lentFrom roffsets rrows «r_rstart» rvalues relements «r_estart»))) k «out_offsets» «out_rows» «out_values» «out_elements» ⌝ }
 {
     let k = set_checks::lists_refusal(

@@ -1,17 +1,20 @@
 // Case K: element. Four calls, on S, which is [10,20,30,40], and on [].
 use compare::UNDER_NULL;
 
-// Element -4 of S gives 10.
+// Element -4 of S gives 10. The bitmaps start at bits 3, 6 and 6.
 fn fourth_last() -> bool {
     let mut out_values = [77i64; 2];
     let mut out_rows = [0xaau8; 2];
     let answer = lists::extract::general_array_element(
         &[1, 5],
-        &[1],
+        &[0b0000_1000],
+        3,
         &[5, 10, 20, 30, 40],
-        &[0b0001_1110],
+        &[0b1011_1111, 0b0000_0111],
+        6,
         &[-4],
-        &[1],
+        &[0b0100_0000],
+        6,
         &mut out_values,
         &mut out_rows,
     );
@@ -27,10 +30,13 @@ fn none_at_zero() -> bool {
     let answer = lists::extract::general_array_element(
         &[0, 4],
         &[],
+        0,
         &[10, 20, 30, 40],
         &[],
+        0,
         &[0],
         &[],
+        0,
         &mut out_values,
         &mut out_rows,
     );
@@ -46,10 +52,13 @@ fn none_in_empty() -> bool {
     let answer = lists::extract::general_array_element(
         &[1, 1],
         &[],
+        0,
         &[5],
         &[],
+        0,
         &[2147483647],
         &[],
+        0,
         &mut out_values,
         &mut out_rows,
     );
@@ -65,10 +74,13 @@ fn refused_past_32_bits() -> bool {
     let answer = lists::extract::general_array_element(
         &[1, 1],
         &[],
+        0,
         &[5],
         &[],
+        0,
         &[2147483648],
         &[],
+        0,
         &mut out_values,
         &mut out_rows,
     );

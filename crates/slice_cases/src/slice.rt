@@ -12,7 +12,7 @@ fn gives(
     let mut out_values = [77i64; 5];
     let mut out_elements = [0xaau8; 2];
     let answer = lists::extract::general_array_slice(
-        &[1, 5], &[1], &[5, 10, 20, 30, 40, 50], &[0b0011_1110], &[from], &[0b1111_1111], &[to], &[1], stride, &[by], &[],
+        &[1, 5], &[1], 0, &[5, 10, 20, 30, 40, 50], &[0b1111_1000], 2, &[from], &[0b1111_1111], 7, &[to], &[1], 0, stride, &[by], &[], 0,
         &mut out_offsets, &mut out_rows, &mut out_values, &mut out_elements,
     );
     compare::list_counts(answer, 1, n, 0, 0)
@@ -82,7 +82,7 @@ pub fn case_j() -> bool {
     let mut out_values = [77i64; 5];
     let mut out_elements = [0xaau8; 2];
     let answer = lists::extract::general_array_slice(
-        &[0, 4], &[], &[10, 20, 30, 40], &[], &[1], &[], &[2], &[], Optional::Lent, &[0], &[],
+        &[0, 4], &[], 0, &[10, 20, 30, 40], &[], 0, &[1], &[], 0, &[2], &[], 0, Optional::Lent, &[0], &[], 0,
         &mut out_offsets, &mut out_rows, &mut out_values, &mut out_elements,
     );
     compare::list_refused(answer, 5)
@@ -100,7 +100,7 @@ pub fn case_p() -> bool {
     let mut out_values = [77i64; 4];
     let mut out_elements = [0xaau8; 2];
     let answer = lists::extract::general_array_slice(
-        &[0, 3], &[], &[10, 20, 30], &[0b111], &[2], &[], &[3], &[], Optional::Lent, &[2147483647], &[1],
+        &[0, 3], &[], 0, &[10, 20, 30], &[0b111], 0, &[2], &[], 0, &[3], &[], 0, Optional::Lent, &[2147483647], &[1], 0,
         &mut out_offsets, &mut out_rows, &mut out_values, &mut out_elements,
     );
     compare::list_counts(answer, 1, 1, 0, 0)

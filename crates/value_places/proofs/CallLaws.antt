@@ -4,17 +4,18 @@ use mathlib.Core.Bool.{true, false}
 use mathlib.Core.List.{[], _∷_}
 use Prim.Native.Nat.{ℕ, _+_}
 use borrow.Author.Tests.{eq-eqb, ne-eqb}
+use lib.Dec.{ltb}
 use lib.ListN.{length}
-use Rattle.model.specs.Basics.{pick, tab, any}
+use Rattle.model.specs.Basics.{tab}
 use Rattle.model.specs.Bitmap.{shortBits}
-use Rattle.model.specs.Column.{Column, Arguments, rowAt, rowsOf, shownBy, rowCount, refusal1, refusal2, refusal2ᵃ}
+use Rattle.model.specs.Column.{Column, Arguments, rowAt, rowsOf, shownBy, rowCount}
 use Rattle.model.specs.Form.{ValueRoom}
 use Rattle.model.specs.Limits.{narrow}
 use Rattle.model.specs.Refusals.{firstOf, elementRefusal}
 use Rattle.model.specs.Rows.{anyValueOf, elementOf}
 use Rattle.model.specs.Outcome.{refused, gate, columnsRefusal, fittedValues, anyValueShown, anyValueOutcome, elementsMade, elementsRefusal, elementShown, elementOutcome}
 use Rattle.model.proofs.TabLaws.{tab-ext, map-tab}
-use Rattle.model.proofs.OutcomeLaws.{gate-open, gate-shut, early, two-or-on}
+use Rattle.model.proofs.OutcomeLaws.{gate-open, gate-shut, beside-starts, beside-early, beside-two, beside-open}
 use Rattle.value_places.specs.Values.{valueMade, valuesMade, ElementChecked}
 use Rattle.value_places.specs.declared.ValueOp.the-variants as V′
 use Rattle.value_places.proofs.FoundLaws.{four-at}
@@ -29,21 +30,22 @@ unfolding anyValueOutcome anyValueShown rowsOf valuesMade valueMade
 any-outcome c a l = rw (map-tab anyValueOf (rowAt c) 0 (rowCount (c .offsets)))
 
 module _ (c : Column) (a : Arguments) (l : ValueRoom) where
-  pub element-early : (k : ℕ) → k ≡ columnsRefusal (c ∷ []) [] → (k ≡ 0 → ⊥) → elementOutcome narrow c a l ≡ refused k
-  unfolding elementOutcome columnsRefusal any
-  element-early k e h = early k _ (refusal1 c) (refusal2 c) (refusal2ᵃ a) e h
+  pub element-starts : ltb 7 (a .bits .start) ≡ true → elementOutcome narrow c a l ≡ refused 13
+  unfolding elementOutcome
+  element-starts h = beside-starts c a _ h
 
-  then-two : (k : ℕ) → k ≡ columnsRefusal (c ∷ []) [] → k ≡ 0 → elementOutcome narrow c a l ≡ pick (refusal2ᵃ a) (refused 2) (elementShown narrow (rowsOf c) (shownBy a) l)
-  unfolding elementOutcome columnsRefusal any
-  then-two k e h = two-or-on k _ (refusal1 c) (refusal2 c) (refusal2ᵃ a) e h
+  module _ (s : ltb 7 (a .bits .start) ≡ false) (k : ℕ) (e : k ≡ columnsRefusal (c ∷ []) []) where
+    pub element-early : (k ≡ 0 → ⊥) → elementOutcome narrow c a l ≡ refused k
+    unfolding elementOutcome
+    element-early h = beside-early c a _ s k e h
 
-  pub element-two : (k : ℕ) → k ≡ columnsRefusal (c ∷ []) [] → k ≡ 0 → shortBits (a .bits) (length (a .values)) ≡ true → elementOutcome narrow c a l ≡ refused 2
-  unfolding refusal2ᵃ
-  element-two k e h s = then-two k e h ∙ rw s
+    pub element-two : k ≡ 0 → shortBits (a .bits) (length (a .values)) ≡ true → elementOutcome narrow c a l ≡ refused 2
+    unfolding elementOutcome
+    element-two h t = beside-two c a _ s k e h t
 
-  pub element-shown : (k : ℕ) → k ≡ columnsRefusal (c ∷ []) [] → k ≡ 0 → shortBits (a .bits) (length (a .values)) ≡ false → elementOutcome narrow c a l ≡ elementShown narrow (rowsOf c) (shownBy a) l
-  unfolding refusal2ᵃ
-  element-shown k e h s = then-two k e h ∙ rw s
+    pub element-shown : k ≡ 0 → shortBits (a .bits) (length (a .values)) ≡ false → elementOutcome narrow c a l ≡ elementShown narrow (rowsOf c) (shownBy a) l
+    unfolding elementOutcome
+    element-shown h t = beside-open c a _ s k e h t
 
   pub element-three : (length (a .values) ≡ rowCount (c .offsets) → ⊥) → elementShown narrow (rowsOf c) (shownBy a) l ≡ refused 3
   unfolding elementShown gate

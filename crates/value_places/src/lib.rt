@@ -75,7 +75,7 @@ fn index_refusal(
     0
 }
 
-// The number that refuses element, or 0: 1 and 2, then 3, then 4. What is left to refuse it is 9.
+// The number that refuses element, or 0: 13, 1 and 2, then 3, then 4. What is left to refuse it is 9.
 pub fn element_refusal(
     offsets: &[i32],
     rows: &[u8],
@@ -87,11 +87,11 @@ pub fn element_refusal(
     index_bits: &[u8],
     istart: usize,
 ) -> u8
-    requires { ⌜ rstart < 8 ⌝ }
-    requires { ⌜ estart < 8 ⌝ }
-    requires { ⌜ istart < 8 ⌝ }
     ensures { λ k. ⌜ ElementChecked (lentFrom offsets rows rstart values elements estart) (lentArgumentsFrom indexes «index_bits» istart) k ⌝ }
 {
+    if 7 < istart {
+        return 13;
+    }
     let k = checks::list_refusal(offsets, rows, rstart, values, elements, estart);
     if k != 0 {
         return k;

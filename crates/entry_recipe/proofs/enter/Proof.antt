@@ -355,43 +355,43 @@ put-list-requires c κs =
     let a = S e .args in
     let f = all-fit (length (a .numbers .now)) (length (a .arguments .now)) (length (a .offsets .now)) (length (a .values .now)) (length (a .second-offsets .now)) (length (a .second-values .now)) (length (a .one-offsets .now)) (length (a .one-values .now)) (length (a .two-offsets .now)) (length (a .two-values .now)) (length (a .out-offsets .now)) (length (a .out-values .now)) (passed e .1 .fit) in
     let r = run-of-put-list-arg3 c .run in
-    ready (r .ensures .0) (rw (r .kept .1 .1 .1 .1 .1 .1 .1 .1 .1 .1 .1 .1 .1 .1 .1 .1 .1 .1 .1 .1 .1 .1 .1 .1 .0) (f .2 .offsets)) (rw (r .kept .1 .1 .1 .1 .1 .1 .1 .1 .1 .1 .1 .1 .1 .1 .1 .1 .1 .1 .1 .1 .1 .1 .1 .1 .1 .1 .0) (f .2 .values)) refl refl (passed e .1 .counts)
+    ready (r .ensures .0) (rw (r .kept .1 .1 .1 .1 .1 .1 .1 .1 .1 .1 .1 .1 .1 .1 .1 .1 .1 .1 .1 .1 .1 .1 .1 .1 .1 .1 .1 .1 .1 .0) (f .2 .offsets)) (rw (r .kept .1 .1 .1 .1 .1 .1 .1 .1 .1 .1 .1 .1 .1 .1 .1 .1 .1 .1 .1 .1 .1 .1 .1 .1 .1 .1 .1 .1 .1 .1 .1 .0) (f .2 .values)) refl refl (passed e .1 .counts)
 
 same-length-9 : tie.Need-same-length-9
 same-length-9 c = clear-four-of-slice-known32 c .clear-four .kept .0
 
 same-length-10 : tie.Need-same-length-10
-same-length-10 c = run-of-slice-known32 c .run .kept .1 .1 .1 .1 .1 .1 .1 .1 .1 .1 .1 .1 .1 .1 .1 .1 .1 .1 .1 .1 .0
+same-length-10 c = run-of-slice-known32 c .run .kept .1 .1 .1 .1 .1 .1 .1 .1 .1 .1 .1 .1 .1 .1 .1 .1 .1 .1 .1 .1 .1 .1 .1 .1 .1 .0
 
 same-length-11 : tie.Need-same-length-11
 same-length-11 c = clear-four-of-slice-known32 c .clear-four .kept .1 .0
 
 same-length-12 : tie.Need-same-length-12
-same-length-12 c = run-of-slice-known32 c .run .kept .1 .1 .1 .1 .1 .1 .1 .1 .1 .1 .1 .1 .1 .1 .1 .1 .1 .1 .1 .1 .1 .0
+same-length-12 c = run-of-slice-known32 c .run .kept .1 .1 .1 .1 .1 .1 .1 .1 .1 .1 .1 .1 .1 .1 .1 .1 .1 .1 .1 .1 .1 .1 .1 .1 .1 .1 .0
 
 same-length-13 : tie.Need-same-length-13
 same-length-13 c = clear-four-of-slice-known32 c .clear-four .kept .1 .1 .0
 
 same-length-14 : tie.Need-same-length-14
-same-length-14 c = run-of-slice-known32 c .run .kept .1 .1 .1 .1 .1 .1 .1 .1 .1 .1 .1 .1 .1 .1 .1 .1 .1 .1 .1 .1 .1 .1 .0
+same-length-14 c = run-of-slice-known32 c .run .kept .1 .1 .1 .1 .1 .1 .1 .1 .1 .1 .1 .1 .1 .1 .1 .1 .1 .1 .1 .1 .1 .1 .1 .1 .1 .1 .1 .0
 
 same-length-15 : tie.Need-same-length-15
 same-length-15 c = clear-four-of-slice-known32 c .clear-four .kept .1 .1 .1 .0
 
 same-length-16 : tie.Need-same-length-16
-same-length-16 c = run-of-slice-known32 c .run .kept .1 .1 .1 .1 .1 .1 .1 .1 .1 .1 .1 .1 .1 .1 .1 .1 .1 .1 .1 .1 .1 .1 .1 .0
+same-length-16 c = run-of-slice-known32 c .run .kept .1 .1 .1 .1 .1 .1 .1 .1 .1 .1 .1 .1 .1 .1 .1 .1 .1 .1 .1 .1 .1 .1 .1 .1 .1 .1 .1 .1 .0
 
 same-length-17 : tie.Need-same-length-17
 same-length-17 c = put-list-of-slice-known32 c .put-list .kept .1 .1 .1 .0
 
 same-length-18 : tie.Need-same-length-18
-same-length-18 c = run-of-slice-known32 c .run .kept .1 .1 .1 .1 .1 .1 .1 .1 .1 .1 .1 .1 .1 .1 .1 .1 .1 .1 .1 .1 .1 .1 .1 .1 .1 .0
+same-length-18 c = run-of-slice-known32 c .run .kept .1 .1 .1 .1 .1 .1 .1 .1 .1 .1 .1 .1 .1 .1 .1 .1 .1 .1 .1 .1 .1 .1 .1 .1 .1 .1 .1 .1 .1 .1 .0
 
 same-length-19 : tie.Need-same-length-19
 same-length-19 c = put-list-of-slice-known32 c .put-list .kept .1 .1 .1 .1 .0
 
 same-length-20 : tie.Need-same-length-20
-same-length-20 c = run-of-slice-known32 c .run .kept .1 .1 .1 .1 .1 .1 .1 .1 .1 .1 .1 .1 .1 .1 .1 .1 .1 .1 .1 .1 .1 .1 .1 .1 .1 .1 .1 .0
+same-length-20 c = run-of-slice-known32 c .run .kept .1 .1 .1 .1 .1 .1 .1 .1 .1 .1 .1 .1 .1 .1 .1 .1 .1 .1 .1 .1 .1 .1 .1 .1 .1 .1 .1 .1 .1 .1 .1 .1 .0
 
 same-length-21 : tie.Need-same-length-21
 same-length-21 c = put-list-of-slice-known32 c .put-list .kept .1 .1 .1 .1 .1 .0

@@ -1,4 +1,7 @@
--- The two tests, joined as the definition joins them.
+-- The one test, joined with the recipe's, which no length fails.
+use mathlib.Core.Path.{sym}
+use native.Mathlib.Nat.{div-le-self}
+use borrow.Author.Tests.{le-ltb}
 use borrow.Author.Needs.{needs}
 use Rattle.entry.specs.Entry.{outsize}
 use Rattle.entry.proofs.SizeLaws.{any-two}
@@ -8,11 +11,8 @@ use Rattle.entry_recipe.proofs.is_recipe_outsize.Tie as tie
 is-outsize-requires : tie.Need-is-outsize-requires
 is-outsize-requires c κs = search needs
 
-is-outsize-requires-2 : tie.Need-is-outsize-requires-2
-is-outsize-requires-2 c κs = search needs
-
 returns : tie.Need-returns
-returns c = any-two outsize _ _ (c .before .is-outsize .ensures) (c .is-outsize2 .ensures)
+returns c = let n = c .before .args .numbers in any-two outsize _ _ (sym (le-ltb n _ (div-le-self n 4))) (c .is-outsize .ensures)
 
 pub is-recipe-outsize-spec : {M : Type 1} → statement M
-is-recipe-outsize-spec = tie.close (tie.spec is-outsize-requires is-outsize-requires-2 returns)
+is-recipe-outsize-spec = tie.close (tie.spec is-outsize-requires returns)

@@ -114,25 +114,25 @@ put-repeat-requires c κs =
     let r = all-right (lists e ++ arguments e) (outer e ++ inner e) (passed e .fit) in
     let o = list-fits _ _ (all-left (outer e) (inner e) r) in
     let k = run-of-put-repeat-arg4 c .run in
-    ready (k .ensures) (rw (k .kept .1 .1 .1 .1 .1 .1 .1 .1 .1 .0) (o .offsets)) (rw (k .kept .1 .1 .1 .1 .1 .1 .1 .1 .1 .1 .1 .0) (inner-fits _ (all-right (outer e) (inner e) r))) (rw (k .kept .1 .1 .1 .1 .1 .1 .1 .1 .1 .1 .1 .1 .1 .0) (o .values)) refl refl refl (passed e .counts)
+    ready (k .ensures) (rw (k .kept .1 .1 .1 .1 .1 .1 .1 .1 .1 .1 .1 .1 .0) (o .offsets)) (rw (k .kept .1 .1 .1 .1 .1 .1 .1 .1 .1 .1 .1 .1 .1 .1 .0) (inner-fits _ (all-right (outer e) (inner e) r))) (rw (k .kept .1 .1 .1 .1 .1 .1 .1 .1 .1 .1 .1 .1 .1 .1 .1 .1 .0) (o .values)) refl refl refl (passed e .counts)
 
 same-length : tie.Need-same-length
 same-length c = put-repeat-of-slice-known14 c .put-repeat .kept .1 .1 .1 .1 .0
 
 same-length-2 : tie.Need-same-length-2
-same-length-2 c = run-of-slice-known14 c .run .kept .1 .1 .1 .1 .1 .1 .1 .1 .1 .1 .0
+same-length-2 c = run-of-slice-known14 c .run .kept .1 .1 .1 .1 .1 .1 .1 .1 .1 .1 .1 .1 .1 .0
 
 same-length-3 : tie.Need-same-length-3
 same-length-3 c = put-repeat-of-slice-known14 c .put-repeat .kept .1 .1 .1 .1 .1 .0
 
 same-length-4 : tie.Need-same-length-4
-same-length-4 c = run-of-slice-known14 c .run .kept .1 .1 .1 .1 .1 .1 .1 .1 .1 .1 .1 .1 .0
+same-length-4 c = run-of-slice-known14 c .run .kept .1 .1 .1 .1 .1 .1 .1 .1 .1 .1 .1 .1 .1 .1 .1 .0
 
 same-length-5 : tie.Need-same-length-5
 same-length-5 c = put-repeat-of-slice-known14 c .put-repeat .kept .1 .1 .1 .1 .1 .1 .0
 
 same-length-6 : tie.Need-same-length-6
-same-length-6 c = run-of-slice-known14 c .run .kept .1 .1 .1 .1 .1 .1 .1 .1 .1 .1 .1 .1 .1 .1 .0
+same-length-6 c = run-of-slice-known14 c .run .kept .1 .1 .1 .1 .1 .1 .1 .1 .1 .1 .1 .1 .1 .1 .1 .1 .1 .0
 
 same-length-7 : tie.Need-same-length-7
 same-length-7 c = put-repeat-of-slice-known14 c .put-repeat .kept .1 .1 .1 .1 .1 .1 .1 .0

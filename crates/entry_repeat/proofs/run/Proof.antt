@@ -150,28 +150,28 @@ same-length : tie.Need-same-length
 same-length c =
     let k = general-list-repeat-of-slice-known6 c .general-list-repeat in
     let s = start-of-slice-known6 c in
-    whole (k .last .1 .1 .1 .1 .1 .1 .0) (s .args .o .now) (s .args .mo) (s .pre .1 .1 .0) (k .kept .1 .1 .1 .1 .1 .1 .0)
+    whole (k .last .1 .1 .1 .1 .1 .1 .1 .1 .1 .0) (s .args .o .now) (s .args .mo) (s .pre .1 .1 .0) (k .kept .1 .1 .1 .1 .1 .1 .1 .1 .1 .0)
 
 same-length-2 : tie.Need-same-length-2
-same-length-2 c = general-list-repeat-of-slice-known6 c .general-list-repeat .kept .1 .1 .1 .1 .1 .1 .1 .0
+same-length-2 c = general-list-repeat-of-slice-known6 c .general-list-repeat .kept .1 .1 .1 .1 .1 .1 .1 .1 .1 .1 .0
 
 same-length-3 : tie.Need-same-length-3
 same-length-3 c =
     let k = general-list-repeat-of-slice-known6 c .general-list-repeat in
     let s = start-of-slice-known6 c in
-    whole (k .last .1 .1 .1 .1 .1 .1 .1 .1 .0) (s .args .io .now) (s .args .mi) (s .pre .1 .1 .1 .0) (k .kept .1 .1 .1 .1 .1 .1 .1 .1 .0)
+    whole (k .last .1 .1 .1 .1 .1 .1 .1 .1 .1 .1 .1 .0) (s .args .io .now) (s .args .mi) (s .pre .1 .1 .1 .0) (k .kept .1 .1 .1 .1 .1 .1 .1 .1 .1 .1 .1 .0)
 
 same-length-4 : tie.Need-same-length-4
-same-length-4 c = general-list-repeat-of-slice-known6 c .general-list-repeat .kept .1 .1 .1 .1 .1 .1 .1 .1 .1 .0
+same-length-4 c = general-list-repeat-of-slice-known6 c .general-list-repeat .kept .1 .1 .1 .1 .1 .1 .1 .1 .1 .1 .1 .1 .0
 
 same-length-5 : tie.Need-same-length-5
 same-length-5 c =
     let k = general-list-repeat-of-slice-known6 c .general-list-repeat in
     let s = start-of-slice-known6 c in
-    whole (k .last .1 .1 .1 .1 .1 .1 .1 .1 .1 .1 .0) (s .args .v .now) (s .args .mv) (s .pre .1 .1 .1 .1) (k .kept .1 .1 .1 .1 .1 .1 .1 .1 .1 .1 .0)
+    whole (k .last .1 .1 .1 .1 .1 .1 .1 .1 .1 .1 .1 .1 .1 .0) (s .args .v .now) (s .args .mv) (s .pre .1 .1 .1 .1) (k .kept .1 .1 .1 .1 .1 .1 .1 .1 .1 .1 .1 .1 .1 .0)
 
 same-length-6 : tie.Need-same-length-6
-same-length-6 c = general-list-repeat-of-slice-known6 c .general-list-repeat .kept .1 .1 .1 .1 .1 .1 .1 .1 .1 .1 .1 .0
+same-length-6 c = general-list-repeat-of-slice-known6 c .general-list-repeat .kept .1 .1 .1 .1 .1 .1 .1 .1 .1 .1 .1 .1 .1 .1 .0
 
 returns : tie.Need-returns
 returns c =
@@ -179,7 +179,7 @@ returns c =
     let s = start-of-slice-known6 c in
     let p = s .pre .1 .1 in
     let d = get-list-of-slice-known6 c .get-list .ensures in
-    repeat-ran (s .args .mo) (s .args .mi) (s .args .mv) (s .args .o .now) (s .args .io .now) (s .args .v .now) (k .ensures) (k .kept .1 .1 .1 .1 .1 .1 .0) (k .kept .1 .1 .1 .1 .1 .1 .1 .1 .0) (k .kept .1 .1 .1 .1 .1 .1 .1 .1 .1 .1 .0) (p .0) (p .1 .0) (p .1 .1)
+    repeat-ran (s .args .mo) (s .args .mi) (s .args .mv) (s .args .o .now) (s .args .io .now) (s .args .v .now) (k .ensures) (k .kept .1 .1 .1 .1 .1 .1 .1 .1 .1 .0) (k .kept .1 .1 .1 .1 .1 .1 .1 .1 .1 .1 .1 .0) (k .kept .1 .1 .1 .1 .1 .1 .1 .1 .1 .1 .1 .1 .1 .0) (p .0) (p .1 .0) (p .1 .1)
     (repeat-decoded _ _ _ _ _ _ (d .offsets) (d .values) (get-values-of-slice-known6 c .get-values .ensures) (length-take-le _ _ (p .0)) (length-take-le _ _ (p .1 .0)) (length-take-le _ _ (p .1 .1)))
 
 pub run-spec : {M : Type 1} → statement M

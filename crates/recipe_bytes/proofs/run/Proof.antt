@@ -3,7 +3,7 @@ use mathlib.Core.Path.{sym}
 use lib.Seq.{length-take-le}
 use Rattle.entry.proofs.SizeLaws.{whole}
 use Rattle.entry.proofs.AnswerLaws.{list-ran}
-use Rattle.recipe_bytes.proofs.RecipeLaws.{same-room, recipe-decoded, tallied-as}
+use Rattle.recipe_bytes.proofs.RecipeLaws.{taken-few, same-room, cut-at, recipe-read, tallied-as}
 use borrow.Author.Needs.{needs}
 use Rattle.recipe_bytes.proofs.run.Statement.{statement}
 use Rattle.recipe_bytes.proofs.run.Tie as tie
@@ -13,22 +13,22 @@ slice-aggregate-get-numbers c = search needs
 
 -- the places that are used below
 abbrev get-values-of-sv3 : tie.After-sv3 → tie.After-get-values
-get-values-of-sv3 p = p .before .before .before .before .before .before
+get-values-of-sv3 p = p .before .before .before .before .before .before .before
 
 abbrev get-values-of-la3 : tie.After-la3 → tie.After-get-values
-get-values-of-la3 p = p .before .before .before .before .before .before .before
+get-values-of-la3 p = p .before .before .before .before .before .before .before .before
 
 abbrev get-list2-of-lv3 : tie.After-lv3 → tie.After-get-list2
-get-list2-of-lv3 p = p .before .before .before .before .before .before .before .before
+get-list2-of-lv3 p = p .before .before .before .before .before .before .before .before .before
 
 abbrev get-list2-of-so3 : tie.After-so3 → tie.After-get-list2
-get-list2-of-so3 p = p .before .before .before .before .before .before .before .before .before
+get-list2-of-so3 p = p .before .before .before .before .before .before .before .before .before .before
 
 abbrev get-list2-of-sv3 : tie.After-sv3 → tie.After-get-list2
 get-list2-of-sv3 p = get-list2-of-so3 (p .before)
 
 abbrev get-list2-of-ns3 : tie.After-ns3 → tie.After-get-list2
-get-list2-of-ns3 p = p .before .before .before .before .before .before
+get-list2-of-ns3 p = p .before .before .before .before .before .before .before
 
 abbrev get-list-of-get-list2 : tie.After-get-list2 → tie.After-get-list
 get-list-of-get-list2 p = p .before .before .before .before .before
@@ -52,7 +52,7 @@ abbrev get-numbers-of-la2 : tie.After-la2 → tie.After-get-numbers
 get-numbers-of-la2 p = get-numbers-of-so (so-of-la2 p)
 
 abbrev get-numbers-of-ns3 : tie.After-ns3 → tie.After-get-numbers
-get-numbers-of-ns3 p = get-numbers-of-la2 (p .before)
+get-numbers-of-ns3 p = get-numbers-of-la2 (p .before .before)
 
 abbrev shared-slice-known9-of-ns : tie.After-ns → tie.After-shared-slice-known9
 shared-slice-known9-of-ns p = p .before .before .before .before .before .before .before .before .before
@@ -85,7 +85,7 @@ abbrev start-of-la2 : tie.After-la2 → tie.Start
 start-of-la2 p = start-of-la (p .before .before)
 
 abbrev start-of-ns3 : tie.After-ns3 → tie.Start
-start-of-ns3 p = start-of-la2 (p .before)
+start-of-ns3 p = start-of-la2 (p .before .before)
 
 abbrev start-of-lo3 : tie.After-lo3 → tie.Start
 start-of-lo3 p = start-of-ns3 (p .before)
@@ -154,7 +154,7 @@ abbrev sv3-of-bv : tie.After-bv → tie.After-sv3
 sv3-of-bv p = p .before .before .before .before .before .before .before .before
 
 abbrev sv2-of-sv3 : tie.After-sv3 → tie.After-sv2
-sv2-of-sv3 p = p .before .before .before .before .before .before .before .before
+sv2-of-sv3 p = p .before .before .before .before .before .before .before .before .before
 
 abbrev get-list-of-sv2 : tie.After-sv2 → tie.After-get-list
 get-list-of-sv2 p = p .before .before .before .before .before .before .before
@@ -178,7 +178,7 @@ abbrev lo3-of-run-recipe-arg2 : tie.After-run-recipe-arg2 → tie.After-lo3
 lo3-of-run-recipe-arg2 p = p .before .before .before .before .before .before .before .before
 
 abbrev sv-of-lo3 : tie.After-lo3 → tie.After-sv
-sv-of-lo3 p = p .before .before .before .before .before .before .before .before
+sv-of-lo3 p = p .before .before .before .before .before .before .before .before .before
 
 abbrev get-numbers-of-sv : tie.After-sv → tie.After-get-numbers
 get-numbers-of-sv p = p .before .before .before .before .before .before .before .before
@@ -190,7 +190,7 @@ abbrev ns3-of-run-recipe-arg2 : tie.After-run-recipe-arg2 → tie.After-ns3
 ns3-of-run-recipe-arg2 p = p .before .before .before .before .before .before .before .before .before
 
 abbrev lv2-of-ns3 : tie.After-ns3 → tie.After-lv2
-lv2-of-ns3 p = p .before .before .before .before .before .before .before .before .before
+lv2-of-ns3 p = p .before .before .before .before .before .before .before .before .before .before
 
 abbrev slice-known5-of-lv2 : tie.After-lv2 → tie.After-slice-known5
 slice-known5-of-lv2 p = p .before .before .before .before .before .before .before .before .before
@@ -204,8 +204,14 @@ start-of-shared-slice-known8 p = p .before .before .before .before .before .befo
 abbrev start-of-slice-known12 : tie.After-slice-known12 → tie.Start
 start-of-slice-known12 p = start-of-shared-slice-known8 (shared-slice-known8-of-slice-known5 (slice-known5-of-lv2 (lv2-of-ns3 (ns3-of-run-recipe-arg2 (run-recipe-arg2-of-run-recipe (run-recipe-of-slice-known9 (slice-known9-of-slice-known12 p)))))))
 
+abbrev numbers-taken-of-lo3 : tie.After-lo3 → tie.After-numbers-taken
+numbers-taken-of-lo3 p = p .before .before
+
+abbrev numbers-taken-of-slice-known12 : tie.After-slice-known12 → tie.After-numbers-taken
+numbers-taken-of-slice-known12 p = numbers-taken-of-lo3 (lo3-of-run-recipe-arg2 (run-recipe-arg2-of-run-recipe (run-recipe-of-slice-known9 (slice-known9-of-slice-known12 p))))
+
 get-numbers-requires : tie.Need-get-numbers-requires
-get-numbers-requires c κs = start-of-ns c .pre .0 .numbers
+get-numbers-requires c κs = search needs
 
 slice-aggregate-get-list : tie.Need-slice-aggregate-get-list
 slice-aggregate-get-list c = search needs
@@ -231,11 +237,14 @@ slice-aggregate-get-values c = search needs
 get-values-requires : tie.Need-get-values-requires
 get-values-requires c κs = start-of-la c .pre .0 .arguments
 
+numbers-taken-requires : tie.Need-numbers-taken-requires
+numbers-taken-requires c κs = tt
+
 array-share-prefix-ns : tie.Need-array-share-prefix-ns
-array-share-prefix-ns c = rw (get-numbers-of-la2 c .get-numbers .kept .1 .0) (start-of-la2 c .pre .0 .numbers)
+array-share-prefix-ns c = rw (get-numbers-of-la2 (c .before) .get-numbers .kept .1 .0, c .numbers-taken .ensures) (taken-few _ .1)
 
 slice-aggregate-run-recipe : tie.Need-slice-aggregate-run-recipe
-slice-aggregate-run-recipe c = sym (length-take-le _ _ (rw (get-numbers-of-ns3 c .get-numbers .kept .1 .0) (start-of-ns3 c .pre .0 .numbers)))
+slice-aggregate-run-recipe c = sym (length-take-le _ _ (rw (get-numbers-of-ns3 c .get-numbers .kept .1 .0, c .before .numbers-taken .ensures) (taken-few _ .1)))
 
 array-share-prefix-lo : tie.Need-array-share-prefix-lo
 array-share-prefix-lo c = rw (get-list-of-ns3 c .get-list .kept .1 .1 .0) (start-of-ns3 c .pre .0 .list .offsets)
@@ -307,34 +316,34 @@ run-recipe-requires : tie.Need-run-recipe-requires
 run-recipe-requires c κs = search needs
 
 same-length : tie.Need-same-length
-same-length c = run-recipe-of-slice-known12 c .run-recipe .kept .1 .1 .1 .1 .1 .1 .1 .1 .1 .1 .1 .1 .1 .1 .1 .0
+same-length c = run-recipe-of-slice-known12 c .run-recipe .kept .1 .1 .1 .1 .1 .1 .1 .1 .1 .1 .1 .1 .1 .1 .1 .1 .1 .1 .1 .1 .0
 
 same-length-2 : tie.Need-same-length-2
-same-length-2 c = run-recipe-of-slice-known12 c .run-recipe .kept .1 .1 .1 .1 .1 .1 .1 .1 .1 .1 .1 .1 .1 .1 .1 .1 .1 .0
+same-length-2 c = run-recipe-of-slice-known12 c .run-recipe .kept .1 .1 .1 .1 .1 .1 .1 .1 .1 .1 .1 .1 .1 .1 .1 .1 .1 .1 .1 .1 .1 .1 .0
 
 same-length-3 : tie.Need-same-length-3
-same-length-3 c = run-recipe-of-slice-known12 c .run-recipe .kept .1 .1 .1 .1 .1 .1 .1 .1 .1 .1 .1 .1 .1 .1 .1 .1 .1 .1 .1 .0
+same-length-3 c = run-recipe-of-slice-known12 c .run-recipe .kept .1 .1 .1 .1 .1 .1 .1 .1 .1 .1 .1 .1 .1 .1 .1 .1 .1 .1 .1 .1 .1 .1 .1 .1 .0
 
 same-length-4 : tie.Need-same-length-4
-same-length-4 c = run-recipe-of-slice-known12 c .run-recipe .kept .1 .1 .1 .1 .1 .1 .1 .1 .1 .1 .1 .1 .1 .1 .1 .1 .1 .1 .1 .1 .1 .0
+same-length-4 c = run-recipe-of-slice-known12 c .run-recipe .kept .1 .1 .1 .1 .1 .1 .1 .1 .1 .1 .1 .1 .1 .1 .1 .1 .1 .1 .1 .1 .1 .1 .1 .1 .1 .1 .0
 
 same-length-5 : tie.Need-same-length-5
 same-length-5 c =
     let k = run-recipe-of-slice-known12 c .run-recipe in
     let s = start-of-slice-known12 c in
-    whole (k .last .1 .1 .1 .1 .1 .1 .1 .1 .1 .1 .1 .1 .1 .1 .1 .1 .1 .1 .1 .1 .1 .1 .0) (s .args .o .now) (s .args .mo) (s .pre .1 .1 .0) (k .kept .1 .1 .1 .1 .1 .1 .1 .1 .1 .1 .1 .1 .1 .1 .1 .1 .1 .1 .1 .1 .1 .1 .0)
+    whole (k .last .1 .1 .1 .1 .1 .1 .1 .1 .1 .1 .1 .1 .1 .1 .1 .1 .1 .1 .1 .1 .1 .1 .1 .1 .1 .1 .1 .0) (s .args .o .now) (s .args .mo) (s .pre .1 .1 .0) (k .kept .1 .1 .1 .1 .1 .1 .1 .1 .1 .1 .1 .1 .1 .1 .1 .1 .1 .1 .1 .1 .1 .1 .1 .1 .1 .1 .1 .0)
 
 same-length-6 : tie.Need-same-length-6
-same-length-6 c = run-recipe-of-slice-known12 c .run-recipe .kept .1 .1 .1 .1 .1 .1 .1 .1 .1 .1 .1 .1 .1 .1 .1 .1 .1 .1 .1 .1 .1 .1 .1 .0
+same-length-6 c = run-recipe-of-slice-known12 c .run-recipe .kept .1 .1 .1 .1 .1 .1 .1 .1 .1 .1 .1 .1 .1 .1 .1 .1 .1 .1 .1 .1 .1 .1 .1 .1 .1 .1 .1 .1 .0
 
 same-length-7 : tie.Need-same-length-7
 same-length-7 c =
     let k = run-recipe-of-slice-known12 c .run-recipe in
     let s = start-of-slice-known12 c in
-    whole (k .last .1 .1 .1 .1 .1 .1 .1 .1 .1 .1 .1 .1 .1 .1 .1 .1 .1 .1 .1 .1 .1 .1 .1 .1 .0) (s .args .v .now) (s .args .mv) (s .pre .1 .1 .1) (k .kept .1 .1 .1 .1 .1 .1 .1 .1 .1 .1 .1 .1 .1 .1 .1 .1 .1 .1 .1 .1 .1 .1 .1 .1 .0)
+    whole (k .last .1 .1 .1 .1 .1 .1 .1 .1 .1 .1 .1 .1 .1 .1 .1 .1 .1 .1 .1 .1 .1 .1 .1 .1 .1 .1 .1 .1 .1 .0) (s .args .v .now) (s .args .mv) (s .pre .1 .1 .1) (k .kept .1 .1 .1 .1 .1 .1 .1 .1 .1 .1 .1 .1 .1 .1 .1 .1 .1 .1 .1 .1 .1 .1 .1 .1 .1 .1 .1 .1 .1 .0)
 
 same-length-8 : tie.Need-same-length-8
-same-length-8 c = run-recipe-of-slice-known12 c .run-recipe .kept .1 .1 .1 .1 .1 .1 .1 .1 .1 .1 .1 .1 .1 .1 .1 .1 .1 .1 .1 .1 .1 .1 .1 .1 .1 .0
+same-length-8 c = run-recipe-of-slice-known12 c .run-recipe .kept .1 .1 .1 .1 .1 .1 .1 .1 .1 .1 .1 .1 .1 .1 .1 .1 .1 .1 .1 .1 .1 .1 .1 .1 .1 .1 .1 .1 .1 .1 .0
 
 returns : tie.Need-returns
 returns c =
@@ -348,8 +357,9 @@ returns c =
     let one = same-room _ _ (length-take-le _ _ (p .one-offsets)) (length-take-le _ _ (p .one-values)) in
     let two = same-room _ _ (length-take-le _ _ (p .two-offsets)) (length-take-le _ _ (p .two-values)) in
     let out = same-room _ _ (length-take-le _ _ (q .0)) (length-take-le _ _ (q .1)) in
-    let e = recipe-decoded (s .args .station) (s .args .columns) _ _ _ _ _ (get-numbers-of-slice-known12 c .get-numbers .ensures) (d .offsets) (d .values) (b .offsets) (b .values) (get-values-of-slice-known12 c .get-values .ensures) one two out in (
-      list-ran (s .args .mo) (s .args .mv) (s .args .o .now) (s .args .v .now) (m .0) (k .kept .1 .1 .1 .1 .1 .1 .1 .1 .1 .1 .1 .1 .1 .1 .1 .1 .1 .1 .1 .1 .1 .1 .0) (k .kept .1 .1 .1 .1 .1 .1 .1 .1 .1 .1 .1 .1 .1 .1 .1 .1 .1 .1 .1 .1 .1 .1 .1 .1 .0) (q .0) (q .1) e,
+    let numbers = cut-at (get-numbers-of-slice-known12 c .get-numbers .last .1 .0) (numbers-taken-of-slice-known12 c .numbers-taken .ensures) (get-numbers-of-slice-known12 c .get-numbers .ensures) in
+    let e = recipe-read (s .args .station) (s .args .columns) (s .args .numbers .now) _ _ _ _ _ numbers (d .offsets) (d .values) (b .offsets) (b .values) (get-values-of-slice-known12 c .get-values .ensures) one two out in (
+      list-ran (s .args .mo) (s .args .mv) (s .args .o .now) (s .args .v .now) (m .0) (k .kept .1 .1 .1 .1 .1 .1 .1 .1 .1 .1 .1 .1 .1 .1 .1 .1 .1 .1 .1 .1 .1 .1 .1 .1 .1 .1 .1 .0) (k .kept .1 .1 .1 .1 .1 .1 .1 .1 .1 .1 .1 .1 .1 .1 .1 .1 .1 .1 .1 .1 .1 .1 .1 .1 .1 .1 .1 .1 .1 .0) (q .0) (q .1) e,
       ((m .1 .0 .rows, m .1 .0 .elements, m .1 .1 .0 .rows, m .1 .1 .0 .elements), tallied-as _ _ e (m .1 .1 .1)),
     )
 
@@ -367,6 +377,7 @@ run-spec =
     get-list-requires-2
     slice-aggregate-get-values
     get-values-requires
+    numbers-taken-requires
     array-share-prefix-ns
     slice-aggregate-run-recipe
     array-share-prefix-lo

@@ -37,9 +37,9 @@ abbrev x : tie.Start → Outcome (List Row)
 x s =
     let a = s .args in
     recipeOutcome narrow (recipe (a .numbers .now) (a .columns))
-    (column (a .offsets .now) (from 0 (a .rows .now)) (a .values .now) (from 0 (a .elements .now)))
-    (column (a .second-offsets .now) (from 0 (a .second-rows .now)) (a .second-values .now) (from 0 (a .second-elements .now)))
-    (arguments (a .arguments .now) (from 0 (a .argument-bits .now)))
+    (column (a .offsets .now) (from (a .rows-start) (a .rows .now)) (a .values .now) (from (a .elements-start) (a .elements .now)))
+    (column (a .second-offsets .now) (from (a .second-rows-start) (a .second-rows .now)) (a .second-values .now) (from (a .second-elements-start) (a .second-elements .now)))
+    (arguments (a .arguments .now) (from (a .argument-start) (a .argument-bits .now)))
     (room (length (a .one-offsets .now)) (length (a .one-rows .now)) (length (a .one-values .now)) (length (a .one-elements .now)))
     (room (length (a .two-offsets .now)) (length (a .two-rows .now)) (length (a .two-values .now)) (length (a .two-elements .now)))
     (room (length (a .out-offsets .now)) (length (a .out-rows .now)) (length (a .out-values .now)) (length (a .out-elements .now)))
@@ -99,11 +99,8 @@ meets j =
 -- ---- needs
 
 -- each bitmap begins at bit 0
-small : 0 < 8
-small = omega arith
-
 attempt-requires : tie.Need-attempt-requires
-attempt-requires c κs = (small, (small, (small, (small, small))))
+attempt-requires c κs = tt
 
 clear-requires : tie.Need-clear-requires
 clear-requires c κs = tt

@@ -1,6 +1,5 @@
 use mathlib.Core.Path.{_≡_, sym, _∙_}
 use mathlib.Core.List.{[], _∷_}
-use native.Mathlib.Omega.{arith}
 use borrow.Author.Tests.{eqb-true, eqb-false, not-true, not-false}
 use lib.ListN.{length}
 use Rattle.model.specs.Bitmap.{from}
@@ -44,15 +43,15 @@ else2-of-slice-known4 p = else2-of-out-offsets (out-offsets-of-slice-known4 p)
 abbrev S : tie.After-lists-refusal → tie.Start
 S f = start-of-lists-refusal f
 
--- 1 and 2 do not apply
+-- 13, 1 and 2 do not apply
 formed : (e : tie.Else1) → let s = S (e .before) in columnsRefusal (C s ∷ D s ∷ []) [] ≡ 0
 formed e = sym (e .before .lists-refusal .ensures) ∙ e .if1 .left
 
 lefts : (e : tie.Else1) → Readable (C (S (e .before)))
-lefts e = let s = S (e .before) in readable (C s) (omega (arith, s .pre .0)) (omega (arith, s .pre .1 .0)) (both-formed (C s) (D s) (formed e) .0)
+lefts e = let s = S (e .before) in readable (C s) (both-formed (C s) (D s) (formed e) .0)
 
 rights : (e : tie.Else1) → Readable (D (S (e .before)))
-rights e = let s = S (e .before) in readable (D s) (omega (arith, s .pre .1 .1 .0)) (omega (arith, s .pre .1 .1 .1)) (both-formed (C s) (D s) (formed e) .1)
+rights e = let s = S (e .before) in readable (D s) (both-formed (C s) (D s) (formed e) .1)
 
 -- 3 does not
 equal : (e : tie.Else2) → let s = S (e .before .before .before) in rowCount (D s .offsets) ≡ rowCount (C s .offsets)

@@ -5,7 +5,8 @@ use lib.ListN.{length}
 use Rattle.model.specs.Bitmap.{from}
 use Rattle.model.specs.Column.{Arguments, arguments}
 use Rattle.ops.specs.Ops.{table, takesOf, secondLimit, thirdLimit}
-use Rattle.arguments.specs.Taken.{shortIf, wrongIf, argumentsRefusal}
+use Rattle.arguments.specs.Taken.{overIf, shortIf, wrongIf, argumentsRefusal}
+use Rattle.arguments.proofs.TakenLaws.{none-over}
 use Rattle.arguments.proofs.taken.arguments_refusal.Statement.{statement}
 use Rattle.arguments.proofs.taken.arguments_refusal.Tie as tie
 
@@ -17,6 +18,10 @@ columns t = ap (λ a. a .columns) (sym (t .takes .ensures))
 
 limit : (t : tie.After-takes) → table (S t .args .op) .limit ≡ t .takes .result .limit
 limit t = ap (λ a. a .limit) (sym (t .takes .ensures))
+
+-- no column that is taken has a starting bit over 7
+starts : (t : tie.After-takes) → let a = S t .args in (overIf (ltb 0 (t .takes .result .columns)) (a .xstart) ≡ false) × (overIf (ltb 1 (t .takes .result .columns)) (a .ystart) ≡ false) × (overIf (ltb 2 (t .takes .result .columns)) (a .zstart) ≡ false)
+starts t = let a = S t .args in none-over (a .op) (t .takes .result .columns) (a .xstart) (a .ystart) (a .zstart) (columns t) (S t .pre)
 
 -- the tests of the definition
 module _ (s : tie.Start) where
@@ -74,21 +79,21 @@ takes-requires : tie.Need-takes-requires
 takes-requires c κs = search
 
 is-short-if-requires : tie.Need-is-short-if-requires
-is-short-if-requires c κs = search
+is-short-if-requires c κs = starts c .0
 
 returns : tie.Need-returns
 unfolding argumentsRefusal
 returns c = rw (made-short-1 (c .before), c .if1 .taken)
 
 is-short-if-requires-2 : tie.Need-is-short-if-requires-2
-is-short-if-requires-2 c κs = search
+is-short-if-requires-2 c κs = starts (c .before .before) .1
 
 returns-2 : tie.Need-returns-2
 unfolding argumentsRefusal
 returns-2 c = rw (made-short-1 (c .before .before .before), c .before .before .if1 .left, made-short-2 (c .before), c .if2 .taken)
 
 is-short-if-requires-3 : tie.Need-is-short-if-requires-3
-is-short-if-requires-3 c κs = search
+is-short-if-requires-3 c κs = starts (c .before .before .before .before) .2
 
 returns-3 : tie.Need-returns-3
 unfolding argumentsRefusal

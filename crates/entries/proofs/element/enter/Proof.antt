@@ -79,13 +79,13 @@ put-values-requires : tie.Need-put-values-requires
 put-values-requires c κs =
     let e = else1-of-put-values-arg2 c in
     let r = run-of-put-values-arg2 c in
-    values-ready (r .run .ensures) (rw (r .run .kept .1 .1 .1 .1 .1 .1 .1 .0) (value-fits _ (all-right (lists e ++ arguments e) (outs e) (passed e .fit)))) refl (passed e .counts)
+    values-ready (r .run .ensures) (rw (r .run .kept .1 .1 .1 .1 .1 .1 .1 .1 .1 .1 .0) (value-fits _ (all-right (lists e ++ arguments e) (outs e) (passed e .fit)))) refl (passed e .counts)
 
 same-length : tie.Need-same-length
 same-length c = c .before .before .before .before .put-values .kept .1 .1 .0
 
 same-length-2 : tie.Need-same-length-2
-same-length-2 c = run-of-slice-known6 c .run .kept .1 .1 .1 .1 .1 .1 .1 .1 .0
+same-length-2 c = run-of-slice-known6 c .run .kept .1 .1 .1 .1 .1 .1 .1 .1 .1 .1 .1 .0
 
 same-length-3 : tie.Need-same-length-3
 same-length-3 c = c .before .before .before .before .put-values .kept .1 .1 .1 .0

@@ -142,19 +142,19 @@ same-length : tie.Need-same-length
 same-length c =
     let k = generic-set-lists-of-slice-known4 c .generic-set-lists in
     let s = start-of-slice-known4 c in
-    whole (k .last .1 .1 .1 .1 .1 .1 .1 .1 .1 .0) (s .args .o .now) (s .args .mo) (s .pre .1 .1 .0) (k .kept .1 .1 .1 .1 .1 .1 .1 .1 .1 .0)
+    whole (k .last .1 .1 .1 .1 .1 .1 .1 .1 .1 .1 .1 .1 .1 .0) (s .args .o .now) (s .args .mo) (s .pre .1 .1 .0) (k .kept .1 .1 .1 .1 .1 .1 .1 .1 .1 .1 .1 .1 .1 .0)
 
 same-length-2 : tie.Need-same-length-2
-same-length-2 c = generic-set-lists-of-slice-known4 c .generic-set-lists .kept .1 .1 .1 .1 .1 .1 .1 .1 .1 .1 .0
+same-length-2 c = generic-set-lists-of-slice-known4 c .generic-set-lists .kept .1 .1 .1 .1 .1 .1 .1 .1 .1 .1 .1 .1 .1 .1 .0
 
 same-length-3 : tie.Need-same-length-3
 same-length-3 c =
     let k = generic-set-lists-of-slice-known4 c .generic-set-lists in
     let s = start-of-slice-known4 c in
-    whole (k .last .1 .1 .1 .1 .1 .1 .1 .1 .1 .1 .1 .0) (s .args .v .now) (s .args .mv) (s .pre .1 .1 .1) (k .kept .1 .1 .1 .1 .1 .1 .1 .1 .1 .1 .1 .0)
+    whole (k .last .1 .1 .1 .1 .1 .1 .1 .1 .1 .1 .1 .1 .1 .1 .1 .0) (s .args .v .now) (s .args .mv) (s .pre .1 .1 .1) (k .kept .1 .1 .1 .1 .1 .1 .1 .1 .1 .1 .1 .1 .1 .1 .1 .0)
 
 same-length-4 : tie.Need-same-length-4
-same-length-4 c = generic-set-lists-of-slice-known4 c .generic-set-lists .kept .1 .1 .1 .1 .1 .1 .1 .1 .1 .1 .1 .1 .0
+same-length-4 c = generic-set-lists-of-slice-known4 c .generic-set-lists .kept .1 .1 .1 .1 .1 .1 .1 .1 .1 .1 .1 .1 .1 .1 .1 .1 .0
 
 returns : tie.Need-returns
 returns c =
@@ -162,7 +162,7 @@ returns c =
     let s = start-of-slice-known4 c in
     let d = get-list-of-slice-known4 c .get-list .ensures in
     let e = get-list2-of-slice-known4 c .get-list2 .ensures in
-    list-ran (s .args .mo) (s .args .mv) (s .args .o .now) (s .args .v .now) (k .ensures) (k .kept .1 .1 .1 .1 .1 .1 .1 .1 .1 .0) (k .kept .1 .1 .1 .1 .1 .1 .1 .1 .1 .1 .1 .0) (s .pre .1 .1 .0) (s .pre .1 .1 .1)
+    list-ran (s .args .mo) (s .args .mv) (s .args .o .now) (s .args .v .now) (k .ensures) (k .kept .1 .1 .1 .1 .1 .1 .1 .1 .1 .1 .1 .1 .1 .0) (k .kept .1 .1 .1 .1 .1 .1 .1 .1 .1 .1 .1 .1 .1 .1 .1 .0) (s .pre .1 .1 .0) (s .pre .1 .1 .1)
     (set-decoded _ _ _ (d .offsets) (d .values) (length-take-le _ _ (s .pre .1 .1 .1)) (s .args .op) _ _ _ (e .offsets) (e .values) (length-take-le _ _ (s .pre .1 .1 .0)))
 
 pub run-spec : {M : Type 1} → statement M

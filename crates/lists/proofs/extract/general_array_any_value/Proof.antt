@@ -1,5 +1,4 @@
 use mathlib.Core.Path.{sym, _∙_}
-use native.Mathlib.Omega.{arith}
 use lib.ListN.{length}
 use Rattle.model.specs.Bitmap.{from}
 use Rattle.model.specs.Column.{Column, column, Arguments, arguments}
@@ -10,16 +9,15 @@ use Rattle.column.proofs.AnswerLaws.{value-refused}
 use Rattle.column.proofs.WalkLaws.{readable}
 use Rattle.value_places.proofs.CallLaws.{any-outcome}
 use Rattle.value_places.specs.Values.{Indexed}
-use borrow.Author.Needs.{needs}
 use Rattle.lists.proofs.extract.general_array_any_value.Statement.{statement}
 use Rattle.lists.proofs.extract.general_array_any_value.Tie as tie
 
 abbrev C : tie.Start → Column
-C s = let a = s .args in column (a .offsets .now) (from 0 (a .rows .now)) (a .values .now) (from 0 (a .elements .now))
+C s = let a = s .args in column (a .offsets .now) (from (a .rows-start) (a .rows .now)) (a .values .now) (from (a .elements-start) (a .elements .now))
 
 -- what stands in the indexes' places
 abbrev A : tie.Start → Arguments
-A s = arguments (s .args .values .now) (from 0 (s .args .elements .now))
+A s = arguments (s .args .values .now) (from (s .args .elements-start) (s .args .elements .now))
 
 abbrev L : tie.Start → ValueRoom
 L s = valueRoom (length (s .args .out-values .now)) (length (s .args .out-rows .now))
@@ -28,7 +26,7 @@ abbrev S : tie.After-list-refusal → tie.Start
 S f = f .before .before .before .before
 
 list-refusal-requires : tie.Need-list-refusal-requires
-list-refusal-requires c κs = search needs
+list-refusal-requires c κs = search
 
 returns : tie.Need-returns
 returns c =
@@ -41,7 +39,7 @@ unfolding Indexed
 write-fitting-requires c κs =
     let e = c .before .before in
     let f = e .before in
-    (readable (C (S f)) (omega arith) (omega arith) (sym (f .list-refusal .ensures) ∙ e .if1 .left), tt)
+    (readable (C (S f)) (sym (f .list-refusal .ensures) ∙ e .if1 .left), tt)
 
 same-length : tie.Need-same-length
 same-length c = search

@@ -5,7 +5,6 @@ use Rattle.model.specs.Form.{ValueRoom}
 use Rattle.model.proofs.OutcomeLaws.{gate-open, gate-shut}
 use Rattle.column.proofs.AnswerLaws.{value-refused}
 use Rattle.value_places.specs.Values.{Indexed}
-use borrow.Author.Needs.{needs}
 use Rattle.lists.proofs.extract.general_array_element.Statement.{statement}
 use Rattle.lists.proofs.extract.general_array_element.Tie as tie
 
@@ -13,7 +12,7 @@ abbrev L : tie.After-element-refusal → ValueRoom
 L f = let a = f .before .before .before .before .before .args in valueRoom (length (a .out-values .now)) (length (a .out-rows .now))
 
 element-refusal-requires : tie.Need-element-refusal-requires
-element-refusal-requires c κs = search needs
+element-refusal-requires c κs = search
 
 returns : tie.Need-returns
 returns c = let f = c .before in value-refused _ (f .element-refusal .ensures .outcome (L f) ∙ gate-shut _ _ (c .if1 .taken))

@@ -1,5 +1,4 @@
 use Rattle.optional_ops.proofs.CallLaws.{slice-call}
-use borrow.Author.Needs.{needs}
 use Rattle.lists.proofs.extract.general_array_slice.Statement.{statement}
 use Rattle.lists.proofs.extract.general_array_slice.Tie as tie
 
@@ -7,7 +6,7 @@ slice-by-requires : tie.Need-slice-by-requires
 slice-by-requires c κs = search
 
 run-requires : tie.Need-run-requires
-run-requires c κs = search needs
+run-requires c κs = search
 
 same-length : tie.Need-same-length
 same-length c = search

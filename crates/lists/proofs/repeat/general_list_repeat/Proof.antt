@@ -1,9 +1,8 @@
-use borrow.Author.Needs.{needs}
 use Rattle.lists.proofs.repeat.general_list_repeat.Statement.{statement}
 use Rattle.lists.proofs.repeat.general_list_repeat.Tie as tie
 
 run-requires : tie.Need-run-requires
-run-requires c κs = search needs
+run-requires c κs = search
 
 same-length : tie.Need-same-length
 same-length c = search

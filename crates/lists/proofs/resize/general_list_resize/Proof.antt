@@ -1,5 +1,4 @@
 use Rattle.optional_ops.proofs.CallLaws.{resize-call}
-use borrow.Author.Needs.{needs}
 use Rattle.lists.proofs.resize.general_list_resize.Statement.{statement}
 use Rattle.lists.proofs.resize.general_list_resize.Tie as tie
 
@@ -7,7 +6,7 @@ resize-by-requires : tie.Need-resize-by-requires
 resize-by-requires c κs = search
 
 run-requires : tie.Need-run-requires
-run-requires c κs = search needs
+run-requires c κs = search
 
 same-length : tie.Need-same-length
 same-length c = search

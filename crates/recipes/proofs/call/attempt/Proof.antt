@@ -1,6 +1,5 @@
 use mathlib.Core.Path.{_≡_, refl, sym, ap, _∙_}
 use Prim.Native.Nat.{ℕ, _*_}
-use native.Mathlib.Omega.{arith}
 use lib.ListN.{length}
 use Rattle.model.specs.Bitmap.{from}
 use Rattle.model.specs.Column.{Column, column, Arguments, arguments, refusal2ᵃ}
@@ -65,7 +64,7 @@ passes : (e : tie.Else1) → let s = S (e .before) in Passed (s .args .numbers .
 passes e = let s = S (e .before) in passed (s .args .numbers .now) (s .args .columns) (C s) (D s) (A s) (none-refused e)
 
 reads : (e : tie.Else1) → Readable (C (S (e .before)))
-reads e = let s = S (e .before) in readable (C s) (omega (arith, s .pre .0)) (omega (arith, s .pre .1 .0)) (both-formed (C s) (D s) (passes e .lists) .0)
+reads e = let s = S (e .before) in readable (C s) (both-formed (C s) (D s) (passes e .lists) .0)
 
 besides : (r : tie.After-row-count) → let s = S (r .before .before .before) in Beside (r .row-count .result) (D s) (A s)
 unfolding refusal2ᵃ
@@ -73,15 +72,15 @@ besides r =
     let e = r .before .before in
     let s = S (e .before) in
     record {
-      second = readable (D s) (omega (arith, s .pre .1 .1 .0)) (omega (arith, s .pre .1 .1 .1 .0)) (both-formed (C s) (D s) (passes e .lists) .1);
+      second = readable (D s) (both-formed (C s) (D s) (passes e .lists) .1);
       rows = passes e .equal ∙ sym (r .row-count .ensures);
-      bits = record { small = s .pre .1 .1 .1 .1; long = passes e .long };
+      bits = record { small = passes e .small; long = passes e .long };
     }
 
 -- ---- needs
 
 refusal-requires : tie.Need-refusal-requires
-refusal-requires c κs = let k = c .before .before .before .before .before .before in k .before .before .before .before .before .before .pre
+refusal-requires c κs = tt
 
 returns : tie.Need-returns
 returns c = let s = S (c .before) in let a = s .args in list-refused _ (call-refused (a .numbers .now) (a .columns) (C s) (D s) (A s) (One s) (Two s) (Out s) _ (c .before .refusal .ensures) (c .if1 .taken))

@@ -1,26 +1,34 @@
-//! Time of the port and of the plain Rust on the same calls, from the same driver, in the same
-//! buffers. The plain Rust is timed twice: as it reads and writes numbers in place, and as it
-//! decodes them inside, which the entries of the port must. The buffers are not cleared between
-//! calls.
+//! Time of typed calls, beside the same calls in plain safe Rust in place, beside a plain copy of the
+//! bytes that the result has, and beside the byte entries; all from one driver, in turns, in the same
+//! buffers, which are not cleared between calls. A benchmark, and no test.
 
 use crate::decoded;
 use crate::entry::{Case, Entry, MOST_ROWS, MOST_VALUES};
-use crate::generate::{input_of, lend, shuffle, Layout, Room};
+use crate::generate::{input_of, lend_typed, shuffle, Layout, Room};
 use crate::library::Library;
-use crate::model::{Element, Operation, RecipeShown, Role, Row, Shown};
+use crate::model::{ArgumentColumn, Element, Operation, RecipeShown, Role, Row, Shown};
+use crate::numbers::{bytes_of, bytes_of_mut};
 use crate::plain;
-use crate::recipe_generate::{lend_recipe, recipe_input};
+use crate::recipe_generate::recipe_input;
 use crate::rng::Rng;
+use crate::typed::Typed;
 use std::hint::black_box;
+use std::ops::Range;
 use std::time::{Duration, Instant};
 
 /// A line has as many alternating rounds as fit its time, between these; short rounds, for what
 /// else runs on the machine stops long ones.
-const LEAST_ROUNDS: usize = 21;
-const MOST_ROUNDS: usize = 60;
+const ROUNDS: Range<usize> = 21..60;
+const LARGE_ROUNDS: Range<usize> = 5..30;
 const LINE_TIME: Duration = Duration::from_millis(400);
+const LARGE_LINE_TIME: Duration = Duration::from_millis(1000);
 const ROUND_TIME: Duration = Duration::from_micros(700);
 const MOST_REPEATS: u128 = 20_000;
+
+/// The values of a column: as many as the byte entries take, and some millions.
+const LARGE_VALUES: usize = 3 << 20;
+
+const LENGTHS: [usize; 3] = [8, 100, 4000];
 
 /// What stands in the bitmaps.
 #[derive(Clone, Copy, PartialEq)]
@@ -47,6 +55,15 @@ impl Nulls {
     }
 }
 
+/// What a call is lent: so many values, in rows of a length, with such bitmaps from a starting bit.
+#[derive(Clone, Copy)]
+struct Load {
+    values: usize,
+    length: usize,
+    nulls: Nulls,
+    start: usize,
+}
+
 fn level(rng: &mut Rng) -> i64 {
     rng.between(-32768, 32767)
 }
@@ -59,12 +76,13 @@ fn row_of(length: usize, nulls: Nulls, rng: &mut Rng) -> Vec<Element> {
     (0..length).map(element).collect()
 }
 
-/// As many rows as the entry takes, or half as many where the result is larger than the list.
-fn rows_of(entry: Entry, length: usize, nulls: Nulls, rng: &mut Rng) -> Vec<Row> {
+/// Rows of so many values in all, or of half as many where the result is larger than the list.
+fn rows_of(entry: Entry, load: Load, rng: &mut Rng) -> Vec<Row> {
+    let Load { values, length, nulls, .. } = load;
     let grows = entry.lists() == 2
         || entry.roles().iter().any(|role| matches!(role, Role::Count | Role::Times));
-    let most = if grows { MOST_VALUES / 2 } else { MOST_VALUES };
-    let count = (most / length).min(MOST_ROWS);
+    let count = if grows { values / 2 } else { values } / length;
+    let count = if values == MOST_VALUES { count.min(MOST_ROWS) } else { count };
     (0..count).map(|at| (!nulls.is_null(at, 3)).then(|| row_of(length, nulls, rng))).collect()
 }
 
@@ -112,7 +130,7 @@ fn columns_of(
     roles.iter().enumerate().map(column).collect()
 }
 
-fn layout_of(nulls: Nulls, start: u32) -> Layout {
+fn layout_of(Load { nulls, start, .. }: Load) -> Layout {
     Layout {
         rows_start: start,
         elements_start: start,
@@ -123,22 +141,20 @@ fn layout_of(nulls: Nulls, start: u32) -> Layout {
     }
 }
 
-/// A call with all its bitmaps from this bit.
-fn load(entry: Entry, length: usize, nulls: Nulls, start: u32) -> Case {
+/// A call of an entry.
+fn load(entry: Entry, load: Load) -> Case {
     if entry.is_recipe() {
-        return load_recipe(length, nulls, start);
+        return load_recipe(load);
     }
-
     let mut rng = Rng::new(1, "bench");
-    let rows = rows_of(entry, length, nulls, &mut rng);
-    let arguments = columns_of(entry.roles(), &rows, length, nulls, &mut rng);
+    let rows = rows_of(entry, load, &mut rng);
+    let arguments = columns_of(entry.roles(), &rows, load.length, load.nulls, &mut rng);
     let mut lists = vec![rows];
     if entry.lists() == 2 {
-        lists.push(right_of(&lists[0], nulls, &mut rng));
+        lists.push(right_of(&lists[0], load.nulls, &mut rng));
     }
-    let layout = layout_of(nulls, start);
-    let input = input_of(entry, &Shown { lists, arguments }, &[layout], &mut rng);
-    lend(&input, Room::Exact, &mut rng)
+    let input = input_of(entry, &Shown { lists, arguments }, &[layout_of(load)], &mut rng);
+    lend_typed(&input, Room::Exact, &mut rng)
 }
 
 /// The columns of the recipe below.
@@ -165,117 +181,297 @@ const RECIPE: [[u32; 4]; 8] = [
     [0, 0, 0, 0],
 ];
 
-fn load_recipe(length: usize, nulls: Nulls, start: u32) -> Case {
+fn load_recipe(load: Load) -> Case {
     let mut rng = Rng::new(1, "bench");
-    let rows = rows_of(Entry::of(Operation::Resize), length, nulls, &mut rng);
-    let second = right_of(&rows, nulls, &mut rng);
-    let columns = columns_of(&RECIPE_ROLES, &rows, length, nulls, &mut rng);
+    let rows = rows_of(Entry::of(Operation::Resize), load, &mut rng);
+    let second = right_of(&rows, load.nulls, &mut rng);
+    let columns = columns_of(&RECIPE_ROLES, &rows, load.length, load.nulls, &mut rng);
     let shown = RecipeShown { steps: RECIPE.to_vec(), lists: [rows, second], columns };
-    let input = recipe_input(&shown, &[layout_of(nulls, start)], &mut rng);
-    lend_recipe(&input, Room::Exact, &mut rng)
+    let input = recipe_input(&shown, &[layout_of(load)], &mut rng);
+    lend_typed(&input, Room::Exact, &mut rng)
 }
 
-/// Nanoseconds a call, over this many calls.
-fn time(library: &Library, case: &mut Case, repeats: u128) -> f64 {
-    let inputs: Vec<&[u8]> = case.inputs.iter().map(Vec::as_slice).collect();
-    let mut outputs: Vec<&mut [u8]> = case.outputs.iter_mut().map(Vec::as_mut_slice).collect();
-    let start = Instant::now();
-    for _ in 0..repeats {
-        let (lent, starts) = (black_box(&inputs), black_box(&case.starts));
-        let answer = library.call(case.entry, lent, starts, &mut outputs, &mut case.counts);
-        assert_eq!(black_box(answer), 0, "a benchmark call is accepted");
+// Sides.
+
+/// Bytes that are aligned for any number.
+struct Words {
+    words: Vec<u64>,
+    length: usize,
+}
+
+impl Words {
+    fn new(bytes: &[u8]) -> Words {
+        let mut words = Words { words: vec![0; bytes.len().div_ceil(8)], length: bytes.len() };
+        words.bytes_mut().copy_from_slice(bytes);
+        words
     }
-    start.elapsed().as_nanos() as f64 / repeats as f64
+
+    fn bytes(&self) -> &[u8] {
+        &bytes_of(&self.words)[..self.length]
+    }
+
+    fn bytes_mut(&mut self) -> &mut [u8] {
+        &mut bytes_of_mut(&mut self.words)[..self.length]
+    }
 }
 
-fn repeats_for(libraries: &[&Library], case: &mut Case) -> u128 {
-    let times = libraries.iter().map(|library| time(library, case, 2));
-    let one = times.fold(1.0, f64::max);
-    (ROUND_TIME.as_nanos() / one as u128).clamp(1, MOST_REPEATS)
+/// What does a call's work.
+#[derive(Clone, Copy)]
+enum Side<'a> {
+    Typed(&'a Typed),
+    Bytes(&'a Library),
+    /// Copies the bytes that the result has.
+    Memcpy,
 }
 
-/// All libraries must give the same bytes before they are timed.
-fn check_equal(libraries: &[&Library], case: &Case) {
-    let mut results = libraries.iter().map(|library| {
-        let mut case = case.clone();
-        time(library, &mut case, 1);
-        (case.outputs, case.counts)
-    });
-    let first = results.next();
-    assert!(results.all(|one| Some(one) == first), "all sides of the benchmark agree");
-}
-
-/// Times the port, which is the first library, and the others beside it.
-fn print_line(
-    name: &str,
-    libraries: &[&Library],
+/// A call in its buffers: its slices over bytes are the first of those of the typed call.
+struct Bench {
     entry: Entry,
-    (length, nulls, start): (usize, Nulls, u32),
-) {
-    let mut case = load(entry, length, nulls, start);
-    check_equal(libraries, &case);
-    let repeats = repeats_for(libraries, &mut case);
-    let mut least = vec![f64::INFINITY; libraries.len()];
-    let begun = Instant::now();
-    for round in 0..MOST_ROUNDS {
-        if round >= LEAST_ROUNDS && begun.elapsed() > LINE_TIME {
-            break;
-        }
-        for (least, library) in least.iter_mut().zip(libraries) {
-            *least = least.min(time(library, &mut case, repeats));
-        }
-    }
-    let offsets = usize::from(entry.is_recipe());
-    let rows = case.inputs[offsets].len() / 4 - 1;
-    print!("{name:<22} {length:>6} {rows:>6} {:>7} {start:>5}", nulls.name());
-    for time in &least {
-        print!(" {:>10.2}", time / 1000.0);
-    }
-    for time in &least[1..] {
-        print!(" {:>9.2}", least[0] / time);
-    }
-    println!();
+    typed_entry: Entry,
+    starts: Vec<usize>,
+    inputs: Vec<Words>,
+    outputs: Vec<Words>,
+    counts: Words,
+    /// The slices of the result, once the call has been made.
+    result: Vec<Words>,
 }
 
-fn print_lines(name: &str, libraries: &[&Library], entry: Entry) {
-    for length in [8, 100, 4000] {
-        for nulls in Nulls::ALL {
-            print_line(name, libraries, entry, (length, nulls, 0));
-            if nulls != Nulls::NoBitmaps {
-                print_line(name, libraries, entry, (length, nulls, 3));
+impl Bench {
+    fn new(case: &Case, typed: &Typed) -> Bench {
+        let typed_case = case.typed(ArgumentColumn::default);
+        let mut bench = Bench {
+            entry: case.entry,
+            typed_entry: typed_case.entry,
+            starts: typed_case.starts.clone(),
+            inputs: typed_case.inputs.iter().map(|slice| Words::new(slice)).collect(),
+            outputs: typed_case.outputs.iter().map(|slice| Words::new(slice)).collect(),
+            counts: Words::new(&typed_case.counts),
+            result: Vec::new(),
+        };
+        bench.time(Side::Typed(typed), 1);
+        let results = bench.entry.results();
+        let results = bench.outputs[results].iter();
+        bench.result = results.map(|slice| Words::new(slice.bytes())).collect();
+        bench
+    }
+
+    fn rows(&self) -> usize {
+        self.inputs[usize::from(self.entry.is_recipe())].length / 4 - 1
+    }
+
+    /// Nanoseconds a call, over this many calls.
+    fn time(&mut self, side: Side, repeats: u128) -> f64 {
+        let lent: Vec<&[u8]> = self.inputs.iter().map(Words::bytes).collect();
+        let mut outputs: Vec<&mut [u8]> = self.outputs.iter_mut().map(Words::bytes_mut).collect();
+        let counts = self.counts.bytes_mut();
+        let (inputs, bitmaps) = (self.entry.inputs().len(), self.entry.bitmaps().len());
+        let start = Instant::now();
+        for _ in 0..repeats {
+            let (lent, starts) = (black_box(&lent), black_box(&self.starts));
+            let answer = match side {
+                Side::Typed(typed) => {
+                    typed.call(self.typed_entry, lent, starts, &mut outputs, counts)
+                }
+                Side::Bytes(library) => {
+                    let (lent, starts) = (&lent[..inputs], &starts[..bitmaps]);
+                    library.call(self.entry, lent, starts, &mut outputs, counts)
+                }
+                Side::Memcpy => {
+                    let results = outputs[self.entry.results()].iter_mut();
+                    results.zip(&self.result).for_each(|(slot, from)| {
+                        slot.copy_from_slice(black_box(from.bytes()));
+                    });
+                    0
+                }
+            };
+            assert_eq!(black_box(answer), 0, "a benchmark call is accepted");
+        }
+        start.elapsed().as_nanos() as f64 / repeats as f64
+    }
+
+    /// All sides must give the same bytes before they are timed.
+    fn check_equal(&mut self, sides: &[Side]) {
+        let results = self.entry.results();
+        for side in sides {
+            self.outputs[results.clone()].iter_mut().for_each(|slice| slice.bytes_mut().fill(1));
+            self.time(*side, 1);
+            let same = self.outputs[results.clone()].iter().map(Words::bytes);
+            let same = same.eq(self.result.iter().map(Words::bytes));
+            assert!(same, "all sides of the benchmark agree");
+        }
+    }
+
+    /// The least nanoseconds a call of each side, in alternating rounds.
+    fn least(&mut self, sides: &[Side], large: bool) -> Vec<f64> {
+        let (rounds, most_time) =
+            if large { (LARGE_ROUNDS, LARGE_LINE_TIME) } else { (ROUNDS, LINE_TIME) };
+        self.check_equal(sides);
+        let one = sides.iter().map(|side| self.time(*side, 2)).fold(1.0, f64::max);
+        let repeats = (ROUND_TIME.as_nanos() / one as u128).clamp(1, MOST_REPEATS);
+        let mut least = vec![f64::INFINITY; sides.len()];
+        let begun = Instant::now();
+        for round in 0..rounds.end {
+            if round >= rounds.start && begun.elapsed() > most_time {
+                break;
+            }
+            for (least, side) in least.iter_mut().zip(sides) {
+                *least = least.min(self.time(*side, repeats));
             }
         }
+        least
     }
 }
 
-fn print_heading(times: &[&str], ratios: &[&str]) {
-    print!("{:<22} {:>6} {:>6} {:>7} {:>5}", "operation", "length", "rows", "nulls", "start");
-    times.iter().for_each(|name| print!(" {name:>10}"));
-    ratios.iter().for_each(|name| print!(" {name:>9}"));
+// Tables.
+
+/// The nanoseconds of each side for each load; none where it is not measured.
+struct Line {
+    name: &'static str,
+    times: Vec<Option<Vec<f64>>>,
+}
+
+/// What stands in a table: a name, and a figure of the times of a load.
+type Figure<'a> = (&'a str, &'a dyn Fn(&[f64]) -> f64);
+
+fn print_table((name, figure): Figure, loads: &[Load], lines: &[Line]) {
+    println!("\n{name}:\n");
+    print!("| Operation |");
+    loads.iter().for_each(|load| print!(" {}, {} |", load.length, load.nulls.name()));
+    println!("\n|---|{}", "---|".repeat(loads.len()));
+    for line in lines {
+        print!("| {} |", line.name);
+        for times in &line.times {
+            match times {
+                Some(times) => print!(" {:.2} |", figure(times)),
+                None => print!(" – |"),
+            }
+        }
+        println!();
+    }
+}
+
+fn loads(values: usize, start: usize) -> Vec<Load> {
+    let all = LENGTHS.iter().flat_map(|length| Nulls::ALL.map(|nulls| (*length, nulls)));
+    let lent = all.filter(|(_, nulls)| start == 0 || *nulls != Nulls::NoBitmaps);
+    lent.map(|(length, nulls)| Load { values, length, nulls, start }).collect()
+}
+
+/// Whether the operation compares each element of a row with others, which takes too long in a large
+/// column of long rows.
+fn is_quadratic(entry: Entry) -> bool {
+    let operation = entry.operation();
+    matches!(operation, Some(Operation::Distinct | Operation::Union | Operation::Intersect))
+}
+
+/// Measures these sides for each load, and prints the times as they come.
+fn measure(
+    entry: Entry,
+    name: &'static str,
+    sides: &[Side],
+    loads: &[Load],
+    typed: &Typed,
+) -> Line {
+    let mut times = Vec::new();
+    for one in loads {
+        let large = one.values > MOST_VALUES;
+        if large && one.length == 4000 && is_quadratic(entry) {
+            times.push(None);
+            continue;
+        }
+        let mut bench = Bench::new(&load(entry, *one), typed);
+        let least = bench.least(sides, large);
+        let Load { length, nulls, start, .. } = one;
+        print!("{name:<22} {length:>6} {:>7} {:>7} {start:>5}", bench.rows(), nulls.name());
+        least.iter().for_each(|time| print!(" {:>11.2}", time / 1000.0));
+        println!();
+        times.push(Some(least));
+    }
+    Line { name, times }
+}
+
+fn print_heading(what: &str, sides: &[&str]) {
+    println!("\n{what}, microseconds a call:");
+    print!("{:<22} {:>6} {:>7} {:>7} {:>5}", "operation", "length", "rows", "nulls", "start");
+    sides.iter().for_each(|name| print!(" {name:>11}"));
     println!();
 }
 
-pub fn print(port: &Library) {
-    println!(
-        "microseconds a call, the least of {LEAST_ROUNDS} to {MOST_ROUNDS} alternating rounds"
-    );
-    println!("in place: the plain Rust reads and writes numbers where they lie");
-    println!("decoded: it decodes into arrays on the stack, and encodes, as the port does");
+/// The operations, and a recipe, or the one that is wanted.
+fn subjects(wanted: Option<&str>) -> Vec<(Entry, &'static str)> {
+    let recipe = Entry::RECIPE.with_columns(RECIPE_ROLES.len());
+    let operations = Entry::all().map(|entry| (entry, entry.name()));
+    let all = operations.chain([(recipe, "recipe of 8 steps")]);
+    all.filter(|(entry, _)| wanted.is_none_or(|name| name == entry.name())).collect()
+}
+
+pub fn print(port: &Library, wanted: Option<&str>) {
+    let (Some(typed), Some(plain)) = (&port.typed, &plain::LIBRARY.typed) else {
+        return println!("no typed entries in the archive");
+    };
+    println!("the least of {ROUNDS:?} alternating rounds, {LARGE_ROUNDS:?} for large columns");
+    println!("plain: plain safe Rust reads and writes the same numbers where they lie");
+    println!("memcpy: a copy of the bytes that the result has, offsets and bitmaps too");
+    println!("bytes: the byte entry of the port, which decodes and encodes");
+    println!("decoded: plain safe Rust that decodes and encodes as the byte entry does");
     println!("start: the starting bit of all bitmaps lent");
-    println!("the buffers are not cleared between calls");
-    print_heading(&["port", "in place", "decoded"], &["/in place", "/decoded"]);
-    for entry in port.operations() {
-        print_lines(entry.name(), &[port, &plain::LIBRARY, &decoded::LIBRARY], entry);
+    let subjects = subjects(wanted);
+    print_small(&subjects, port, typed, plain);
+    print_large(&subjects, typed, plain);
+}
+
+/// Operations with their names.
+type Subjects<'a> = &'a [(Entry, &'static str)];
+
+fn print_small(subjects: Subjects, port: &Library, typed: &Typed, plain: &Typed) {
+    let bytes = [Side::Bytes(port), Side::Bytes(&decoded::LIBRARY)];
+    let sides = [&[Side::Typed(typed), Side::Typed(plain), Side::Memcpy][..], &bytes].concat();
+    let what = format!("{MOST_VALUES} values, or half of that where the result grows");
+    print_heading(&what, &["typed", "plain", "memcpy", "bytes", "decoded"]);
+    let (from_0, from_3) = (loads(MOST_VALUES, 0), loads(MOST_VALUES, 3));
+    let (mut lines, mut lines_from_3) = (Vec::new(), Vec::new());
+    for (entry, name) in subjects {
+        lines.push(measure(*entry, name, &sides, &from_0, typed));
+        lines_from_3.push(measure(*entry, name, &sides, &from_3, typed));
     }
-    let recipe = Entry::RECIPE.with_columns(RECIPE_ROLES.len() as u32);
-    if port.has(recipe) {
-        print_lines("recipe of 8 steps", &[port, &plain::LIBRARY, &decoded::LIBRARY], recipe);
+    println!("\n{what}");
+    print_table(("typed, microseconds a call", &|times| times[0] / 1000.0), &from_0, &lines);
+    let figures: [Figure; 4] = [
+        ("typed / plain in place", &|times| times[0] / times[1]),
+        ("typed / memcpy", &|times| times[0] / times[2]),
+        ("bytes / typed", &|times| times[3] / times[0]),
+        ("bytes / plain that decodes", &|times| times[3] / times[4]),
+    ];
+    figures.into_iter().for_each(|figure| print_table(figure, &from_0, &lines));
+    let figure: Figure =
+        ("typed / plain in place, all bitmaps from bit 3", &|times| times[0] / times[1]);
+    print_table(figure, &from_3, &lines_from_3);
+    if subjects.iter().any(|(entry, _)| entry.operation() == Some(Operation::Distinct)) {
+        print_by_set(typed, plain, &from_0);
     }
-    let distinct = Entry::List(1);
-    if port.has(distinct) {
-        let by_set = Library { list: Some(plain::distinct_by_set), ..Library::EMPTY };
-        print_heading(&["port", "hash set"], &["/hash set"]);
-        print_lines("distinct", &[port, &by_set], distinct);
-    }
-    port.print_absent();
+}
+
+/// Distinct beside plain Rust with a set on the heap.
+fn print_by_set(typed: &Typed, plain: &Typed, loads: &[Load]) {
+    let by_set = Typed { list: plain::typed_distinct_by_set, ..*plain };
+    let sides = [Side::Typed(typed), Side::Typed(&by_set)];
+    print_heading("distinct beside a hash set on the heap", &["typed", "hash set"]);
+    let line = measure(Entry::of(Operation::Distinct), "distinct", &sides, loads, typed);
+    print_table(("typed / hash set", &|times| times[0] / times[1]), loads, &[line]);
+}
+
+fn print_large(subjects: Subjects, typed: &Typed, plain: &Typed) {
+    let sides = [Side::Typed(typed), Side::Typed(plain), Side::Memcpy];
+    let what = format!("{LARGE_VALUES} values, or half of that where the result grows");
+    print_heading(&what, &["typed", "plain", "memcpy"]);
+    let loads = loads(LARGE_VALUES, 0);
+    let measured = subjects.iter();
+    let lines: Vec<Line> =
+        measured.map(|(entry, name)| measure(*entry, name, &sides, &loads, typed)).collect();
+    println!("\n{what}");
+    let figures: [Figure; 3] = [
+        ("typed, microseconds a call", &|times| times[0] / 1000.0),
+        ("typed / plain in place", &|times| times[0] / times[1]),
+        ("typed / memcpy", &|times| times[0] / times[2]),
+    ];
+    figures.into_iter().for_each(|figure| print_table(figure, &loads, &lines));
 }

@@ -1,45 +1,73 @@
-//! One call against the model: the answer, every byte written, every byte kept, and the bytes
-//! around each lent slice. Nulls of a result are compared by bitmap; beside that, each of its null
-//! slots must hold the one number that it has to. A case that differs is printed whole.
+//! One call against the model, over bytes and typed: the answer, every byte written, every byte
+//! kept, and the bytes around each lent slice. Nulls of a result are compared by bitmap; beside that,
+//! each of its null slots must hold the one number that it has to. A case that differs is printed
+//! whole.
 
 use crate::coverage::{self, Coverage, SHARED};
 use crate::entry::{decode_i32, decode_i64, decode_tally, decode_u32};
-use crate::entry::{Case, Content, Expected, Input, SliceKind, TALLY, TALLY_BYTES};
+use crate::entry::{Case, Content, Expected, Input, Route, SliceKind, TALLY, TALLY_BYTES};
+use crate::generate::untaken_column;
 use crate::library::Library;
-use crate::model::{is_valid, Tally, UNDER_NULL};
+use crate::model::{is_valid, ArgumentColumn, Tally, UNDER_NULL};
+use crate::numbers::{bytes_of, bytes_of_mut};
 use crate::recipe_coverage;
+use crate::rng::Rng;
 use std::borrow::Cow;
 use std::ops::Range;
 
-/// Bytes before, between and behind the slices; an odd number, so that slices start anywhere.
-const GUARD: [u8; 13] = [0xa5; 13];
+/// Bytes before, between and behind the slices, at least; an odd number, so that slices of bytes
+/// start anywhere.
+const GUARD: usize = 13;
+
+/// What stands in them.
+const GUARD_BYTES: [u8; 8] = [0xa5; 8];
 
 /// Slices of one side of a call in one buffer, with guard bytes around each.
 #[derive(Clone, PartialEq)]
 struct Arena {
-    bytes: Vec<u8>,
+    words: Vec<u64>,
     spans: Vec<Range<usize>>,
 }
 
+/// The next place of a slice whose numbers have this width, aligned no better than it must be.
+fn place_from(end: usize, width: usize) -> usize {
+    if width == 1 {
+        end
+    } else {
+        end.next_multiple_of(2 * width) + width
+    }
+}
+
 impl Arena {
-    fn new<'a>(slices: impl Iterator<Item = &'a Vec<u8>>) -> Arena {
-        let mut arena = Arena { bytes: GUARD.to_vec(), spans: Vec::new() };
-        for slice in slices {
-            let start = arena.bytes.len();
-            arena.bytes.extend_from_slice(slice);
-            arena.spans.push(start..arena.bytes.len());
-            arena.bytes.extend_from_slice(&GUARD);
+    /// Slices with the width for which they are aligned.
+    fn new(slices: &[(&Vec<u8>, usize)]) -> Arena {
+        let mut end = GUARD;
+        let mut spans = Vec::new();
+        for (slice, width) in slices {
+            let start = place_from(end, *width);
+            spans.push(start..start + slice.len());
+            end = start + slice.len() + GUARD;
+        }
+        let words = vec![u64::from_le_bytes(GUARD_BYTES); end.div_ceil(8)];
+        let mut arena = Arena { words, spans };
+        for (at, (slice, _)) in slices.iter().enumerate() {
+            arena.write(at, slice);
         }
         arena
     }
 
+    fn bytes(&self) -> &[u8] {
+        bytes_of(&self.words)
+    }
+
     fn slices(&self) -> Vec<&[u8]> {
-        self.spans.iter().map(|span| &self.bytes[span.clone()]).collect()
+        let bytes = self.bytes();
+        self.spans.iter().map(|span| &bytes[span.clone()]).collect()
     }
 
     fn slices_mut(&mut self) -> Vec<&mut [u8]> {
         let mut slices = Vec::new();
-        let mut rest = &mut self.bytes[..];
+        let mut rest = bytes_of_mut(&mut self.words);
         let mut at = 0;
         for span in &self.spans {
             let (_, behind) = rest.split_at_mut(span.start - at);
@@ -53,11 +81,12 @@ impl Arena {
 
     /// Whether the guard bytes are the same.
     fn equal_outside(&self, other: &Arena) -> bool {
+        let (bytes, others) = (self.bytes(), other.bytes());
         let mut at = 0;
-        let starts = self.spans.iter().map(|span| span.start).chain([self.bytes.len()]);
+        let starts = self.spans.iter().map(|span| span.start).chain([bytes.len()]);
         let ends = self.spans.iter().map(|span| span.end).chain([0]);
         starts.zip(ends).all(|(start, next)| {
-            let equal = self.bytes[at..start] == other.bytes[at..start];
+            let equal = bytes[at..start] == others[at..start];
             at = next;
             equal
         })
@@ -70,7 +99,7 @@ impl Arena {
 
     fn write_at(&mut self, slice: usize, at: usize, bytes: &[u8]) {
         let start = self.spans[slice].start + at;
-        self.bytes[start..start + bytes.len()].copy_from_slice(bytes);
+        bytes_of_mut(&mut self.words)[start..start + bytes.len()].copy_from_slice(bytes);
     }
 }
 
@@ -84,33 +113,68 @@ pub struct Observed {
     pub tally: Option<Tally>,
 }
 
+/// How calls are made and differences told.
+#[derive(Clone)]
+pub struct Manner {
+    /// The words that run the same calls again.
+    pub replay: String,
+    /// The ways in which each call is made.
+    pub routes: Vec<Route>,
+    pub trace: bool,
+    /// Whether the program ends at the first difference.
+    pub stop: bool,
+    /// Whether each slice is lent as an allocation of its own, so that memcheck sees what is read
+    /// outside it.
+    pub apart: bool,
+}
+
 /// Makes calls, compares them and keeps the record of the group that is running.
 pub struct Checker<'a> {
     pub library: &'a Library,
-    /// The words that run the same calls again.
-    replay: String,
-    trace: bool,
-    /// Whether the program ends at the first difference.
-    stop: bool,
+    manner: Manner,
     group: String,
+    /// For the argument columns that a typed operation is lent and does not take.
+    rng: Rng,
+    /// The calls that the group makes, each of them over bytes, typed or both.
     pub calls: u64,
+    pub over_bytes: u64,
+    pub typed: u64,
     pub differences: u64,
+    /// Whether inputs of equal bytes are lent as one slice.
+    pub shares: bool,
     /// Whether it is recorded what the calls reach.
     pub records: bool,
     pub coverage: Coverage,
 }
 
 impl<'a> Checker<'a> {
-    pub fn new(library: &'a Library, replay: String, trace: bool, stop: bool) -> Checker<'a> {
-        let (group, coverage) = (String::new(), Coverage::default());
-        let (calls, differences, records) = (0, 0, true);
-        Checker { library, replay, trace, stop, group, calls, differences, records, coverage }
+    pub fn new(library: &'a Library, manner: Manner) -> Checker<'a> {
+        Checker {
+            library,
+            manner,
+            group: String::new(),
+            rng: Rng::new(0, ""),
+            calls: 0,
+            over_bytes: 0,
+            typed: 0,
+            differences: 0,
+            shares: false,
+            records: true,
+            coverage: Coverage::default(),
+        }
     }
 
     pub fn start_group(&mut self, name: &str) {
         self.group = name.to_string();
-        self.calls = 0;
-        self.differences = 0;
+        self.rng = Rng::new(0, name);
+        (self.calls, self.over_bytes, self.typed, self.differences) = (0, 0, 0, 0);
+        self.shares = false;
+    }
+
+    /// Whether calls are made this way.
+    pub fn makes(&self, route: Route) -> bool {
+        let can = route == Route::Bytes || self.library.typed.is_some();
+        can && self.manner.routes.contains(&route)
     }
 
     pub fn covered(
@@ -124,42 +188,138 @@ impl<'a> Checker<'a> {
         }
     }
 
-    /// Makes the call and compares everything with the model.
-    pub fn check(&mut self, case: &Case) -> Observed {
+    fn begin_call(&mut self) {
         self.calls += 1;
-        if self.trace {
+        if self.manner.trace {
             eprintln!("{}: call {}", self.group, self.calls);
         }
+    }
+
+    /// Makes the call, over bytes and typed, and compares everything with the model; what is
+    /// observed over bytes is given, or typed where that alone is done.
+    pub fn check(&mut self, case: &Case) -> Observed {
+        self.begin_call();
         let expected = case.expected();
         if self.records {
             self.record_coverage(case, &expected);
         }
-        let inputs = Arena::new(case.inputs.iter());
-        let lent = Arena::new(case.outputs.iter().chain([&case.counts]));
+        let mut observed = None;
+        if self.makes(Route::Bytes) {
+            observed = Some(self.compare(Route::Bytes, case, &expected));
+        }
+        if self.makes(Route::Typed) {
+            let typed_case = self.typed_case(case);
+            let is_own = expected.number >= 100;
+            let typed_expected = if is_own { typed_case.expected_typed() } else { expected };
+            let typed = self.compare_typed(case, &typed_case, &typed_expected);
+            let first = observed.get_or_insert_with(|| typed.clone());
+            let alike = is_own || *first == typed;
+            self.require(alike, &typed_case, "not answered typed as over bytes");
+        }
+        observed.expect("a call is made in one way at least")
+    }
+
+    /// Makes a call that is for the typed entries alone.
+    pub fn check_typed(&mut self, case: &Case) -> Observed {
+        self.begin_call();
+        let typed_case = self.typed_case(case);
+        let expected = typed_case.expected_typed();
+        self.compare_typed(case, &typed_case, &expected)
+    }
+
+    /// The same, where the model has said already what the call comes to.
+    pub fn check_typed_as(&mut self, case: &Case, expected: &Expected) -> Observed {
+        self.begin_call();
+        let typed_case = self.typed_case(case);
+        self.compare_typed(case, &typed_case, expected)
+    }
+
+    fn typed_case(&mut self, case: &Case) -> Case {
+        let rows = case.row_count();
+        case.typed(|| match self.rng.below(2) {
+            0 => ArgumentColumn::default(),
+            _ => untaken_column(rows.min(40), &mut self.rng),
+        })
+    }
+
+    fn compare_typed(&mut self, case: &Case, typed_case: &Case, expected: &Expected) -> Observed {
+        if self.records {
+            for subject in coverage::typed_met(case, typed_case, expected.number) {
+                self.covered(case, "typed", subject);
+            }
+        }
+        self.compare(Route::Typed, typed_case, expected)
+    }
+
+    /// Makes the call in one way.
+    fn compare(&mut self, route: Route, case: &Case, expected: &Expected) -> Observed {
+        match route {
+            Route::Bytes => self.over_bytes += 1,
+            Route::Typed => self.typed += 1,
+        }
+        let inputs = Arena::new(&case.aligned_inputs(route));
+        let lent = Arena::new(&case.aligned_outputs(route));
         let mut inputs_after = inputs.clone();
         let mut after = lent.clone();
-        let number = call(self.library, case, &mut inputs_after, &mut after);
+        let number = self.call(route, case, &mut inputs_after, &mut after);
 
         let mut wanted = lent;
         for (slice, bytes) in expected.written.iter().enumerate() {
             wanted.write(slice, bytes);
         }
         wanted.write(case.outputs.len(), &expected.counts);
-        let mut faults = null_slot_faults(case, &expected, &after);
-        leave_nulls(case, &expected, &mut wanted, &after);
+        let mut faults = null_slot_faults(case, expected, &after);
+        leave_nulls(case, expected, &mut wanted, &after);
         if number != expected.number {
             faults.push(format!("answered {number}, expected {}", expected.number));
         }
         if after != wanted {
-            faults.extend(output_faults(case, &expected, &wanted, &after));
+            faults.extend(output_faults(case, expected, &wanted, &after));
         }
         if inputs_after != inputs {
             faults.push("the inputs, or the bytes around them, were changed".to_string());
         }
         if !faults.is_empty() {
+            faults.insert(0, format!("called {}", route.name()));
             self.report(case, &faults);
         }
         observed(case, number, &after)
+    }
+
+    /// Lends copies of the inputs too, so that a write to them is seen.
+    fn call(&self, route: Route, case: &Case, inputs: &mut Arena, outputs: &mut Arena) -> u32 {
+        let (mut lent, mut slices) = (inputs.slices(), outputs.slices_mut());
+        if self.shares {
+            share_equal(&mut lent, case);
+        }
+        if !self.manner.apart {
+            return self.call_with(route, case, &lent, &mut slices);
+        }
+        let owned: Vec<Vec<u8>> = lent.iter().map(|slice| slice.to_vec()).collect();
+        let mut results: Vec<Vec<u8>> = slices.iter().map(|slice| slice.to_vec()).collect();
+        let lent: Vec<&[u8]> = owned.iter().map(Vec::as_slice).collect();
+        let mut lent_results: Vec<&mut [u8]> = results.iter_mut().map(Vec::as_mut_slice).collect();
+        let number = self.call_with(route, case, &lent, &mut lent_results);
+        for (slice, result) in slices.iter_mut().zip(&results) {
+            slice.copy_from_slice(result);
+        }
+        number
+    }
+
+    fn call_with(
+        &self,
+        route: Route,
+        case: &Case,
+        lent: &[&[u8]],
+        slices: &mut [&mut [u8]],
+    ) -> u32 {
+        let (counts, outputs) = slices.split_last_mut().expect("counts are always lent");
+        match (route, &self.library.typed) {
+            (Route::Typed, Some(typed)) => {
+                typed.call(case.entry, lent, &case.starts, outputs, counts)
+            }
+            _ => self.library.call(case.entry, lent, &case.starts, outputs, counts),
+        }
     }
 
     /// Calls that start from equal things, whatever the bytes that are not shown hold, must share
@@ -208,12 +368,12 @@ impl<'a> Checker<'a> {
             return;
         }
         println!("DIFFERENCE in group '{}', call {}", self.group, self.calls);
-        println!("  replay: harness {} --group '{}'", self.replay, self.group);
+        println!("  replay: harness {} --group '{}'", self.manner.replay, self.group);
         for fault in faults {
             println!("  {fault}");
         }
         print_case(case);
-        if self.stop {
+        if self.manner.stop {
             println!("FAILED {}: ended at the first difference", self.group);
             std::process::exit(1);
         }
@@ -280,11 +440,15 @@ impl<'a> Checker<'a> {
     }
 }
 
-/// Lends copies of the inputs too, so that a write to them is seen.
-fn call(library: &Library, case: &Case, inputs: &mut Arena, outputs: &mut Arena) -> u32 {
-    let mut slices = outputs.slices_mut();
-    let (counts, outputs) = slices.split_last_mut().expect("counts are always lent");
-    library.call(case.entry, &inputs.slices(), &case.starts, outputs, counts)
+/// Lends the first of several inputs with equal bytes for all of them.
+fn share_equal(lent: &mut [&[u8]], case: &Case) {
+    let widths: Vec<usize> = case.entry.inputs().iter().map(|kind| kind.typed_width()).collect();
+    for at in 1..lent.len() {
+        let is_equal = |one: &usize| widths[*one] == widths[at] && lent[*one] == lent[at];
+        if let Some(first) = (0..at).find(is_equal) {
+            lent[at] = lent[first];
+        }
+    }
 }
 
 /// The slots of the values that an accepted call writes.
@@ -355,8 +519,13 @@ fn output_faults(case: &Case, expected: &Expected, wanted: &Arena, after: &Arena
         let (is, should) = (after[byte], wanted[byte]);
         faults.push(format!("{name}: byte {byte}, {part}, is {is:#04x}, should be {should:#04x}"));
         let kind = case.entry.outputs().get(slice).copied().unwrap_or(COUNTS);
-        faults.push(format!("{name} should be {}", show(kind, wanted)));
-        faults.push(format!("{name} are now   {}", show(kind, after)));
+        let part = part_about(byte, kind.width, wanted.len());
+        let from = match part.start {
+            0 => String::new(),
+            start => format!(" from slot {}", start / kind.width),
+        };
+        faults.push(format!("{name}{from} should be {}", show(kind, &wanted[part.clone()])));
+        faults.push(format!("{name}{from} are now   {}", show(kind, &after[part])));
     }
     if !wanted.equal_outside(after) {
         faults.push("bytes outside the lent output slices were changed".to_string());
@@ -367,8 +536,26 @@ fn output_faults(case: &Case, expected: &Expected, wanted: &Arena, after: &Arena
 const COUNTS: SliceKind =
     SliceKind { name: "counts", content: Content::Values, width: 8, most: None };
 
-/// The numbers of a slice, and the bytes of a ragged end.
+/// The most slots that are printed of a slice.
+const MOST_SHOWN: usize = 500;
+
+/// The bytes to be printed of a slice of this length, about one of them.
+fn part_about(byte: usize, width: usize, length: usize) -> Range<usize> {
+    let (slots, shown) = (length / width, MOST_SHOWN / 2);
+    if slots <= MOST_SHOWN {
+        return 0..length;
+    }
+    let first = (byte / width).min(slots).saturating_sub(shown / 2);
+    first * width..(first + shown).min(slots) * width
+}
+
+/// The numbers of a slice, the first ones if there are many, and the bytes of a ragged end.
 fn show(kind: SliceKind, bytes: &[u8]) -> String {
+    let slots = bytes.len() / kind.width;
+    if slots > MOST_SHOWN && kind.content != Content::Tally {
+        let part = part_about(0, kind.width, bytes.len());
+        return format!("{} and so on, {slots} in all", show(kind, &bytes[part]));
+    }
     let ragged = &bytes[bytes.len() - bytes.len() % kind.width..];
     let slots = match kind.content {
         Content::Offsets => format!("{:?}", decode_i32(bytes)),
@@ -387,7 +574,7 @@ fn show(kind: SliceKind, bytes: &[u8]) -> String {
 }
 
 fn print_case(case: &Case) {
-    println!("  operation {} ({:?})", case.entry.name(), case.entry);
+    println!("  operation {} ({:?})", case.entry.typed_name(), case.entry);
     let mut starts = case.starts.iter();
     for (kind, bytes) in case.entry.inputs().into_iter().zip(&case.inputs) {
         let start = if kind.content == Content::Bits { starts.next() } else { None };

@@ -6,7 +6,9 @@
 //! written out by hand with what they become, so that it also checks the model: a row that becomes
 //! something else leaves a demand unmet.
 
-use crate::entry::{decode_i64, Case, Content, Entry, Expected, Input, SliceKind};
+use crate::entry::{decode_i32, decode_i64};
+use crate::entry::{Case, Content, Entry, Expected, Input, SliceKind};
+use crate::entry::{NOT_SERVED, TALLY, TALLY_BYTES, TRAYS};
 use crate::generate::{Column, Harm};
 use crate::library::Library;
 use crate::model::{
@@ -200,7 +202,7 @@ pub fn argument_layouts(argument: &ArgumentColumn) -> Vec<&'static str> {
 
 /// A 1 behind the last position, in its byte.
 fn has_spare_bit(bitmap: &Bitmap, positions: usize) -> bool {
-    let end = bitmap.start as usize + positions;
+    let end = bitmap.start + positions;
     end % 8 != 0 && !bitmap.bytes.is_empty() && bitmap.bytes[end / 8] >> (end % 8) != 0
 }
 
@@ -226,7 +228,7 @@ pub fn starts_met(case: &Case, number: u32) -> Vec<String> {
     match number {
         0 => bitmaps.retain(|(_, _, _, positions)| *positions > 0),
         2 => bitmaps.retain(|(_, bytes, start, positions)| {
-            !bytes.is_empty() && bytes.len() * 8 < *start as usize + positions
+            !bytes.is_empty() && bytes.len() * 8 < *start + positions
         }),
         13 => bitmaps.retain(|(_, _, start, _)| *start > 7),
         _ => return Vec::new(),
@@ -237,7 +239,7 @@ pub fn starts_met(case: &Case, number: u32) -> Vec<String> {
     let mut met = Vec::new();
     for (name, bytes, start, positions) in bitmaps {
         let is_absent = bytes.is_empty();
-        if number != 2 || bytes.len() * 8 + 1 == start as usize + positions {
+        if number != 2 || bytes.len() * 8 + 1 == start + positions {
             met.push(start_name(name, start, is_absent, number));
         }
         if number == 13 && case.entry.is_recipe() && case.entry.recipe().1 == 0 {
@@ -247,7 +249,7 @@ pub fn starts_met(case: &Case, number: u32) -> Vec<String> {
     met
 }
 
-fn start_name(bitmap: &str, start: u32, is_absent: bool, number: u32) -> String {
+fn start_name(bitmap: &str, start: usize, is_absent: bool, number: u32) -> String {
     let absent = if is_absent { " absent" } else { "" };
     match number {
         13 => format!("{bitmap}{absent} over 7"),
@@ -392,6 +394,105 @@ fn is_at_size(kind: SliceKind, bytes: &[u8]) -> bool {
 pub fn slices_at_size(case: &Case) -> Vec<&'static str> {
     let at_size = case.slices().into_iter().filter(|(kind, bytes)| is_at_size(*kind, bytes));
     at_size.map(|(kind, _)| kind.name).collect()
+}
+
+// Typed calls.
+
+/// What a typed call may have that a call over bytes has not, or is refused for by the byte entry.
+const TYPED: [&str; 10] = [
+    "offsets over the byte entry's",
+    "values over the byte entry's",
+    "result over the byte entry's",
+    "a row of 100000 elements",
+    "a null row over 100000 values",
+    "a million rows",
+    "a million values",
+    "a large column from above 0 to before the end",
+    "counts longer",
+    "columns not taken",
+];
+
+/// The typed answer, and what of the above an accepted call has.
+pub fn typed_met(case: &Case, typed: &Case, number: u32) -> Vec<Cow<'static, str>> {
+    let answer = Cow::Owned(format!("answer {number}"));
+    let met = match number {
+        0 => accepted_typed_met(case, typed),
+        NOT_SERVED => not_served_met(typed),
+        _ => Vec::new(),
+    };
+    [answer].into_iter().chain(met.into_iter().map(Cow::Borrowed)).collect()
+}
+
+const FOR_CODE: &str = "100 for the code";
+
+/// Why a typed entry answers 100 by itself, where one cause alone holds; and the trays before it.
+const FOR_PLACES: [&str; 3] =
+    ["100 for the counts", "100 for the tally", "100, trays dirty before"];
+
+fn not_served_met(typed: &Case) -> Vec<&'static str> {
+    let entry = typed.entry;
+    if !entry.is_recipe() && entry.typed_operation().is_none() {
+        return vec![FOR_CODE];
+    }
+    let short_counts = typed.counts.len() < entry.count_bytes();
+    let short_tally = entry.is_recipe() && typed.outputs[TALLY].len() < TALLY_BYTES;
+    let mut trays = typed.outputs.iter().take(if entry.is_recipe() { TRAYS.end } else { 0 });
+    let holds = [
+        short_counts && !short_tally,
+        short_tally && !short_counts,
+        trays.any(|tray| tray.iter().any(|byte| *byte != 0)),
+    ];
+    chosen(FOR_PLACES, holds)
+}
+
+fn accepted_typed_met(case: &Case, typed: &Case) -> Vec<&'static str> {
+    let entry = case.entry;
+    let first = usize::from(entry.is_recipe());
+    let values = case.inputs[first + 2].len() / 8;
+    let offsets = if values < 100_000 { Vec::new() } else { decode_i32(&case.inputs[first]) };
+    let rows = Bitmap { bytes: case.inputs[first + 1].clone(), start: case.starts[0] };
+    let wide = offsets.windows(2).enumerate().filter(|(_, pair)| pair[1] - pair[0] >= 100_000);
+    let wide: Vec<bool> = wide.map(|(row, _)| rows.is_valid(row)).collect();
+    let (kinds, results) = (entry.inputs(), entry.results());
+    let answer = &entry.outputs()[results.clone()];
+    let holds = [
+        is_over(Content::Offsets, &kinds, &case.inputs),
+        is_over(Content::Values, &kinds, &case.inputs),
+        is_over(answer[answer.len() - 2].content, answer, &case.outputs[results]),
+        wide.contains(&true),
+        wide.contains(&false),
+        case.row_count() >= 1_000_000,
+        values >= 1_000_000,
+        offsets.first() > Some(&0) && offsets.last() < Some(&(values as i32)),
+        typed.counts.len() > entry.count_bytes(),
+        typed.inputs.len() > case.inputs.len() && !typed.inputs[case.inputs.len()].is_empty(),
+    ];
+    chosen(TYPED, holds)
+}
+
+/// Whether one of these slices has such content, and more of it than the byte entry takes.
+fn is_over(content: Content, kinds: &[SliceKind], slices: &[Vec<u8>]) -> bool {
+    let is_over = |(kind, bytes): (&SliceKind, &Vec<u8>)| {
+        let most = kind.most.unwrap_or(usize::MAX);
+        kind.content == content && bytes.len() / kind.width > most
+    };
+    kinds.iter().zip(slices).any(is_over)
+}
+
+/// What typed calls must reach: all answers, and what the byte entry does not take.
+pub fn demanded_typed(entry: Entry, answers: &[u32]) -> Vec<(&'static str, String)> {
+    let is_own = |number: &&u32| **number < 100;
+    let mut all: Vec<String> =
+        answers.iter().filter(is_own).map(|number| format!("answer {number}")).collect();
+    let is_met = |name: &&str| match *name {
+        "columns not taken" => matches!(entry, Entry::List(_)),
+        "a million rows" => !entry.is_recipe(),
+        "100 for the tally" | "100, trays dirty before" => entry.is_recipe(),
+        _ => true,
+    };
+    let named = TYPED.into_iter().chain(FOR_PLACES).filter(is_met);
+    all.extend(named.map(str::to_string));
+    all.into_iter().map(|subject| ("typed", subject)).collect()
 }
 
 // Rows.
@@ -858,9 +959,7 @@ fn unequal_columns(input: &Input) -> Vec<Column> {
         Column::Argument(at) => {
             let values = input.arguments[at].values.len();
             match input.entry {
-                Entry::Recipe { columns, .. } => {
-                    values as u128 != u128::from(columns) * rows as u128
-                }
+                Entry::Recipe { columns, .. } => values as u128 != columns as u128 * rows as u128,
                 entry => !model::suits(entry.roles()[at], values, rows),
             }
         }
@@ -1180,7 +1279,7 @@ fn demanded_of_rows(operation: Operation) -> Vec<&'static str> {
 }
 
 /// The answers that can be reached for an operation. Union's 8 takes more than 2147483647 elements
-/// in its result, and its entry takes no more than 16384 values for it and in each list.
+/// in its result, of which the byte entry takes 16384, and a typed call would be lent 17 GB.
 pub fn answers(entry: Entry) -> Vec<u32> {
     let others = entry.lists() + entry.roles().len() > 1;
     let operation = entry.known_operation();
@@ -1256,8 +1355,8 @@ fn demanded(entry: Entry) -> Vec<(&'static str, String)> {
         all.extend(subjects.into_iter().map(|subject| (kind, subject)));
     };
     let owned = |subjects: &[&str]| subjects.iter().map(|one| one.to_string()).collect();
-    let answers = answers(entry).into_iter().filter(|one| *one != 102);
-    add("answer", answers.map(|number| number.to_string()).collect());
+    let numbers = answers(entry).into_iter().filter(|one| *one != 102);
+    add("answer", numbers.map(|number| number.to_string()).collect());
     add("rows", ROW_COUNTS.iter().map(|(_, name)| name.to_string()).collect());
     add("layout", demanded_layouts(entry));
     add("outputs", owned(&OUTPUT_LENGTHS));
@@ -1275,6 +1374,7 @@ fn demanded(entry: Entry) -> Vec<(&'static str, String)> {
     all.extend(demanded_no_offsets(entry));
     all.extend(demanded_null_slots());
     all.extend(demanded_starts(entry, &shared_answers(entry)));
+    all.extend(demanded_typed(entry, &answers(entry)));
     all
 }
 
@@ -1310,8 +1410,10 @@ impl Coverage {
                 }
             }
         }
-        if !self.reached("unknown", "answer", "102") {
-            missing.push("unknown operations: answer 102".to_string());
+        for (kind, subject) in [("answer", "102"), ("typed", FOR_CODE)] {
+            if !self.reached("unknown", kind, subject) {
+                missing.push(format!("unknown operations: {kind} {subject}"));
+            }
         }
         missing
     }
@@ -1344,7 +1446,7 @@ impl Coverage {
             println!("not reachable, and not demanded:");
             println!(
                 "  union, alone or in a recipe, answer 8: its result would exceed 2147483647 \
-                 elements, and the entry takes 16384 values for it and in each list"
+                 elements, where the byte entry takes 16384 and a typed call 17 GB of values"
             );
         }
     }

@@ -15,6 +15,7 @@ pub const LIBRARY: Library = Library {
     list_with: Some(list_with),
     list_repeat: Some(list_repeat),
     recipe: Some(recipe),
+    typed: None,
 };
 
 fn decode_i32<'a>(bytes: &[u8], array: &'a mut [i32]) -> &'a [i32] {
@@ -266,7 +267,7 @@ fn recipe(
             values: &mut results.values[..r2.len() / 8],
             elements: r3,
         };
-        let counts = plain::run_recipe(columns, numbers, &lent, trays, output)?;
+        let counts = plain::run_recipe(columns as usize, numbers, &lent, trays, output)?;
         encode_i32(&results.offsets[..=counts[0] as usize], r0);
         encode_i64(&results.values[..counts[1] as usize], r2);
         Ok(counts)

@@ -1,15 +1,37 @@
-//! The names of the deliberately wrong versions of the library, which mock.rs, mock_rows.rs and
-//! mock_recipe.rs ask for.
+//! The names of the deliberately wrong versions of the library, which mock.rs, mock_rows.rs,
+//! mock_recipe.rs and mock_typed.rs ask for.
 
 use crate::entry::{Content, Entry};
 use std::sync::OnceLock;
 
+/// The calls that must report a wrong version.
+#[derive(Clone, Copy, PartialEq)]
+enum By {
+    /// All that are made, over bytes and typed.
+    All,
+    Bytes,
+    Typed,
+    /// Those of the groups for what typed calls alone meet.
+    TypedGroups,
+}
+
+impl By {
+    fn name(self) -> &'static str {
+        match self {
+            By::All => "all",
+            By::Bytes => "bytes",
+            By::Typed => "typed",
+            By::TypedGroups => "typed-groups",
+        }
+    }
+}
+
+/// Wrong versions that calls over bytes and typed calls must report by themselves; any group may.
+const OF_EACH_ROUTE: [&[&str]; 3] = [COLUMN_DEFECTS, START_DEFECTS, RESULT_DEFECTS];
+
 /// The wrong versions, each with the operation whose groups must report it; where none is named,
 /// any group may.
 const DEFECTS: &[(&str, &[&str])] = &[
-    (ANY, COLUMN_DEFECTS),
-    (ANY, START_DEFECTS),
-    (ANY, RESULT_DEFECTS),
     (ANY, ENTRY_DEFECTS),
     ("reverse", &["reverse-leaves-bits", "reverse-of-two-unchanged"]),
     (
@@ -173,15 +195,64 @@ const DEFECTS: &[(&str, &[&str])] = &[
     (RECIPE, OPERATION_DEFECTS_IN_RECIPES),
 ];
 
-/// Prints each wrong version with the operation whose groups must report it.
+/// Wrong versions of the typed entries, in the same way.
+const TYPED_DEFECTS: &[(By, &str, &[&str])] = &[
+    (By::Typed, ANY, TYPED_CODE_DEFECTS),
+    (By::Typed, ANY, STRAY_DEFECTS),
+    (By::Typed, "union", &["typed-list-codes-served-by-lists", "typed-code-11-served-by-lists"]),
+    (By::Typed, "union", TYPED_RIGHT_DEFECTS),
+    (By::Typed, "intersect", TYPED_RIGHT_DEFECTS),
+    (By::Typed, "reverse", TYPED_UNTAKEN_DEFECTS),
+    (By::Typed, "distinct", TYPED_UNTAKEN_DEFECTS),
+    (By::Typed, "pop front", TYPED_UNTAKEN_DEFECTS),
+    (By::Typed, "pop back", TYPED_UNTAKEN_DEFECTS),
+    (By::Typed, "any-value", &["typed-four-counts-for-all"]),
+    (By::Typed, "element", &["typed-four-counts-for-all", "typed-first-start-ignored"]),
+    (By::Typed, "list-repeat", &["typed-four-counts-for-all", "typed-first-start-ignored"]),
+    (By::Typed, "slice", TYPED_ARGUMENT_DEFECTS),
+    (By::Typed, "slice", &["typed-third-start-ignored"]),
+    (By::Typed, "slice without stride", TYPED_ARGUMENT_DEFECTS),
+    (By::Typed, "resize", TYPED_ARGUMENT_DEFECTS),
+    (By::Typed, "resize without fill", &["typed-first-start-ignored"]),
+    (By::Typed, "replace", TYPED_ARGUMENT_DEFECTS),
+    (By::Typed, "replace", &["typed-third-start-ignored"]),
+    (By::Typed, "remove", TYPED_ARGUMENT_DEFECTS),
+    (By::TypedGroups, "list-repeat", &["typed-9-for-over-16384-lists"]),
+    (By::TypedGroups, "list-repeat", TYPED_RESULT_DEFECTS),
+    (By::TypedGroups, "reverse", TYPED_RESULT_DEFECTS),
+    (By::TypedGroups, "union", TYPED_RESULT_DEFECTS),
+    (By::TypedGroups, "slice", TYPED_RESULT_DEFECTS),
+    (By::TypedGroups, "resize", TYPED_RESULT_DEFECTS),
+    (By::TypedGroups, "replace", TYPED_RESULT_DEFECTS),
+    (By::Typed, RECIPE, TYPED_RIGHT_DEFECTS),
+    (By::Typed, RECIPE, TYPED_RECIPE_DEFECTS),
+    (By::TypedGroups, RECIPE, TYPED_SIZE_DEFECTS),
+    (By::TypedGroups, RECIPE, &["typed-9-for-over-16384-elements"]),
+    (By::TypedGroups, RECIPE, &["typed-columns-cut-to-32-bits", "typed-trays-cleared-to-16384"]),
+    (By::TypedGroups, RECIPE, &["typed-101-over-32768-arguments", "typed-starts-cut-to-32-bits"]),
+];
+
+/// Prints each wrong version with the calls and the operation whose groups must report it.
 pub fn print() {
-    for (operation, names) in DEFECTS {
-        names.iter().for_each(|name| println!("{name} {operation}"));
+    let line = |by: By, operation: &str, names: &[&str]| {
+        names.iter().for_each(|name| println!("{name} {} {operation}", by.name()));
+    };
+    for names in OF_EACH_ROUTE {
+        line(By::Bytes, ANY, names);
+        line(By::Typed, ANY, names);
     }
+    DEFECTS.iter().for_each(|(operation, names)| line(By::All, operation, names));
+    TYPED_DEFECTS.iter().for_each(|(by, operation, names)| line(*by, operation, names));
     for entry in Entry::all().chain([Entry::RECIPE]) {
-        EVERYWHERE.iter().for_each(|name| println!("{name} {}", entry.name()));
+        line(By::All, entry.name(), EVERYWHERE);
         if entry.outputs()[0].content == Content::Offsets {
-            println!("{NO_SLOT} {}", entry.name());
+            line(By::All, entry.name(), &[NO_SLOT]);
+        }
+        line(By::Typed, entry.name(), TYPED_EVERYWHERE);
+        if !entry.is_recipe() {
+            line(By::Typed, entry.name(), TYPED_OPERATION_DEFECTS);
+            line(By::TypedGroups, entry.name(), TYPED_SIZE_DEFECTS);
+            line(By::TypedGroups, entry.name(), TYPED_LARGE_DEFECTS);
         }
     }
 }
@@ -221,6 +292,92 @@ const EVERYWHERE: &[&str] = &[
     "13-after-1",
     "13-not-beside-an-empty-bitmap",
     NULL_ROWS,
+];
+
+/// Wrong versions of every typed entry.
+const TYPED_EVERYWHERE: &[&str] = &[
+    "typed-one-count-fewer-accepted",
+    "typed-exact-counts-refused",
+    "typed-counts-not-written",
+    "typed-last-count-not-written",
+    "typed-count-written-past",
+    "typed-counts-written-on-refusal",
+    "typed-counts-written-on-100",
+    "typed-row-start-ignored",
+    "typed-element-start-ignored",
+];
+
+/// Those of every typed entry but that of recipes.
+const TYPED_OPERATION_DEFECTS: &[&str] =
+    &["typed-100-after-refusals", "typed-100-clears-outputs", "typed-starts-cut-to-32-bits"];
+
+/// Sizes that the byte entries do not take.
+const TYPED_SIZE_DEFECTS: &[&str] = &[
+    "typed-101-over-4096-rows",
+    "typed-101-over-16384-values",
+    "typed-101-over-a-million-values",
+    "typed-counts-cut-to-16-bits",
+    "typed-bits-past-65536-bytes-set",
+];
+
+/// Large rows, shown and not.
+const TYPED_LARGE_DEFECTS: &[&str] =
+    &["typed-null-rows-over-16384-values-shown", "typed-rows-cut-at-65535"];
+
+/// Large results.
+const TYPED_RESULT_DEFECTS: &[&str] =
+    &["typed-9-for-over-16384-elements", "typed-values-past-a-million-not-written"];
+
+const TYPED_CODE_DEFECTS: &[&str] = &[
+    "typed-unknown-code-gives-102",
+    "typed-code-12-served",
+    "typed-set-codes-served-by-list",
+    "typed-code-11-not-served",
+    "typed-code-8-not-served",
+    "typed-code-cut-to-a-byte",
+];
+
+const STRAY_DEFECTS: &[&str] = &[
+    "writes-behind-an-output",
+    "writes-behind-the-counts",
+    "writes-an-input",
+    "state-between-calls",
+];
+
+const TYPED_RIGHT_DEFECTS: &[&str] = &[
+    "typed-right-row-start-ignored",
+    "typed-right-element-start-ignored",
+    "typed-list-beside-itself-refused",
+];
+
+const TYPED_ARGUMENT_DEFECTS: &[&str] = &[
+    "typed-first-start-ignored",
+    "typed-second-start-ignored",
+    "typed-starts-of-arguments-exchanged",
+];
+
+/// Argument columns beside an operation that takes none, which only typed calls have.
+const TYPED_UNTAKEN_DEFECTS: &[&str] = &[
+    "13-for-untaken-columns",
+    "untaken-bitmap-tested",
+    "untaken-rows-counted",
+    "untaken-null-gives-null",
+];
+
+/// Trays, tallies and 100.
+const TYPED_RECIPE_DEFECTS: &[&str] = &[
+    "typed-first-start-ignored",
+    "typed-tally-one-short-accepted",
+    "typed-tally-of-exact-length-refused",
+    "typed-15-before-100",
+    "typed-10-before-100",
+    "typed-100-leaves-trays",
+    "typed-100-leaves-tray-two",
+    "typed-trays-cleared-by-the-byte",
+    "typed-short-tally-written",
+    "typed-100-counted",
+    "typed-refused-counts-not-kept",
+    "typed-tally-written-past",
 ];
 
 /// The validity of rows is not looked at.
@@ -698,9 +855,12 @@ pub fn defect() -> &'static str {
 }
 
 fn is_known(name: &str) -> bool {
-    name == NO_SLOT
-        || EVERYWHERE.contains(&name)
-        || DEFECTS.iter().any(|(_, names)| names.contains(&name))
+    let mut lists = OF_EACH_ROUTE.to_vec();
+    lists.extend(DEFECTS.iter().map(|(_, names)| names));
+    lists.extend(TYPED_DEFECTS.iter().map(|(_, _, names)| names));
+    lists.extend([EVERYWHERE, TYPED_EVERYWHERE, TYPED_OPERATION_DEFECTS]);
+    lists.extend([TYPED_SIZE_DEFECTS, TYPED_LARGE_DEFECTS]);
+    name == NO_SLOT || lists.iter().any(|names| names.contains(&name))
 }
 
 pub fn is(name: &str) -> bool {

@@ -1,5 +1,6 @@
 //! The C entries: which slices each takes, how columns lie in them, and the answers that an entry
-//! gives by itself (100, 101, 102). A case is one call, as bytes.
+//! gives by itself: over bytes 100, 101 and 102, typed 100 alone. A case is one call, as bytes; the
+//! bytes of whole numbers are what a typed call is lent.
 //!
 //! An operation is added by its line in `OPERATIONS`, an entry by its arm in each function of
 //! `Entry`. The recipe's entry reaches no operation of its own; its trays and its tally, which go
@@ -15,6 +16,26 @@ pub const RAGGED: u32 = 100;
 pub const OVER_SIZE: u32 = 101;
 pub const NO_SUCH_OPERATION: u32 = 102;
 
+/// A typed entry's only answer of its own: a code that it does not serve, or too few counts or, of a
+/// recipe, too short a tally.
+pub const NOT_SERVED: u32 = 100;
+
+/// The two ways in which a call is made.
+#[derive(Clone, Copy, PartialEq, Eq, Debug)]
+pub enum Route {
+    Bytes,
+    Typed,
+}
+
+impl Route {
+    pub fn name(self) -> &'static str {
+        match self {
+            Route::Bytes => "over bytes",
+            Route::Typed => "typed",
+        }
+    }
+}
+
 /// An entry with the operation code that it is given; a recipe's with its station and the number of
 /// its argument columns.
 #[derive(Clone, Copy, PartialEq, Eq, Debug)]
@@ -25,7 +46,7 @@ pub enum Entry {
     Lists(u32),
     ListWith(u32),
     ListRepeat,
-    Recipe { station: u32, columns: u32 },
+    Recipe { station: u32, columns: usize },
 }
 
 /// Every operation of the port, with the entry that reaches it and its name.
@@ -66,6 +87,24 @@ pub struct SliceKind {
     pub content: Content,
     pub width: usize,
     pub most: Option<usize>,
+}
+
+impl SliceKind {
+    fn alignment(self, route: Route) -> usize {
+        match route {
+            Route::Bytes => 1,
+            Route::Typed => self.typed_width(),
+        }
+    }
+
+    /// Bytes a slot where the entry is typed.
+    pub fn typed_width(self) -> usize {
+        if self.content == Content::Tally {
+            8
+        } else {
+            self.width
+        }
+    }
 }
 
 pub const MOST_ROWS: usize = 4096;
@@ -187,6 +226,16 @@ impl Entry {
         OPERATIONS.iter().find(|(entry, _, _)| *entry == self).map(|(_, operation, _)| *operation)
     }
 
+    /// The operation that the typed entry does by this code: one entry has all those on one list.
+    pub fn typed_operation(self) -> Option<Operation> {
+        match self {
+            Entry::List(code) | Entry::ListWith(code) => {
+                Entry::List(code).operation().or(Entry::ListWith(code).operation())
+            }
+            _ => self.operation(),
+        }
+    }
+
     /// The operation of an entry whose code is one of its own.
     pub fn known_operation(self) -> Operation {
         self.operation().expect("a code that the entry knows")
@@ -200,7 +249,7 @@ impl Entry {
     pub const RECIPE: Entry = Entry::Recipe { station: 0, columns: 0 };
 
     /// The station and the number of columns of a recipe.
-    pub fn recipe(self) -> (u32, u32) {
+    pub fn recipe(self) -> (u32, usize) {
         let Entry::Recipe { station, columns } = self else { panic!("the entry of recipes") };
         (station, columns)
     }
@@ -209,7 +258,7 @@ impl Entry {
         Entry::Recipe { station, columns: self.recipe().1 }
     }
 
-    pub fn with_columns(self, columns: u32) -> Entry {
+    pub fn with_columns(self, columns: usize) -> Entry {
         Entry::Recipe { station: self.recipe().0, columns }
     }
 
@@ -219,6 +268,11 @@ impl Entry {
         }
         let line = OPERATIONS.iter().find(|(entry, _, _)| *entry == self);
         line.map_or("unknown", |(_, _, name)| name)
+    }
+
+    /// The name by the code alone, whichever entry has it.
+    pub fn typed_name(self) -> &'static str {
+        self.typed_operation().map_or(self.name(), |operation| Entry::of(operation).name())
     }
 
     /// The same entry with another code, if it takes one.
@@ -393,11 +447,11 @@ impl Input {
     }
 
     /// The starting bits of all bitmaps, in their order.
-    pub fn starts(&self) -> Vec<u32> {
+    pub fn starts(&self) -> Vec<usize> {
         self.bitmaps().iter().map(|bitmap| bitmap.start).collect()
     }
 
-    fn decode(entry: Entry, slices: &[Vec<u8>], starts: &[u32]) -> Input {
+    fn decode(entry: Entry, slices: &[Vec<u8>], starts: &[usize]) -> Input {
         let (numbers, columns) = slices.split_at(usize::from(entry.is_recipe()));
         let (lists, arguments) = columns.split_at(4 * entry.lists());
         let mut starts = starts.iter().copied();
@@ -432,7 +486,7 @@ impl Input {
 pub struct Case {
     pub entry: Entry,
     pub inputs: Vec<Vec<u8>>,
-    pub starts: Vec<u32>,
+    pub starts: Vec<usize>,
     pub outputs: Vec<Vec<u8>>,
     pub counts: Vec<u8>,
 }
@@ -459,11 +513,11 @@ pub struct Expected {
 }
 
 impl Expected {
-    fn refusal(number: u32) -> Expected {
+    pub fn refusal(number: u32) -> Expected {
         Expected { number, written: Vec::new(), counts: Vec::new() }
     }
 
-    fn accepted(form: &ResultForm) -> Expected {
+    pub fn accepted(form: &ResultForm) -> Expected {
         Expected {
             number: 0,
             written: form.slices.iter().map(encode_slots).collect(),
@@ -484,6 +538,26 @@ impl Case {
         (self.entry, self.inputs, self.starts) = (input.entry, input.encode(), input.starts());
     }
 
+    /// The rows of the first list, counted by its offsets.
+    pub fn row_count(&self) -> usize {
+        (self.inputs[usize::from(self.entry.is_recipe())].len() / 4).max(1) - 1
+    }
+
+    /// The inputs with the width for which each is aligned, which is 1 over bytes.
+    pub fn aligned_inputs(&self, route: Route) -> Vec<(&Vec<u8>, usize)> {
+        let kinds = self.entry.inputs().into_iter();
+        self.inputs.iter().zip(kinds.map(|kind| kind.alignment(route))).collect()
+    }
+
+    /// The same of the outputs and, last, the counts.
+    pub fn aligned_outputs(&self, route: Route) -> Vec<(&Vec<u8>, usize)> {
+        let kinds = self.entry.outputs().iter();
+        let mut slices: Vec<(&Vec<u8>, usize)> =
+            self.outputs.iter().zip(kinds.map(|kind| kind.alignment(route))).collect();
+        slices.push((&self.counts, if route == Route::Typed { 8 } else { 1 }));
+        slices
+    }
+
     /// Every slice of the call but the counts, with its kind.
     pub fn slices(&self) -> Vec<(SliceKind, &Vec<u8>)> {
         let inputs = self.entry.inputs().into_iter().zip(&self.inputs);
@@ -492,7 +566,7 @@ impl Case {
 
     /// The bitmaps of the columns that are looked at, each with its name, its bytes, its starting
     /// bit and the positions that it is for.
-    pub fn taken_bitmaps(&self) -> Vec<(&'static str, &[u8], u32, usize)> {
+    pub fn taken_bitmaps(&self) -> Vec<(&'static str, &[u8], usize, usize)> {
         let mut positions = 0;
         let mut starts = self.starts.iter();
         let mut bitmaps = Vec::new();
@@ -511,15 +585,53 @@ impl Case {
         bitmaps
     }
 
-    /// The answer that the entry gives before the columns are looked at.
-    fn own_answer(&self) -> Option<u32> {
+    /// The same call for the typed entries. A part of a number at the end of a slice is left out; an
+    /// operation on one list comes with three argument columns, which it may not take.
+    pub fn typed(&self, mut column: impl FnMut() -> ArgumentColumn) -> Case {
+        let kinds = self.entry.inputs().into_iter();
+        let mut typed = Case {
+            entry: self.entry,
+            inputs: kinds.zip(&self.inputs).map(|(kind, bytes)| whole(kind, bytes)).collect(),
+            starts: self.starts.clone(),
+            outputs: self.outputs_whole(),
+            counts: self.counts[..self.counts.len() / 8 * 8].to_vec(),
+        };
+        if let Entry::List(code) = self.entry {
+            typed.entry = Entry::ListWith(code);
+            for _ in 0..typed.entry.arguments() {
+                let ArgumentColumn { values, bits } = column();
+                typed.inputs.extend([encode_i64(&values), bits.bytes]);
+                typed.starts.push(bits.start);
+            }
+        }
+        typed
+    }
+
+    fn outputs_whole(&self) -> Vec<Vec<u8>> {
+        let kinds = self.entry.outputs().iter();
+        kinds.zip(&self.outputs).map(|(kind, bytes)| whole(*kind, bytes)).collect()
+    }
+
+    /// Whether the counts, or a recipe's tally, are too short.
+    fn is_short_of_places(&self) -> bool {
+        let short_tally = self.entry.is_recipe() && self.outputs[TALLY].len() < TALLY_BYTES;
+        self.counts.len() < self.entry.count_bytes() || short_tally
+    }
+
+    /// The answer that the typed entry gives before the columns are looked at.
+    fn typed_own_answer(&self) -> Option<u32> {
+        let unknown = self.entry.typed_operation().is_none() && !self.entry.is_recipe();
+        (unknown || self.is_short_of_places()).then_some(NOT_SERVED)
+    }
+
+    /// The answer that the byte entry gives before the columns are looked at.
+    pub fn own_answer(&self) -> Option<u32> {
         if self.entry.operation().is_none() && !self.entry.is_recipe() {
             return Some(NO_SUCH_OPERATION);
         }
         let slices = self.slices();
         let ragged = slices.iter().any(|(kind, bytes)| bytes.len() % kind.width != 0);
-        let short_tally = self.entry.is_recipe() && self.outputs[TALLY].len() < TALLY_BYTES;
-        if ragged || self.counts.len() < self.entry.count_bytes() || short_tally {
+        if ragged || self.is_short_of_places() {
             return Some(RAGGED);
         }
         let over = |(kind, bytes): &(SliceKind, &Vec<u8>)| {
@@ -551,20 +663,28 @@ impl Case {
         kinds.zip(&self.outputs[outputs]).map(|(kind, bytes)| bytes.len() / kind.width).collect()
     }
 
-    /// What the call must answer and write.
+    /// What the call over bytes must answer and write.
     pub fn expected(&self) -> Expected {
+        self.expected_with(self.own_answer(), self.entry.operation())
+    }
+
+    /// What the typed call must answer and write; the slices are of whole numbers.
+    pub fn expected_typed(&self) -> Expected {
+        self.expected_with(self.typed_own_answer(), self.entry.typed_operation())
+    }
+
+    fn expected_with(&self, own: Option<u32>, operation: Option<Operation>) -> Expected {
         if self.entry.is_recipe() {
-            return self.expected_of_recipe();
+            return self.expected_of_recipe(own);
         }
-        if let Some(number) = self.own_answer() {
+        if let Some(number) = own {
             return Expected::refusal(number);
         }
-        let Some(operation) = self.entry.operation() else {
-            return Expected::refusal(NO_SUCH_OPERATION);
-        };
+        let operation = operation.expect("a code that the entry knows");
         let input = self.decode();
+        let taken = &input.arguments[..operation.roles().len()];
         let lengths = self.lengths(self.entry.results());
-        match model::outcome(operation, &input.lists, input.taken(), &lengths) {
+        match model::outcome(operation, &input.lists, taken, &lengths) {
             Ok(form) => Expected::accepted(&form),
             Err(number) => Expected::refusal(number),
         }
@@ -572,10 +692,10 @@ impl Case {
 
     /// The trays are all zero after any call; the tally stays where the entry itself answers, and
     /// where there is no such station.
-    fn expected_of_recipe(&self) -> Expected {
+    fn expected_of_recipe(&self, own: Option<u32>) -> Expected {
         let zeros = |tray: &Vec<u8>| vec![0; tray.len()];
         let trays: Vec<Vec<u8>> = self.outputs[TRAYS].iter().map(zeros).collect();
-        if let Some(number) = self.own_answer() {
+        if let Some(number) = own {
             return Expected { written: trays, ..Expected::refusal(number) };
         }
         let outcome = self.recipe_outcome();
@@ -605,6 +725,11 @@ impl Case {
     pub fn tally(&self) -> Tally {
         decode_tally(&self.outputs[TALLY])
     }
+}
+
+/// The bytes of the whole numbers in a slice; a tally is of numbers too.
+fn whole(kind: SliceKind, bytes: &[u8]) -> Vec<u8> {
+    bytes[..bytes.len() - bytes.len() % kind.typed_width()].to_vec()
 }
 
 /// The counts of a tally that is long enough.

@@ -1,8 +1,10 @@
-//! A small column with a null row that lies over values, and what three operations make of it.
+//! A small column with a null row that lies over values, and what three operations make of it
+//! through the typed entries.
 
-use crate::entry::{decode_i32, decode_i64, encode_i32, encode_i64, Entry};
 use crate::library::Library;
 use crate::model::{self, ArgumentColumn, Bitmap, Element, ListColumn, Row};
+use crate::plain::{Argument, Column, Lists};
+use crate::typed::{List, Typed, Values};
 
 fn show_element(element: &Element) -> String {
     element.map_or("null".to_string(), |value| value.to_string())
@@ -28,52 +30,49 @@ fn column() -> ListColumn {
     }
 }
 
-fn column_slices(column: &ListColumn) -> [Vec<u8>; 4] {
-    let (offsets, values) = (encode_i32(&column.offsets), encode_i64(&column.values));
-    [offsets, column.rows.bytes.clone(), values, column.elements.bytes.clone()]
+fn lent(column: &ListColumn) -> List<'_> {
+    Column {
+        offsets: &column.offsets,
+        rows: &column.rows.bytes,
+        rows_start: column.rows.start,
+        values: &column.values,
+        elements: &column.elements.bytes,
+        elements_start: column.elements.start,
+    }
 }
+
+const NO_VALUES: Values = Argument { values: &[], bits: &[], start: 0 };
 
 /// Calls a list operation, and gives the rows that come back with their counts.
-fn call_list(library: &Library, entry: Entry, column: &ListColumn) -> (Vec<Row>, Vec<i64>) {
-    let inputs = column_slices(column);
-    let mut outputs = [vec![0u8; 20], vec![0u8; 1], vec![0u8; 64], vec![0u8; 1]];
-    let mut counts = [0u8; 32];
-    let inputs: Vec<&[u8]> = inputs.iter().map(Vec::as_slice).collect();
-    let mut lent: Vec<&mut [u8]> = outputs.iter_mut().map(Vec::as_mut_slice).collect();
-    let answer = library.call(entry, &inputs, &[0; 2], &mut lent, &mut counts);
-    assert_eq!(answer, 0, "the example is accepted");
-    let [offsets, rows, values, elements] = outputs;
-    let result = ListColumn {
-        offsets: decode_i32(&offsets),
-        rows: Bitmap::from_0(rows),
-        values: decode_i64(&values),
-        elements: Bitmap::from_0(elements),
+fn call_list(typed: &Typed, code: u32, column: &ListColumn) -> (Vec<Row>, [u64; 4]) {
+    let (mut offsets, mut values) = (vec![0; 5], vec![0; 8]);
+    let (mut rows, mut elements, mut counts) = (vec![0; 1], vec![0; 1], [0; 4]);
+    let room = Lists {
+        offsets: &mut offsets,
+        rows: &mut rows,
+        values: &mut values,
+        elements: &mut elements,
     };
-    (model::shown_rows(&result), decode_i64(&counts))
+    let answer = (typed.list)(code, lent(column), [NO_VALUES; 3], room, &mut counts);
+    assert_eq!(answer, 0, "the example is accepted");
+    let (rows, elements) = (Bitmap::from_0(rows), Bitmap::from_0(elements));
+    (model::shown_rows(&ListColumn { offsets, rows, values, elements }), counts)
 }
 
-/// Calls a value operation, and gives the values that come back.
-fn call_values(
-    library: &Library,
-    entry: Entry,
-    column: &ListColumn,
-    index: Option<i64>,
-) -> Vec<Element> {
-    let rows = column.offsets.len() - 1;
-    let indexes = index.map(|index| encode_i64(&vec![index; rows]));
-    let slices = column_slices(column);
-    let mut inputs: Vec<&[u8]> = slices.iter().map(Vec::as_slice).collect();
-    if let Some(indexes) = &indexes {
-        inputs.extend([indexes.as_slice(), &[]]);
-    }
-    let (mut values, mut bits, mut counts) = (vec![0u8; 8 * rows], [0u8; 1], [0u8; 16]);
-    let starts = vec![0; inputs.len() / 2];
-    let outputs = &mut [&mut values[..], &mut bits];
-    let answer = library.call(entry, &inputs, &starts, outputs, &mut counts);
+/// Takes the element of an index from each row, or its first valid one.
+fn call_values(typed: &Typed, column: &ListColumn, index: Option<i64>) -> Vec<Element> {
+    let rows = column.row_count();
+    let (mut values, mut bits, mut counts) = (vec![0; rows], vec![0; 1], [0; 2]);
+    let list = lent(column);
+    let answer = match index {
+        None => (typed.any_value)(list, &mut values, &mut bits, &mut counts),
+        Some(index) => {
+            let indexes = Argument { values: &vec![index; rows], ..NO_VALUES };
+            (typed.element)(list, indexes, &mut values, &mut bits, &mut counts)
+        }
+    };
     assert_eq!(answer, 0, "the example is accepted");
-    let result =
-        ArgumentColumn { values: decode_i64(&values), bits: Bitmap::from_0(bits.to_vec()) };
-    model::shown_arguments(&result)
+    model::shown_arguments(&ArgumentColumn { values, bits: Bitmap::from_0(bits) })
 }
 
 fn show_values(values: &[Element]) -> String {
@@ -81,23 +80,19 @@ fn show_values(values: &[Element]) -> String {
 }
 
 pub fn print(library: &Library) {
+    let Some(typed) = &library.typed else {
+        return println!("no typed entries in the archive");
+    };
     let column = column();
     println!("offsets {:?}, values {:?}", column.offsets, column.values);
     println!("row 1 is null and lies over 40, 41; the third value is null and lies over 99");
     println!("rows          {}", show_rows(&model::shown_rows(&column)));
-    let (rows, counts) = call_list(library, Entry::List(0), &column);
+    let (rows, [row_count, elements, null_rows, null_elements]) = call_list(typed, 0, &column);
     println!("reverse       {}", show_rows(&rows));
-    let [rows, elements, null_rows, null_elements] = counts[..] else {
-        panic!("a list answer has four counts");
-    };
-    println!("  made of     {rows} rows, {elements} elements");
+    println!("  made of     {row_count} rows, {elements} elements");
     println!("  of them     {null_rows} null rows, {null_elements} null elements");
     for index in [1, -1] {
-        let values = call_values(library, Entry::Element, &column, Some(index));
-        println!("element {index:2}    {}", show_values(&values));
+        println!("element {index:2}    {}", show_values(&call_values(typed, &column, Some(index))));
     }
-    println!(
-        "any-value     {}",
-        show_values(&call_values(library, Entry::AnyValue, &column, None))
-    );
+    println!("any-value     {}", show_values(&call_values(typed, &column, None)));
 }

@@ -188,7 +188,7 @@ pub fn short_offsets(checker: &mut Checker, entry: Entry, rng: &mut Rng, _calls:
 /// No bitmap, or one of a byte, from a bit at which it still covers four positions.
 fn short_bitmap(rng: &mut Rng) -> Bitmap {
     let bytes = rng.pick(&[&[][..], &[0xff], &[5]]).to_vec();
-    Bitmap { bytes, start: rng.below(5) as u32 }
+    Bitmap { bytes, start: rng.below(5) }
 }
 
 // Arguments beside one row.

@@ -1,10 +1,11 @@
 //! Makes columns and cases: rows at random, rows laid out in many ways, damage, and outputs lent
 //! exactly long enough, longer, or one slot short.
 
-use crate::entry::{Case, Entry, Input, MOST_INNER_ROWS, MOST_VALUES};
+use crate::entry::{Case, Entry, Input, SliceKind, MOST_INNER_ROWS, MOST_VALUES};
 use crate::model::{self, bitmap_bytes, ArgumentColumn, Bitmap, Element, ListColumn, Made};
-use crate::model::{Operation, Role, Row, Shown, UNDER_NULL};
-use crate::recipe_generate::{lend_recipe, no_station, random_recipe, recipe_input};
+use crate::model::{Operation, Role, Row, Shown, MOST_HELD, UNDER_NULL};
+use crate::recipe_generate::{lend_recipe, lend_recipe_within};
+use crate::recipe_generate::{no_station, random_recipe, recipe_input};
 use crate::rng::Rng;
 
 pub const EXTREMES: [i64; 7] = [i64::MIN, i64::MIN + 1, -1, 0, 1, i64::MAX - 1, i64::MAX];
@@ -24,7 +25,7 @@ pub struct RowShape {
 }
 
 /// Often the number that null slots of results hold, as a level of its own.
-fn random_value(rng: &mut Rng) -> i64 {
+pub fn random_value(rng: &mut Rng) -> i64 {
     match rng.below(8) {
         0 => rng.pick(&EXTREMES),
         1 | 2 => UNDER_NULL,
@@ -100,9 +101,9 @@ pub struct Layout {
     /// No offsets where there are no rows.
     pub no_offsets: bool,
     /// The starting bit of a row bitmap; before it anything stands.
-    pub rows_start: u32,
+    pub rows_start: usize,
     /// The same of an element bitmap and of the bitmap of an argument column.
-    pub elements_start: u32,
+    pub elements_start: usize,
 }
 
 /// Each way alone, then all of them, without and with absent bitmaps and with no offsets.
@@ -142,14 +143,14 @@ pub fn layouts() -> Vec<Layout> {
 }
 
 /// A starting bit, 0 more often than the others.
-pub fn random_start(rng: &mut Rng) -> u32 {
-    rng.below(8).saturating_sub(rng.pick(&[0, 0, 0, 8])) as u32
+pub fn random_start(rng: &mut Rng) -> usize {
+    rng.below(8).saturating_sub(rng.pick(&[0, 0, 0, 8]))
 }
 
 /// A starting bit over 7: the next ones, such as are 0 to 7 in a part of their bits, and the last.
-pub fn start_over_7(rng: &mut Rng) -> u32 {
-    let far = (1 << (3 + rng.below(29))) | rng.below(8) as u32;
-    rng.pick(&[8, 8, 9, 15, 16, far, u32::MAX])
+pub fn start_over_7(rng: &mut Rng) -> usize {
+    let far = (1 << (3 + rng.below(29))) | rng.below(8);
+    rng.pick(&[8, 8, 9, 15, 16, far, u32::MAX as usize])
 }
 
 pub fn random_layout(rng: &mut Rng) -> Layout {
@@ -193,13 +194,13 @@ impl Places {
     }
 }
 
-fn bitmap_of(valid: &[bool], start: u32, layout: Layout, rng: &mut Rng) -> Bitmap {
-    let end = start as usize + valid.len();
+fn bitmap_of(valid: &[bool], start: usize, layout: Layout, rng: &mut Rng) -> Bitmap {
+    let end = start + valid.len();
     let mut bytes = vec![0; bitmap_bytes(end)];
     if start > 0 {
         bytes[0] = rng.next() as u8 & !(0xff << start);
     }
-    for (bit, valid) in (start as usize..).zip(valid) {
+    for (bit, valid) in (start..).zip(valid) {
         bytes[bit / 8] |= u8::from(*valid) << (bit % 8);
     }
     if layout.spare_bits && end % 8 != 0 {
@@ -209,10 +210,11 @@ fn bitmap_of(valid: &[bool], start: u32, layout: Layout, rng: &mut Rng) -> Bitma
     Bitmap { bytes, start }
 }
 
-/// A column that shows these rows.
+/// A column that shows these rows, of no more values than a byte entry takes, unless the rows have
+/// more.
 pub fn lay_out(rows: &[Row], layout: Layout, rng: &mut Rng) -> ListColumn {
     let shown: usize = rows.iter().flatten().map(Vec::len).sum();
-    let mut room = MOST_VALUES - shown;
+    let mut room = MOST_VALUES.checked_sub(shown).unwrap_or(usize::MAX);
     let mut hide = |wanted: usize| {
         let granted = wanted.min(room);
         room -= granted;
@@ -239,7 +241,7 @@ pub fn lay_out(rows: &[Row], layout: Layout, rng: &mut Rng) -> ListColumn {
     let absent_rows = layout.absent_bitmaps && valid_rows.iter().all(|valid| *valid);
     let absent_elements = layout.absent_bitmaps && all_elements_valid;
     let Layout { rows_start, elements_start, .. } = layout;
-    let absent = |start: u32| Bitmap { bytes: Vec::new(), start };
+    let absent = |start: usize| Bitmap { bytes: Vec::new(), start };
     ListColumn {
         offsets,
         rows: match absent_rows {
@@ -362,9 +364,9 @@ fn or_null(null_eighths: usize, rng: &mut Rng, value: impl Fn(&mut Rng) -> i64) 
 }
 
 /// How large the result of a call may still become.
-struct Left {
-    inner_rows: u64,
-    elements: u64,
+pub struct Left {
+    pub inner_rows: u64,
+    pub elements: u64,
 }
 
 impl Left {
@@ -427,7 +429,18 @@ pub fn full_columns(
     null_eighths: usize,
     rng: &mut Rng,
 ) -> Vec<Vec<Element>> {
-    let mut left = Left { inner_rows: MOST_INNER_ROWS as u64, elements: MOST_VALUES as u64 };
+    let left = Left { inner_rows: MOST_INNER_ROWS as u64, elements: MOST_VALUES as u64 };
+    columns_within(operation, lists, null_eighths, left, rng)
+}
+
+/// The same for a result of this size at most.
+pub fn columns_within(
+    operation: Operation,
+    lists: &[Vec<Row>],
+    null_eighths: usize,
+    mut left: Left,
+    rng: &mut Rng,
+) -> Vec<Vec<Element>> {
     let mut columns = vec![Vec::new(); operation.roles().len()];
     for row in 0..lists[0].len() {
         let rows: Vec<&Row> = lists.iter().map(|list| &list[row]).collect();
@@ -558,7 +571,7 @@ pub fn random_shown_or_refused(entry: Entry, shape: RowShape, rng: &mut Rng) -> 
 }
 
 /// An argument column that the operation does not take: any content, any bitmap, any starting bit.
-fn untaken_column(rows: usize, rng: &mut Rng) -> ArgumentColumn {
+pub fn untaken_column(rows: usize, rng: &mut Rng) -> ArgumentColumn {
     let length = rng.pick(&[0, 0, rows, rows, rows + 1, 3, 40]).min(crate::entry::MOST_ROWS);
     let bits = rng.pick(&[0, 1, bitmap_bytes(length), 7]);
     let start = if rng.chance(1, 4) { start_over_7(rng) } else { random_start(rng) };
@@ -870,7 +883,7 @@ fn one_byte_short(bitmap: &mut Bitmap, positions: usize) {
 
 /// Moves the starting bit, so that the last position alone lies behind the last byte.
 pub fn one_bit_short(bitmap: &mut Bitmap, positions: usize) {
-    bitmap.start = (9 - positions % 8) as u32 % 8;
+    bitmap.start = (9 - positions % 8) % 8;
     one_byte_short(bitmap, positions);
 }
 
@@ -929,9 +942,9 @@ pub enum Room {
 /// The longest bitmap that is lent for a result: enough for the most values, and some more.
 pub const MOST_BITMAP_BYTES: usize = 4096;
 
-/// Slots for a result that no slice has room for: few, or all that the entry takes.
+/// Slots for a result that no slice has room for: few, or all that the byte entry takes.
 fn too_few(most: usize, rng: &mut Rng) -> usize {
-    if rng.chance(1, 32) {
+    if most < MOST_HELD && rng.chance(1, 32) {
         most
     } else {
         rng.below(9)
@@ -969,15 +982,32 @@ pub fn room_for(needed: usize, slice: usize, room: Room, rng: &mut Rng) -> usize
 }
 
 /// The call on these columns, with outputs of the given room that hold random bytes; no output is
-/// larger than the entry takes.
+/// larger than the byte entry takes.
 pub fn lend(input: &Input, room: Room, rng: &mut Rng) -> Case {
     if input.entry.is_recipe() {
         return lend_recipe(input, room, rng);
     }
+    lend_within(input, room, |kind| kind.most.unwrap_or(MOST_BITMAP_BYTES), rng)
+}
+
+/// The same with outputs as long as a typed call needs them.
+pub fn lend_typed(input: &Input, room: Room, rng: &mut Rng) -> Case {
+    if input.entry.is_recipe() {
+        return lend_recipe_within(input, room, |_| MOST_HELD, rng);
+    }
+    lend_within(input, room, |_| MOST_HELD, rng)
+}
+
+fn lend_within(
+    input: &Input,
+    room: Room,
+    most: impl Fn(&SliceKind) -> usize,
+    rng: &mut Rng,
+) -> Case {
     let needed = needed_slots(input);
     let mut outputs = Vec::new();
     for (slice, kind) in input.entry.outputs().iter().enumerate() {
-        let most = kind.most.unwrap_or(MOST_BITMAP_BYTES);
+        let most = most(kind);
         let slots = if needed[slice] > most {
             too_few(most, rng)
         } else {

@@ -7,6 +7,7 @@ use crate::entry::{TALLY, TALLY_BYTES};
 use crate::exhaustive::{every_argument, every_limit_length, every_sum};
 use crate::exhaustive::{short_columns, short_offsets};
 use crate::generate::*;
+use crate::large;
 use crate::model::{Operation, Role, Row, Shown};
 use crate::no_offsets;
 use crate::pairs;
@@ -14,6 +15,7 @@ use crate::recipe_groups;
 use crate::rng::Rng;
 use crate::starts;
 use crate::strides;
+use crate::typed_groups;
 use crate::worked;
 
 type Applies = fn(Entry) -> bool;
@@ -22,6 +24,8 @@ pub type Run = fn(&mut Checker, Entry, &mut Rng, u64);
 pub struct Group {
     pub name: String,
     pub entry: Entry,
+    /// Whether it is for what typed calls alone meet.
+    pub typed: bool,
     run: Run,
     /// Its part of the random calls, in shares.
     shares: u64,
@@ -73,26 +77,50 @@ fn refusals(entry: Entry) -> &'static [u32] {
     entry.operation().map_or(&[], Operation::refusals)
 }
 
+/// The groups for what typed calls alone meet that each operation has, and those of recipes.
+const TYPED_FOR_EACH: [(&str, Run); 7] = [
+    ("typed answers of the entry, exhaustive", typed_groups::entry_answers),
+    ("typed starting bits beyond 32 bits", typed_groups::far_starts),
+    ("typed inputs that are one slice", typed_groups::shared_inputs),
+    ("typed columns over the byte entry's sizes", typed_groups::over_sizes),
+    ("typed layouts of the same rows, over size", typed_groups::same_rows_over_sizes),
+    ("typed large columns, refused", large::refused),
+    ("typed large columns", large::columns),
+];
+
+const TYPED_OF_RECIPES: [(&str, Run); 5] = [
+    ("typed answers of the entry, exhaustive", typed_groups::recipe_answers),
+    ("typed starting bits and columns beyond 32 bits", typed_groups::far_starts),
+    ("typed inputs that are one slice", typed_groups::shared_inputs_of_recipes),
+    ("typed recipes over the byte entry's sizes", typed_groups::recipes_over_sizes),
+    ("typed large columns", large::recipes),
+];
+
 pub fn all() -> Vec<Group> {
     let mut groups = Vec::new();
+    let mut add = |entry: Entry, name: String, run: Run, shares: u64, typed: bool| {
+        groups.push(Group { name, entry, typed, run, shares });
+    };
     for entry in Entry::all() {
         for (name, applies, run, shares) in FOR_EACH {
             if applies(entry) {
-                let name = format!("{}: {name}", entry.name());
-                groups.push(Group { name, entry, run, shares });
+                add(entry, format!("{}: {name}", entry.name()), run, shares, false);
             }
+        }
+        for (name, run) in TYPED_FOR_EACH {
+            add(entry, format!("{}: {name}", entry.name()), run, 0, true);
         }
     }
     for (name, run, shares) in recipe_groups::ALL {
-        let (name, entry) = (format!("recipe: {name}"), Entry::RECIPE);
-        groups.push(Group { name, entry, run, shares });
+        add(Entry::RECIPE, format!("recipe: {name}"), run, shares, false);
+    }
+    for (name, run) in TYPED_OF_RECIPES {
+        add(Entry::RECIPE, format!("recipe: {name}"), run, 0, true);
     }
     for (name, entry) in CODED {
-        let (name, run) = (format!("{name}: unknown operations"), unknown_operations as Run);
-        groups.push(Group { name, entry, run, shares: 1 });
+        add(entry, format!("{name}: unknown operations"), unknown_operations, 1, false);
     }
-    let (name, entry) = ("worked cases".to_string(), Entry::List(0));
-    groups.push(Group { name, entry, run: worked::cases, shares: 0 });
+    add(Entry::List(0), "worked cases".to_string(), worked::cases, 0, false);
     groups
 }
 
@@ -526,8 +554,9 @@ pub fn slice_over_size(
 }
 
 pub fn check_answer(checker: &mut Checker, case: &Case, number: u32) {
-    let observed = checker.check(case);
-    checker.require(observed.number == number, case, &format!("{number} must be answered here"));
+    checker.check(case);
+    let as_stated = case.expected().number == number;
+    checker.require(as_stated, case, &format!("{number} must be answered here"));
 }
 
 /// A code that the entry does not know, near those that it or another entry knows, or far away.
@@ -587,7 +616,7 @@ fn random_case(entry: Entry, rng: &mut Rng) -> Case {
 }
 
 /// A starting bit for each bitmap, now and then one over 7.
-pub fn random_starts(entry: Entry, rng: &mut Rng) -> Vec<u32> {
+pub fn random_starts(entry: Entry, rng: &mut Rng) -> Vec<usize> {
     let start = |_| if rng.chance(1, 64) { start_over_7(rng) } else { random_start(rng) };
     entry.bitmaps().iter().map(start).collect()
 }

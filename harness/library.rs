@@ -1,10 +1,11 @@
-//! A library under test: the entries as safe functions on byte slices. The port, the plain Rust
-//! and the mock each give one of these. A function takes the code, if there is one, or the station
-//! and the number of columns of a recipe, then the input slices and the output slices in the order
-//! in which `entry.rs` lists them, then the counts; between them come the starting bits of the
-//! bitmaps among the inputs. A library may lack entries.
+//! A library under test: the byte entries as safe functions on byte slices, and the typed entries.
+//! The port, the plain Rust and the mock each give one of these. A function on bytes takes the code,
+//! if there is one, or the station and the number of columns of a recipe, then the input slices and
+//! the output slices in the order in which `entry.rs` lists them, then the counts; between them come
+//! the starting bits of the bitmaps among the inputs. A library may lack entries.
 
 use crate::entry::Entry;
+use crate::typed::Typed;
 
 /// An entry of so many input slices, bitmaps among them, and output slices.
 type Plain<const I: usize, const S: usize, const O: usize> =
@@ -23,17 +24,26 @@ pub struct Library {
     pub list_with: Option<Coded<10, 5, 4>>,
     pub list_repeat: Option<Plain<6, 3, 6>>,
     pub recipe: Option<OfStation<11, 5, 13>>,
+    pub typed: Option<Typed>,
 }
 
 fn inputs<'a, const N: usize>(slices: &[&'a [u8]]) -> [&'a [u8]; N] {
     slices.try_into().expect("the call has the input slices of its entry")
 }
 
-fn bits<const N: usize>(starts: &[u32]) -> [u32; N] {
-    starts.try_into().expect("the call has a starting bit for each bitmap of its entry")
+fn bits<const N: usize>(starts: &[usize]) -> [u32; N] {
+    let starts: [usize; N] =
+        starts.try_into().expect("the call has a starting bit for each bitmap of its entry");
+    starts.map(narrow)
 }
 
-fn outputs<'a, const N: usize>(slices: &'a mut [&mut [u8]]) -> [&'a mut [u8]; N] {
+/// A starting bit, or how many columns there are, as the byte entries take it.
+fn narrow(number: usize) -> u32 {
+    number.try_into().expect("a number that a byte entry takes")
+}
+
+/// The output slices of a call, as many as its entry has.
+pub fn outputs<'a, const N: usize>(slices: &'a mut [&mut [u8]]) -> [&'a mut [u8]; N] {
     assert_eq!(slices.len(), N, "the call has the output slices of its entry");
     let mut slices = slices.iter_mut();
     std::array::from_fn(|_| &mut **slices.next().expect("as many as were counted"))
@@ -45,6 +55,7 @@ fn present<F>(function: Option<F>) -> F {
 }
 
 impl Library {
+    #[cfg(not(mock))]
     pub const EMPTY: Library = Library {
         list: None,
         any_value: None,
@@ -53,6 +64,7 @@ impl Library {
         list_with: None,
         list_repeat: None,
         recipe: None,
+        typed: None,
     };
 
     pub fn has(&self, entry: Entry) -> bool {
@@ -82,12 +94,12 @@ impl Library {
         }
     }
 
-    /// Calls an entry.
+    /// Calls a byte entry.
     pub fn call(
         &self,
         entry: Entry,
         lent: &[&[u8]],
-        starts: &[u32],
+        starts: &[usize],
         results: &mut [&mut [u8]],
         counts: &mut [u8],
     ) -> u32 {
@@ -111,7 +123,7 @@ impl Library {
                 present(self.list_repeat)(inputs(lent), bits(starts), outputs(results), counts)
             }
             Entry::Recipe { station, columns } => {
-                let (lent, bits) = (inputs(lent), bits(starts));
+                let (columns, lent, bits) = (narrow(columns), inputs(lent), bits(starts));
                 present(self.recipe)(station, columns, lent, bits, outputs(results), counts)
             }
         }

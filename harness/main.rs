@@ -1,22 +1,28 @@
-//! The test harness: calls the port through its C entries and compares every call with an
-//! independent reading of document 01 and of the notes of document 02 that change it.
+//! The test harness: calls the port through its C entries, over bytes and typed, and compares every
+//! call with an independent reading of document 01 and of the notes of document 02 that change it.
 //!
 //!     harness                        the gate's amount
 //!     harness --calls N --seed S     N random calls beside the exhaustive ones
 //!     harness --group NAME           one group alone, with its calls of the whole run
 //!     harness --operation NAME       the groups of one operation
+//!     harness --typed-groups         the groups for what typed calls alone meet
+//!     harness --bytes | --typed      the byte entries alone, or the typed ones
 //!     harness --plain                the plain Rust instead of the port
 //!     harness --decoded              the plain Rust that decodes inside instead of the port
+//!     harness --alone                not the plain Rust beside the port
 //!     harness --stop                 ends at the first difference
 //!     harness --trace                names each call before it is made
+//!     harness --apart                lends each slice as an allocation of its own, for memcheck
 //!     harness groups | bench | example
+//!     harness bench NAME             the benchmark of one operation
 //!
 //! An operation is added in model.rs (its argument columns, its refusals, what a row becomes),
 //! entry.rs (its line), plain.rs, coverage.rs (what its rows must meet), worked.rs and defects.rs
 //! (wrong versions); the groups then run over it as they stand. A new kind of argument has its
-//! boundary numbers in generate.rs; a new entry its slices in entry.rs, library.rs and port.rs. The
-//! entries that the archive has are listed at the end of port.rs: the groups of the others are not
-//! run, but for the plain Rust.
+//! boundary numbers in generate.rs; a new entry its slices in entry.rs, library.rs and port.rs, and
+//! its typed form in typed.rs, typed_port.rs, plain.rs and mock_typed.rs. The byte entries that the
+//! archive has are listed at the end of port.rs: the groups of the others are not run, but for the
+//! plain Rust.
 //!
 //! Recipes are no operation: they are read in model.rs, made in recipe_generate.rs, and have their
 //! groups in recipe_groups.rs and recipe_lengths.rs, what these must reach in recipe_coverage.rs,
@@ -26,6 +32,9 @@
 //! with no offsets are in no_offsets.rs; strided slices, whose places are counted by stepping, are
 //! in strides.rs; the stations of a tally are in stations.rs, and bitmaps from the middle of a byte
 //! in starts.rs.
+//!
+//! Every call of these groups is made over bytes and typed. What typed calls alone meet is in
+//! typed_groups.rs and, for large columns, in large.rs.
 
 mod bench;
 mod compare;
@@ -38,6 +47,7 @@ mod example;
 mod exhaustive;
 mod generate;
 mod groups;
+mod large;
 mod library;
 #[cfg(mock)]
 mod mock;
@@ -45,8 +55,11 @@ mod mock;
 mod mock_recipe;
 #[cfg(mock)]
 mod mock_rows;
+#[cfg(mock)]
+mod mock_typed;
 mod model;
 mod no_offsets;
+mod numbers;
 mod pairs;
 mod plain;
 mod port;
@@ -58,12 +71,18 @@ mod rng;
 mod starts;
 mod stations;
 mod strides;
+mod typed;
+mod typed_groups;
+#[cfg(not(mock))]
+mod typed_port;
 mod worked;
 
-use compare::Checker;
+use compare::{Checker, Manner};
 use coverage::Coverage;
+use entry::Route;
 use groups::Group;
 use library::Library;
+use std::fmt::{self, Display, Formatter};
 use std::process::ExitCode;
 
 const DEFAULT_CALLS: u64 = 400_000;
@@ -74,9 +93,14 @@ struct Options {
     seed: u64,
     group: Option<String>,
     operation: Option<String>,
+    /// Whether the groups for what typed calls alone meet are wanted alone.
+    typed_groups: bool,
     library: &'static Library,
+    routes: Vec<Route>,
+    alone: bool,
     stop: bool,
     trace: bool,
+    apart: bool,
 }
 
 fn number(text: Option<String>, option: &str) -> Result<u64, String> {
@@ -87,8 +111,21 @@ fn number(text: Option<String>, option: &str) -> Result<u64, String> {
 fn parse(mut words: impl Iterator<Item = String>) -> Result<Options, String> {
     let (calls, seed) = (DEFAULT_CALLS, DEFAULT_SEED);
     let (group, operation) = (None, None);
-    let library = &port::LIBRARY;
-    let mut options = Options { calls, seed, group, operation, library, stop: false, trace: false };
+    let (library, routes) = (&port::LIBRARY, vec![Route::Bytes, Route::Typed]);
+    let (typed_groups, alone, stop, trace, apart) = (false, false, false, false, false);
+    let mut options = Options {
+        calls,
+        seed,
+        group,
+        operation,
+        typed_groups,
+        library,
+        routes,
+        alone,
+        stop,
+        trace,
+        apart,
+    };
     while let Some(word) = words.next() {
         match word.as_str() {
             "--calls" => options.calls = number(words.next(), "--calls")?,
@@ -99,8 +136,13 @@ fn parse(mut words: impl Iterator<Item = String>) -> Result<Options, String> {
             }
             "--plain" => options.library = &plain::LIBRARY,
             "--decoded" => options.library = &decoded::LIBRARY,
+            "--typed-groups" => options.typed_groups = true,
+            "--bytes" => options.routes = vec![Route::Bytes],
+            "--typed" => options.routes = vec![Route::Typed],
+            "--alone" => options.alone = true,
             "--stop" => options.stop = true,
             "--trace" => options.trace = true,
+            "--apart" => options.apart = true,
             other => return Err(format!("unknown word '{other}'")),
         }
     }
@@ -108,14 +150,26 @@ fn parse(mut words: impl Iterator<Item = String>) -> Result<Options, String> {
 }
 
 impl Options {
-    /// Whether only some groups are to be run.
+    /// Whether only some groups are to be run, or one way of making calls.
     fn is_part(&self) -> bool {
-        self.group.is_some() || self.operation.is_some()
+        let one_way = self.typed_groups || self.routes.len() == 1;
+        self.group.is_some() || self.operation.is_some() || one_way
+    }
+
+    /// How calls are made; these words, and those of the options, make them again.
+    fn manner(&self, words: String) -> Manner {
+        let mut replay = words;
+        if let [route] = self.routes[..] {
+            replay.push_str(if route == Route::Bytes { " --bytes" } else { " --typed" });
+        }
+        let Options { stop, trace, apart, .. } = *self;
+        Manner { replay, routes: self.routes.clone(), trace, stop, apart }
     }
 
     fn wants(&self, group: &Group) -> bool {
         self.group.as_ref().is_none_or(|name| *name == group.name)
             && self.operation.as_ref().is_none_or(|name| group.is_of(name))
+            && (group.typed || !self.typed_groups)
     }
 }
 
@@ -138,18 +192,45 @@ impl Tally {
 }
 
 fn run_groups(checker: &mut Checker, options: &Options, tally: &mut Tally) {
+    let typed = checker.makes(Route::Typed);
     let wanted = groups::all().into_iter().filter(|group| options.wants(group));
-    let (present, absent): (Vec<Group>, Vec<Group>) =
-        wanted.partition(|group| checker.library.has(group.entry));
+    let (present, absent): (Vec<Group>, Vec<Group>) = wanted
+        .filter(|group| typed || !group.typed)
+        .partition(|group| checker.library.has(group.entry));
     if let ([], [group, ..]) = (&present[..], &absent[..]) {
         let name = options.operation.as_ref().unwrap_or(&group.name);
         tally.add(name, false, "not run, no entry in the archive".to_string());
     }
     for group in present {
         group.run(checker, options.seed, options.calls);
-        let (calls, differences) = (checker.calls, checker.differences);
-        let detail = format!("{calls} calls, {differences} differences");
-        tally.add(&group.name, differences == 0 && calls > 0, detail);
+        let mut counts = Counts::default();
+        counts.add(checker);
+        let good = counts.differences == 0 && checker.calls > 0;
+        tally.add(&group.name, good, counts.to_string());
+    }
+}
+
+/// The calls of some groups.
+#[derive(Default)]
+struct Counts {
+    over_bytes: u64,
+    typed: u64,
+    differences: u64,
+}
+
+impl Counts {
+    /// Adds the group that has run.
+    fn add(&mut self, checker: &Checker) {
+        self.over_bytes += checker.over_bytes;
+        self.typed += checker.typed;
+        self.differences += checker.differences;
+    }
+}
+
+impl Display for Counts {
+    fn fmt(&self, f: &mut Formatter) -> Result<(), fmt::Error> {
+        let Counts { over_bytes, typed, differences } = self;
+        write!(f, "{over_bytes} calls over bytes, {typed} typed, {differences} differences")
     }
 }
 
@@ -158,16 +239,15 @@ fn run_groups(checker: &mut Checker, options: &Options, tally: &mut Tally) {
 fn check_plain(name: &str, library: &Library, option: &str, options: &Options, tally: &mut Tally) {
     let (seed, random_calls) = (options.seed, options.calls / 10);
     let replay = format!("{option} --seed {seed} --calls {random_calls}");
-    let mut checker = Checker::new(library, replay, options.trace, options.stop);
+    let mut checker = Checker::new(library, options.manner(replay));
     checker.records = false;
-    let (mut calls, mut differences) = (0, 0);
-    for group in groups::all() {
+    let mut counts = Counts::default();
+    let typed = checker.makes(Route::Typed);
+    for group in groups::all().into_iter().filter(|group| typed || !group.typed) {
         group.run(&mut checker, seed, random_calls);
-        calls += checker.calls;
-        differences += checker.differences;
+        counts.add(&checker);
     }
-    let detail = format!("{calls} calls, {differences} differences");
-    tally.add(&format!("{name}: all groups"), differences == 0, detail);
+    tally.add(&format!("{name}: all groups"), counts.differences == 0, counts.to_string());
 }
 
 fn check_coverage(coverage: &Coverage, library: &Library, tally: &mut Tally) {
@@ -184,12 +264,14 @@ fn run(options: &Options) -> ExitCode {
     let mut tally = Tally::default();
     let library = options.library;
     let replay = format!("--seed {} --calls {}", options.seed, options.calls);
-    let mut checker = Checker::new(library, replay, options.trace, options.stop);
+    let mut checker = Checker::new(library, options.manner(replay));
     run_groups(&mut checker, options, &mut tally);
     if !options.is_part() {
-        check_plain("plain Rust", &plain::LIBRARY, "--plain", options, &mut tally);
-        let name = "plain Rust, decoding inside";
-        check_plain(name, &decoded::LIBRARY, "--decoded", options, &mut tally);
+        if !options.alone {
+            check_plain("plain Rust", &plain::LIBRARY, "--plain", options, &mut tally);
+            let name = "plain Rust, decoding inside";
+            check_plain(name, &decoded::LIBRARY, "--decoded", options, &mut tally);
+        }
         check_coverage(&checker.coverage, library, &mut tally);
         library.print_absent();
     }
@@ -204,7 +286,7 @@ fn run(options: &Options) -> ExitCode {
 fn main() -> ExitCode {
     let mut words = std::env::args().skip(1).peekable();
     match words.peek().map(String::as_str) {
-        Some("bench") => bench::print(&port::LIBRARY),
+        Some("bench") => bench::print(&port::LIBRARY, words.nth(1).as_deref()),
         Some("example") => example::print(&port::LIBRARY),
         Some("groups") => groups::all().iter().for_each(|group| println!("{}", group.name)),
         #[cfg(mock)]

@@ -9,6 +9,7 @@ use crate::mock_recipe::recipe;
 use crate::mock_rows::{
     distinct, intersect, is_beyond, place_of, pop, remove, replace, resize, reverse, slice, union,
 };
+use crate::mock_typed::TYPED;
 use crate::plain;
 use std::ops::Range;
 
@@ -22,12 +23,13 @@ pub const LIBRARY: Library = Library {
     list_with: Some(list_with),
     list_repeat: Some(list_repeat),
     recipe: Some(recipe),
+    typed: Some(TYPED),
 };
 
 /// How many lists an entry takes, with argument columns behind them, and the kind of its answer.
-struct Shape {
-    lists: usize,
-    answer: Answer,
+pub struct Shape {
+    pub lists: usize,
+    pub answer: Answer,
 }
 
 #[derive(Clone, Copy, PartialEq)]
@@ -44,11 +46,11 @@ const REPLACE: u32 = 7;
 const REMOVE: u32 = 8;
 pub const UNION: u32 = 9;
 pub const INTERSECT: u32 = 10;
-const RESIZE_WITHOUT_FILL: u32 = 11;
+pub const RESIZE_WITHOUT_FILL: u32 = 11;
 /// Operations that have an entry of their own, and no code.
-const ANY_VALUE: u32 = 1000;
-const ELEMENT: u32 = 1001;
-const LIST_REPEAT: u32 = 1002;
+pub const ANY_VALUE: u32 = 1000;
+pub const ELEMENT: u32 = 1001;
+pub const LIST_REPEAT: u32 = 1002;
 
 pub fn list(
     op: u32,
@@ -61,7 +63,7 @@ pub fn list(
         return plain::list(op, inputs, starts, outputs, counts);
     }
     let shape = Shape { lists: 1, answer: Answer::Lists };
-    answer(op, 0..=3, shape, &inputs, &starts, &mut outputs, counts)
+    answer(op, 0..=3, shape, &inputs, &wide(starts), &mut outputs, counts)
 }
 
 pub fn lists(
@@ -75,7 +77,7 @@ pub fn lists(
         return plain::lists(op, inputs, starts, outputs, counts);
     }
     let shape = Shape { lists: 2, answer: Answer::Lists };
-    answer(op, 9..=10, shape, &inputs, &starts, &mut outputs, counts)
+    answer(op, 9..=10, shape, &inputs, &wide(starts), &mut outputs, counts)
 }
 
 pub fn list_with(
@@ -90,7 +92,7 @@ pub fn list_with(
     }
     let shape = Shape { lists: 1, answer: Answer::Lists };
     let codes = if op == RESIZE_WITHOUT_FILL { 11..=11 } else { 4..=8 };
-    answer(op, codes, shape, &inputs, &starts, &mut outputs, counts)
+    answer(op, codes, shape, &inputs, &wide(starts), &mut outputs, counts)
 }
 
 pub fn any_value(
@@ -103,7 +105,7 @@ pub fn any_value(
         return plain::any_value(inputs, starts, outputs, counts);
     }
     let shape = Shape { lists: 1, answer: Answer::Values };
-    answer(ANY_VALUE, ANY_VALUE..=ANY_VALUE, shape, &inputs, &starts, &mut outputs, counts)
+    answer(ANY_VALUE, ANY_VALUE..=ANY_VALUE, shape, &inputs, &wide(starts), &mut outputs, counts)
 }
 
 pub fn element(
@@ -116,7 +118,7 @@ pub fn element(
         return plain::element(inputs, starts, outputs, counts);
     }
     let shape = Shape { lists: 1, answer: Answer::Values };
-    answer(ELEMENT, ELEMENT..=ELEMENT, shape, &inputs, &starts, &mut outputs, counts)
+    answer(ELEMENT, ELEMENT..=ELEMENT, shape, &inputs, &wide(starts), &mut outputs, counts)
 }
 
 pub fn list_repeat(
@@ -129,7 +131,19 @@ pub fn list_repeat(
         return plain::list_repeat(inputs, starts, outputs, counts);
     }
     let shape = Shape { lists: 1, answer: Answer::Nested };
-    answer(LIST_REPEAT, LIST_REPEAT..=LIST_REPEAT, shape, &inputs, &starts, &mut outputs, counts)
+    answer(
+        LIST_REPEAT,
+        LIST_REPEAT..=LIST_REPEAT,
+        shape,
+        &inputs,
+        &wide(starts),
+        &mut outputs,
+        counts,
+    )
+}
+
+fn wide<const N: usize>(starts: [u32; N]) -> [usize; N] {
+    starts.map(|start| start as usize)
 }
 
 /// The whole call: its own answers, the refusals, and the result if it fits.
@@ -138,7 +152,7 @@ fn answer(
     codes: std::ops::RangeInclusive<u32>,
     shape: Shape,
     inputs: &[&[u8]],
-    starts: &[u32],
+    starts: &[usize],
     outputs: &mut [&mut [u8]],
     counts: &mut [u8],
 ) -> u32 {
@@ -152,11 +166,20 @@ fn answer(
         unknown = false;
     }
     let own = own_answer(&shape, inputs, outputs, counts.len(), taken(op));
-    let number = if unknown && !(is("100-before-102") && own == Some(100)) {
-        Err(102)
-    } else {
-        own.map_or(Ok(()), Err)
-    };
+    let own = if unknown && !(is("100-before-102") && own == Some(100)) { Some(102) } else { own };
+    answer_after(op, own, shape, inputs, starts, outputs, counts)
+}
+
+/// The call after the entry's own answer, if it has one.
+pub fn answer_after(
+    op: u32,
+    own: Option<u32>,
+    shape: Shape,
+    inputs: &[&[u8]],
+    starts: &[usize],
+    outputs: &mut [&mut [u8]],
+    counts: &mut [u8],
+) -> u32 {
     let (lists, arguments) = inputs.split_at(4 * shape.lists);
     let (list_starts, starts) = starts.split_at(2 * shape.lists);
     let list = |(at, part)| Column::new(at, part, &list_starts[2 * at..][..2]);
@@ -164,11 +187,11 @@ fn answer(
     let argument = |(at, part)| Argument::new(at, part, starts[at]);
     let mut arguments: Vec<Argument> = arguments.chunks(2).enumerate().map(argument).collect();
     if is("start-of-the-first-argument-for-all") {
-        arguments.iter_mut().for_each(|one| one.bits.read = starts[0] as usize);
+        arguments.iter_mut().for_each(|one| one.bits.read = starts[0]);
     }
     let call = Call { op, lists, arguments };
     let mut output = Output::new(shape.answer, outputs, counts);
-    let number = match number.and_then(|()| call.made(&output)) {
+    let number = match own.map_or(Ok(()), Err).and_then(|()| call.made(&output)) {
         Ok(made) => output.write(&call, made),
         Err(number) => number,
     };
@@ -259,17 +282,17 @@ pub fn numbers(bytes: &[u8], width: usize) -> Vec<i64> {
 #[derive(Clone, Copy)]
 pub struct Bits<'a> {
     pub bytes: &'a [u8],
-    start: u32,
+    start: usize,
     read: usize,
     counted: usize,
 }
 
 impl<'a> Bits<'a> {
-    pub fn new(bytes: &'a [u8], start: u32) -> Self {
+    pub fn new(bytes: &'a [u8], start: usize) -> Self {
         let from = |ignored: bool| match defect() {
             _ if ignored => 0,
-            "13-not-given" => start as usize % 8,
-            _ => start as usize,
+            "13-not-given" => start % 8,
+            _ => start,
         };
         let (read, counted) = (is("start-ignored"), is("start-ignored-in-coverage"));
         Bits { bytes, start, read: from(read), counted: from(counted) }
@@ -297,6 +320,7 @@ impl<'a> Bits<'a> {
         let byte = if is("first-bitmap-byte-for-all") { 0 } else { position / 8 };
         let place = if is("bits-highest-first") { 7 - position % 8 } else { position % 8 };
         self.bytes.get(byte).is_some_and(|byte| byte >> place & 1 == 1)
+            || byte >= 65536 && is("typed-bits-past-65536-bytes-set")
     }
 
     pub fn too_short(&self, positions: usize) -> bool {
@@ -304,7 +328,7 @@ impl<'a> Bits<'a> {
             "start-rounds-coverage-up" => self.counted.div_ceil(8) * 8,
             _ => self.counted,
         };
-        let (lent, needed) = (self.bytes.len(), (counted + positions).div_ceil(8));
+        let (lent, needed) = (self.bytes.len(), counted.saturating_add(positions).div_ceil(8));
         !self.bytes.is_empty() && (lent < needed || lent > needed && is("longer-bitmap-refused"))
     }
 
@@ -363,7 +387,7 @@ pub struct Argument<'a> {
 }
 
 impl<'a> Argument<'a> {
-    pub fn new(at: usize, part: &[&'a [u8]], start: u32) -> Self {
+    pub fn new(at: usize, part: &[&'a [u8]], start: usize) -> Self {
         let ignored = match defect() {
             "argument-start-ignored" => true,
             "second-start-ignored" => at == 1,
@@ -393,7 +417,7 @@ pub struct Column<'a> {
 }
 
 impl<'a> Column<'a> {
-    pub fn new(at: usize, part: &[&'a [u8]], starts: &[u32]) -> Self {
+    pub fn new(at: usize, part: &[&'a [u8]], starts: &[usize]) -> Self {
         let (offsets, values) = (numbers(part[0], 4), numbers(part[2], 8));
         let ignored = at == 1 && is("right-starts-ignored");
         let mut rows = Bits::new(part[1], starts[0]).ignored(ignored || is("row-start-ignored"));
@@ -466,7 +490,10 @@ impl<'a> Column<'a> {
     }
 
     pub fn is_valid(&self, row: usize) -> bool {
-        self.rows.bit(row) || is(NULL_ROWS) || self.is_right_with("right-null-rows-shown")
+        self.rows.bit(row)
+            || is(NULL_ROWS)
+            || self.is_right_with("right-null-rows-shown")
+            || is("typed-null-rows-over-16384-values-shown") && self.range(row).len() > 16384
     }
 
     pub fn range(&self, row: usize) -> Range<usize> {
@@ -475,7 +502,11 @@ impl<'a> Column<'a> {
         let shift = if from_0 { self.offsets[0] } else { 0 };
         let offset = |row: usize| self.offsets.get(row).map_or(0, |offset| (offset - shift).max(0));
         let (start, end) = (offset(row) as usize, offset(row + 1) as usize);
-        start..end.max(start).min(start + 20_000)
+        let most = match defect() {
+            "typed-rows-cut-at-65535" => 65535,
+            _ => self.values.len().max(20_000),
+        };
+        start..end.max(start).min(start + most)
     }
 
     fn item(&self, place: usize) -> Item {
@@ -522,6 +553,11 @@ pub struct Call<'a> {
 impl Call<'_> {
     fn row_count(&self) -> usize {
         self.lists[0].row_count()
+    }
+
+    /// No output has room for more lists or elements.
+    fn most_held(&self) -> usize {
+        (4 * (self.lists[0].values.len() + self.row_count())).max(50_000)
     }
 
     fn is_limit(&self, at: usize) -> bool {
@@ -722,7 +758,7 @@ impl Call<'_> {
         seen: &mut Vec<Item>,
         used: &mut i64,
     ) -> Outcome {
-        let argument = |at| self.argument(at, row);
+        let (argument, most) = (|at| self.argument(at, row), self.most_held());
         match self.op {
             0 => Ok(Some(reverse(items))),
             1 => Ok(Some(distinct(items, seen))),
@@ -731,13 +767,13 @@ impl Call<'_> {
             SLICE => self.slice_row(row, items, Some(argument(2))),
             SLICE_WITHOUT_STRIDE => self.slice_row(row, items, None),
             RESIZE if is("resize-fill-of-first-row") => {
-                Ok(resize(items, argument(0), Some(self.argument(1, 0))))
+                Ok(resize(items, argument(0), Some(self.argument(1, 0)), most))
             }
-            RESIZE => Ok(resize(items, argument(0), Some(argument(1)))),
+            RESIZE => Ok(resize(items, argument(0), Some(argument(1)), most)),
             RESIZE_WITHOUT_FILL if is("absent-fill-read-from-second") => {
-                Ok(resize(items, argument(0), Some(argument(1))))
+                Ok(resize(items, argument(0), Some(argument(1)), most))
             }
-            RESIZE_WITHOUT_FILL => Ok(resize(items, argument(0), None)),
+            RESIZE_WITHOUT_FILL => Ok(resize(items, argument(0), None, most)),
             REPLACE => Ok(replace(items, argument(0), argument(1), argument(2), used)),
             REMOVE => Ok(remove(items, argument(0), argument(1), used)),
             UNION => Ok(Some(union(items, self.lists[1].items(row)))),
@@ -888,8 +924,7 @@ impl Call<'_> {
         if negative && is("resize-8-before-7") {
             return Err(7);
         }
-        // No output has room for so many.
-        if sum > 50_000 {
+        if sum > self.most_held() as i128 {
             return Err(9);
         }
         Ok(())
@@ -935,8 +970,7 @@ impl Call<'_> {
         {
             return Err(8);
         }
-        // No output has room for so many.
-        if lists > 50_000 || values > 50_000 {
+        if lists.max(values) > self.most_held() as i128 {
             return Err(9);
         }
         Ok(())
@@ -957,7 +991,7 @@ impl Call<'_> {
             match defect() {
                 "repeat-null-list-is-null-outer" if !valid => (false, Vec::new()),
                 "repeat-null-list-once" if !valid && times > 0 => (true, vec![inner()]),
-                _ => (true, (0..times.min(50_000)).map(|_| inner()).collect()),
+                _ => (true, (0..times.min(self.most_held() as i128)).map(|_| inner()).collect()),
             }
         };
         Ok((0..self.row_count()).map(outer).collect())
@@ -1024,7 +1058,9 @@ fn put_item(slice: &mut [u8], at: usize, item: Item) {
         None if is("null-slot-past-the-first-byte-holds-0") && at >= 8 => 0,
         None => i64::MIN,
     };
-    put(slice, 8 * at, &value.to_le_bytes());
+    if at < 1_000_000 || !is("typed-values-past-a-million-not-written") {
+        put(slice, 8 * at, &value.to_le_bytes());
+    }
 }
 
 /// Which elements are written as valid.
@@ -1114,11 +1150,13 @@ impl<'a> Output<'a> {
         let input = call.lists[0].values.len();
         let values = if is("room-for-input-demanded") { input.max(elements) } else { elements };
         (self.values.len() / 8 >= values || is("short-values-accepted"))
+            && !(elements > 16384 && is("typed-9-for-over-16384-elements"))
             && (self.elements.len() >= elements.div_ceil(8) || is("short-element-bitmap-accepted"))
     }
 
     fn inner_rows_fit(&self, rows: usize) -> bool {
         (self.inner_offsets.len() / 4 > rows || is("short-inner-offsets-accepted"))
+            && !(rows > 16384 && is("typed-9-for-over-16384-lists"))
             && (self.inner_rows.len() >= rows.div_ceil(8) || is("short-inner-bitmap-accepted"))
     }
 

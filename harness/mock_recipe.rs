@@ -19,6 +19,21 @@ pub fn recipe(
     if defect().is_empty() {
         return plain::recipe(station, columns, inputs, starts, outputs, counts);
     }
+    let own = own_answer(&inputs, &outputs, counts.len());
+    let starts = starts.map(|start| start as usize);
+    recipe_after(own, station, columns as usize, inputs, starts, &mut outputs, counts)
+}
+
+/// The call after the entry's own answer, if it has one.
+pub fn recipe_after(
+    mut own: Option<u32>,
+    station: u32,
+    columns: usize,
+    inputs: [&[u8]; 11],
+    starts: [usize; 5],
+    outputs: &mut [&mut [u8]; 13],
+    counts: &mut [u8],
+) -> u32 {
     let station = match defect() {
         "recipe-station-cut-to-four-bits" => station % 16,
         "recipe-station-cut-to-a-byte" => station % 256,
@@ -29,7 +44,6 @@ pub fn recipe(
         "recipe-station-16-accepted" => 16,
         _ => 15,
     };
-    let mut own = own_answer(&inputs, &outputs, counts.len());
     if station > most && is("recipe-15-before-own-answers") {
         own = Some(15);
     }
@@ -184,17 +198,17 @@ fn add_one(tally: &mut [u8], slot: usize) {
 
 struct Run<'a> {
     no_station: bool,
-    columns: u32,
+    columns: usize,
     numbers: Vec<u32>,
     list: [&'a [u8]; 4],
     second: [&'a [u8]; 4],
     arguments: Argument<'a>,
     /// The starting bits of the two lists.
-    starts: [[u32; 2]; 2],
+    starts: [[usize; 2]; 2],
 }
 
 impl<'a> Run<'a> {
-    fn new(columns: u32, inputs: &[&'a [u8]; 11], starts: [u32; 5]) -> Self {
+    fn new(columns: usize, inputs: &[&'a [u8]; 11], starts: [usize; 5]) -> Self {
         let number = |number: i64| match defect() {
             "recipe-numbers-cut-to-a-byte" => number as u32 % 256,
             _ => number as u32,
@@ -237,9 +251,9 @@ impl<'a> Run<'a> {
         let (used, unused) = numbers.split_at(taken(code));
         let absent = |number: &u32| match defect() {
             "recipe-absent-column-accepted" => false,
-            "recipe-column-one-past-accepted" => *number > self.columns,
+            "recipe-column-one-past-accepted" => *number as usize > self.columns,
             "recipe-column-of-eight" => *number >= 8,
-            _ => *number >= self.columns,
+            _ => *number as usize >= self.columns,
         };
         let from_0 = self.row_count() > 3 && self.list[0].starts_with(&[0; 4]);
         let stray = |(place, number): (usize, &u32)| match defect() {
@@ -247,7 +261,9 @@ impl<'a> Run<'a> {
             "recipe-unused-number-not-tested-from-offset-0" if from_0 => false,
             "recipe-last-unused-number-not-tested" => *number != 0 && place + 1 < unused.len(),
             "recipe-first-unused-number-not-tested" => *number != 0 && place > 0,
-            "recipe-unused-number-tested-as-column" => *number >= self.columns && *number != 0,
+            "recipe-unused-number-tested-as-column" => {
+                *number as usize >= self.columns && *number != 0
+            }
             _ => *number != 0,
         };
         let wrong = used.iter().any(absent) || unused.iter().enumerate().any(stray);
@@ -265,7 +281,7 @@ impl<'a> Run<'a> {
         let most_columns = match defect() {
             "recipe-nine-columns-accepted" => 9,
             "recipe-eight-columns-refused" => 7,
-            "recipe-columns-not-counted" => u32::MAX,
+            "recipe-columns-not-counted" => usize::MAX,
             _ => 8,
         };
         self.numbers.len() % 4 != 0 && !is("recipe-length-rounded-down")
@@ -286,7 +302,7 @@ impl<'a> Run<'a> {
             || is("recipe-second-list-tested-where-used") && !self.uses_second();
         let lists = if ignored { &lists[..1] } else { &lists[..] };
         let lent = self.arguments.values.len();
-        let wanted = self.columns as usize * self.row_count();
+        let wanted = self.columns.saturating_mul(self.row_count());
         let covered = if is("recipe-argument-bitmap-for-all-rows") { wanted } else { lent };
         let short_arguments =
             self.arguments.bits.too_short(covered) && !is("argument-bitmap-not-tested");
@@ -301,7 +317,7 @@ impl<'a> Run<'a> {
         let unequal_arguments = match defect() {
             "recipe-argument-length-not-tested" => false,
             "recipe-longer-arguments-accepted" => lent < wanted,
-            "recipe-one-value-a-column-accepted" => lent != wanted && lent != self.columns as usize,
+            "recipe-one-value-a-column-accepted" => lent != wanted && lent != self.columns,
             "recipe-arguments-not-tested-where-unused" => {
                 lent != wanted && self.steps().iter().any(|step| taken(step[0]) > 0)
             }
@@ -337,19 +353,19 @@ impl<'a> Run<'a> {
     // One step.
 
     /// The column of a step's number, taken out of the slice in which all of them lie.
-    fn argument(&self, at: usize, place: usize, number: u32) -> (Vec<i64>, Vec<u8>) {
+    fn argument(&self, at: usize, place: usize, number: usize) -> (Vec<i64>, Vec<u8>) {
         let number = match defect() {
-            "recipe-columns-by-step-number" => (at + place) as u32 % self.columns.max(1),
-            "recipe-columns-in-order" => place as u32 % self.columns.max(1),
+            "recipe-columns-by-step-number" => (at + place) % self.columns.max(1),
+            "recipe-columns-in-order" => place % self.columns.max(1),
             "recipe-last-two-columns-exchanged" if number + 2 >= self.columns => {
                 (2 * self.columns).saturating_sub(number + 3)
             }
             _ => number,
         };
-        let (rows, columns) = (self.row_count(), self.columns as usize);
-        let start = number.min(1024) as usize * rows;
+        let (rows, columns) = (self.row_count(), self.columns);
+        let start = number.min(1024) * rows;
         let place = |row: usize| match defect() {
-            "recipe-arguments-row-by-row" => row * columns + number.min(1024) as usize,
+            "recipe-arguments-row-by-row" => row * columns + number.min(1024),
             _ => start + row,
         };
         let bits_start = match defect() {
@@ -382,7 +398,7 @@ impl<'a> Run<'a> {
         };
         let count = if code == COPY { 0 } else { taken(code) };
         let owned: Vec<(Vec<i64>, Vec<u8>)> =
-            (0..count).map(|place| self.argument(at, place, step[place + 1])).collect();
+            (0..count).map(|place| self.argument(at, place, step[place + 1] as usize)).collect();
         let arguments = owned.iter();
         let arguments = arguments
             .map(|(values, bits)| Argument { values: values.clone(), bits: Bits::new(bits, 0) });

@@ -252,11 +252,12 @@ fn places(first: i64, last: i64, stride: i64) -> Result<Vec<usize>, u32> {
     Ok(all)
 }
 
-pub fn resize(items: Vec<Item>, count: Item, fill: Option<Item>) -> Option<Vec<Item>> {
+/// The row cut or filled, to this many elements at most.
+pub fn resize(items: Vec<Item>, count: Item, fill: Option<Item>, most: usize) -> Option<Vec<Item>> {
     let Some(count) = count.given() else {
         return is("resize-null-count-keeps-row").then_some(items);
     };
-    let count = count.clamp(0, 50_000) as usize + usize::from(is("resize-one-more"));
+    let count = count.clamp(0, most as i64) as usize + usize::from(is("resize-one-more"));
     let zero = Item { valid: true, number: 0 };
     let fill = match fill {
         Some(fill) if !fill.valid && is("resize-null-fill-gives-null") => return None,

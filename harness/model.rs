@@ -84,7 +84,7 @@ impl Operation {
 #[derive(Clone, Debug, Default)]
 pub struct Bitmap {
     pub bytes: Vec<u8>,
-    pub start: u32,
+    pub start: usize,
 }
 
 /// A list column as it is lent.
@@ -155,8 +155,8 @@ pub const UNDER_NULL: i64 = -9223372036854775808;
 /// The largest running sum of resize's counts.
 const MOST_RUNNING_SUM: u128 = 18446744073709551615;
 
-/// Results of more elements than this are measured, and not made.
-const MOST_HELD: u128 = 100_000;
+/// Results of more elements than this are measured, and not made; no slice that is lent is longer.
+pub const MOST_HELD: usize = 8_000_000;
 
 // What a column shows.
 
@@ -179,11 +179,11 @@ impl Bitmap {
 
     /// The bytes that it takes for this many positions, which are counted from its starting bit.
     pub fn needed(&self, positions: usize) -> usize {
-        bitmap_bytes(self.start as usize + positions)
+        bitmap_bytes(self.start + positions)
     }
 
     pub fn is_valid(&self, position: usize) -> bool {
-        is_valid(&self.bytes, self.start as usize + position)
+        is_valid(&self.bytes, self.start + position)
     }
 
     /// A non-empty bitmap with fewer bits from its starting bit on than positions.
@@ -549,7 +549,7 @@ fn resized_elements(shown: &Shown) -> Result<u128, Refusal> {
 
 fn resize_of_each(operation: Operation, shown: &Shown) -> Result<Made, Refusal> {
     let elements = resized_elements(shown)?;
-    if elements > MOST_HELD {
+    if elements > MOST_HELD as u128 {
         return Ok(Made::TooLong(list_slots(shown.lists[0].len() as u128, elements)));
     }
     each_list(operation, shown).map(Made::Lists)
@@ -568,7 +568,7 @@ fn list_repeat(shown: &Shown) -> Result<Made, Refusal> {
     if inner_rows > MOST_ELEMENTS || elements > MOST_ELEMENTS {
         return Err(8);
     }
-    if inner_rows > MOST_HELD || elements > MOST_HELD {
+    if inner_rows.max(elements) > MOST_HELD as u128 {
         let outer = &list_slots(rows.len() as u128, 0)[..2];
         return Ok(Made::TooLong([outer, &list_slots(inner_rows, elements)].concat()));
     }
@@ -752,7 +752,7 @@ pub const CODES: [Operation; 11] = [
 
 pub const MOST_STEPS: usize = 32;
 
-pub const MOST_COLUMNS: u32 = 8;
+pub const MOST_COLUMNS: usize = 8;
 
 /// A recipe as it is lent: the station that it is run for, the numbers of its steps, how many
 /// argument columns there are, its two lists, and the one slice in which all its argument columns
@@ -761,7 +761,7 @@ pub const MOST_COLUMNS: u32 = 8;
 pub struct Recipe<'a> {
     pub station: u32,
     pub numbers: &'a [u32],
-    pub columns: u32,
+    pub columns: usize,
     pub lists: &'a [ListColumn],
     pub arguments: &'a ArgumentColumn,
 }
@@ -804,7 +804,7 @@ pub struct RecipeRefusal {
 
 /// Every way in which a recipe is malformed: length not a multiple of 4, over 32 steps, code over
 /// 10, over eight columns, a used column that isn't there, an unused number not 0.
-pub fn malformed(numbers: &[u32], columns: u32) -> Vec<Malformed> {
+pub fn malformed(numbers: &[u32], columns: usize) -> Vec<Malformed> {
     let mut ways = Vec::new();
     let mut add = |holds: bool, way: Malformed| ways.extend(holds.then_some(way));
     let steps: Vec<&[u32]> = numbers.chunks_exact(4).collect();
@@ -817,7 +817,8 @@ pub fn malformed(numbers: &[u32], columns: u32) -> Vec<Malformed> {
     add(steps.len() > MOST_STEPS, Malformed::Steps);
     add(steps.iter().any(|step| step[0] > 10), Malformed::Code);
     add(columns > MOST_COLUMNS, Malformed::Columns);
-    let absent = split.iter().any(|(used, _)| used.iter().any(|number| *number >= columns));
+    let absent =
+        split.iter().any(|(used, _)| used.iter().any(|number| *number as usize >= columns));
     add(absent, Malformed::AbsentColumn);
     let unused = split.iter().any(|(_, unused)| unused.iter().any(|number| *number != 0));
     add(unused, Malformed::UnusedNumber);
@@ -839,7 +840,7 @@ pub fn recipe_column_refusal(recipe: &Recipe) -> Option<Refusal> {
     }
     let rows = lists[0].row_count();
     let unequal = lists[1].row_count() != rows;
-    if unequal || arguments.values.len() as u128 != u128::from(recipe.columns) * rows as u128 {
+    if unequal || arguments.values.len() as u128 != recipe.columns as u128 * rows as u128 {
         return Some(3);
     }
     None
@@ -852,7 +853,7 @@ pub fn recipe_shown(recipe: &Recipe) -> RecipeShown {
     let column = |number: usize| arguments[number * rows.len()..][..rows.len()].to_vec();
     RecipeShown {
         steps: recipe.numbers.chunks(4).map(|step| [step[0], step[1], step[2], step[3]]).collect(),
-        columns: (0..recipe.columns as usize).map(column).collect(),
+        columns: (0..recipe.columns).map(column).collect(),
         lists: [rows, shown_rows(&recipe.lists[1])],
     }
 }

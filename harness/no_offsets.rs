@@ -49,7 +49,7 @@ fn recipe_without_rows(entry: Entry, steps: usize, rng: &mut Rng) -> Input {
     };
     let numbers = (0..steps).flat_map(step).collect();
     let lists = [Vec::new(), Vec::new()];
-    let (station, columns) = (random_station(rng), columns as u32);
+    let station = random_station(rng);
     let call = RecipeCall { station, numbers, columns, lists, arguments: Vec::new() };
     call.laid_out(&random_layouts(entry, rng), rng)
 }

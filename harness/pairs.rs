@@ -275,7 +275,7 @@ fn most_slots(shown: &RecipeShown, slice: usize) -> (u64, usize) {
 
 /// Gives the second list, or the slice of all argument columns, another length.
 fn make_call_unequal(call: &mut RecipeCall, column: Column, rng: &mut Rng) {
-    let (rows, columns) = (call.lists[0].len(), call.columns as usize);
+    let (rows, columns) = (call.lists[0].len(), call.columns);
     match column {
         Column::List(_) => {
             let length = other_length(rows, &[], rng);

@@ -1,11 +1,15 @@
 //! The same calls in plain safe Rust, with the signatures of the entries: the baseline of the
 //! benchmark. One walk over the rows counts what an operation makes of them, a second one writes
-//! it; nothing is allocated. The operations are written over numbers held in any way; the entries
-//! here read and write them in place, as arrays of bytes, and those of `decoded.rs` as integers.
+//! it, values by the run and bits by the word; nothing is allocated. The operations are written over
+//! numbers held in any way: the typed entries here read and write integers where they lie, the byte
+//! entries arrays of bytes, and those of `decoded.rs` integers that they decode.
 
 use crate::library::Library;
+use crate::numbers::bytes_of;
+use crate::typed::{List, OuterRoom, Recipe, Room, Typed, Values};
 use std::collections::HashSet;
 use std::hash::Hash;
+use std::ops::Range;
 
 pub const LIBRARY: Library = Library {
     list: Some(list),
@@ -15,6 +19,7 @@ pub const LIBRARY: Library = Library {
     list_with: Some(list_with),
     list_repeat: Some(list_repeat),
     recipe: Some(recipe),
+    typed: Some(TYPED),
 };
 
 type Bytes4 = [u8; 4];
@@ -96,6 +101,33 @@ fn bit(bitmap: &[u8], position: usize) -> bool {
     bitmap.is_empty() || bitmap[position / 8] >> (position % 8) & 1 == 1
 }
 
+/// So many ones from the lowest bit on, at most 64.
+fn ones(count: usize) -> u64 {
+    if count < 64 {
+        (1 << count) - 1
+    } else {
+        u64::MAX
+    }
+}
+
+/// The bits from a position on, 1 to 64 of them, the first one lowest and zeros above the last.
+fn bits_at(bitmap: &[u8], position: usize, count: usize) -> u64 {
+    let (byte, shift) = (position / 8, position % 8);
+    let low = match bitmap[byte..].first_chunk() {
+        Some(eight) => u64::from_le_bytes(*eight),
+        None => {
+            let mut eight = [0; 8];
+            eight[..bitmap.len() - byte].copy_from_slice(&bitmap[byte..]);
+            u64::from_le_bytes(eight)
+        }
+    };
+    let mut bits = low >> shift;
+    if shift + count > 64 {
+        bits |= u64::from(bitmap[byte + 8]) << (64 - shift);
+    }
+    bits & ones(count)
+}
+
 fn too_short(bitmap: &[u8], start: usize, positions: usize) -> bool {
     !bitmap.is_empty() && bitmap.len() < (start + positions).div_ceil(8)
 }
@@ -133,15 +165,13 @@ impl<'a, O: Offset, V: Value> Column<'a, O, V> {
     }
 
     fn bad_offsets(&self) -> bool {
-        let mut previous = 0;
-        for offset in self.offsets {
-            let offset = offset.number();
-            if offset < previous {
-                return true;
-            }
-            previous = offset;
-        }
-        previous as usize > self.values.len()
+        let (Some(first), Some(last)) = (self.offsets.first(), self.offsets.last()) else {
+            return false;
+        };
+        // No early end, so that many are compared at a time.
+        let pairs = self.offsets.iter().zip(&self.offsets[1..]);
+        let falls = pairs.fold(false, |falls, (one, next)| falls | (next.number() < one.number()));
+        falls || first.number() < 0 || last.number() as usize > self.values.len()
     }
 
     fn bad_start(&self) -> bool {
@@ -157,7 +187,8 @@ impl<'a, O: Offset, V: Value> Column<'a, O, V> {
         bit(self.rows, self.rows_start + row)
     }
 
-    /// A row, or None for a null row.
+    /// A row, or None for a null row; a call would hand it over through memory.
+    #[inline(always)]
     fn row(&self, row: usize) -> Option<Row<'a, V>> {
         self.is_valid(row).then(|| {
             let (start, end) = (self.offset(row) as usize, self.offset(row + 1) as usize);
@@ -222,16 +253,47 @@ impl<'a, V: Value> Row<'a, V> {
         self.values.len()
     }
 
+    fn is_valid(&self, place: usize) -> bool {
+        bit(self.elements, self.start + place)
+    }
+
     fn element(&self, place: usize) -> Option<V> {
-        bit(self.elements, self.start + place).then(|| self.values[place])
+        self.is_valid(place).then(|| self.values[place])
+    }
+
+    /// The bits of up to 64 places, of which the last comes before an end.
+    fn bits(&self, place: usize, end: usize) -> (u64, usize) {
+        let count = (end - place).min(64);
+        (bits_at(self.elements, self.start + place, count), count)
+    }
+
+    /// The first place before an end with this validity, in a row with a bitmap.
+    fn find(&self, end: usize, valid: bool) -> Option<usize> {
+        (0..end).step_by(64).find_map(|place| {
+            let (bits, count) = self.bits(place, end);
+            let found = if valid { bits } else { !bits & ones(count) };
+            (found != 0).then(|| place + found.trailing_zeros() as usize)
+        })
+    }
+
+    fn first_valid(&self) -> Option<V> {
+        let place = match self.elements.is_empty() {
+            true => (self.len() > 0).then_some(0),
+            false => self.find(self.len(), true),
+        };
+        place.map(|place| self.values[place])
     }
 
     /// Whether an element is among those before a place.
     fn holds(&self, end: usize, element: Option<V>) -> bool {
-        if self.elements.is_empty() {
-            element.is_some_and(|value| self.values[..end].contains(&value))
-        } else {
-            (0..end).any(|place| self.element(place) == element)
+        let before = &self.values[..end];
+        match element {
+            None => !self.elements.is_empty() && self.find(end, false).is_some(),
+            Some(value) => {
+                before.contains(&value)
+                    && (self.elements.is_empty()
+                        || (0..end).any(|place| before[place] == value && self.is_valid(place)))
+            }
         }
     }
 
@@ -247,7 +309,11 @@ impl<'a, V: Value> Row<'a, V> {
 
     /// The first places that hold an element.
     fn matches(self, old: Option<V>, limit: usize) -> impl Iterator<Item = usize> + 'a {
-        (0..self.len()).filter(move |&place| self.element(place) == old).take(limit)
+        let matches = move |place: &usize| match old {
+            Some(value) => self.values[*place] == value && self.is_valid(*place),
+            None => !self.is_valid(*place),
+        };
+        (0..self.len()).filter(matches).take(limit)
     }
 }
 
@@ -255,6 +321,15 @@ impl<'a, V: Value> Row<'a, V> {
 
 /// Takes the elements of one row after another.
 trait Sink<V> {
+    /// The elements of a row from one place up to another.
+    fn run(&mut self, row: Row<V>, places: Range<usize>);
+
+    /// All elements of a row, the last one first.
+    fn reversed(&mut self, row: Row<V>);
+
+    /// So many elements of a row from a place on, by a stride.
+    fn strided(&mut self, row: Row<V>, start: usize, stride: i64, count: usize);
+
     /// The elements of a row at these places.
     fn places(&mut self, row: Row<V>, places: impl Iterator<Item = usize>);
 
@@ -271,16 +346,18 @@ pub struct Call<'a, O, V> {
 }
 
 impl<O: Offset, V: Value> Call<'_, O, V> {
-    /// Gives the elements of a row to the sink, or a refusal; None for a null row.
-    fn make(&self, at: usize, sink: &mut impl Sink<V>) -> Option<Result<(), u32>> {
+    /// Gives the elements of a row to the sink, or a refusal; None for a null row. The code is that
+    /// of the call.
+    #[inline(always)]
+    fn make<const CODE: u32>(&self, at: usize, sink: &mut impl Sink<V>) -> Option<Result<(), u32>> {
         let row = self.list.row(at)?;
-        match (self.code, self.arguments) {
-            (COPY, _) => sink.places(row, 0..row.len()),
-            (REVERSE, _) => sink.places(row, (0..row.len()).rev()),
+        match (CODE, self.arguments) {
+            (COPY, _) => sink.run(row, 0..row.len()),
+            (REVERSE, _) => sink.reversed(row),
             (DISTINCT, _) => sink.places(row, row.first_occurrences()),
             (DISTINCT_BY_SET, _) => sink.places(row, row.first_occurrences_by_set()),
-            (POP_FRONT, _) => sink.places(row, row.len().min(1)..row.len()),
-            (POP_BACK, _) => sink.places(row, 0..row.len().saturating_sub(1)),
+            (POP_FRONT, _) => sink.run(row, row.len().min(1)..row.len()),
+            (POP_BACK, _) => sink.run(row, 0..row.len().saturating_sub(1)),
             (SLICE, [from, to, stride]) => {
                 let (from, to) = (from.number(at)?, to.number(at)?);
                 return Some(slice(row, from, to, stride.number(at)?, sink));
@@ -350,9 +427,9 @@ impl<O: Offset, V: Value> Call<'_, O, V> {
     }
 
     /// How many elements the operation makes, or its refusal.
-    fn elements(&self) -> Result<usize, u32> {
+    fn elements<const CODE: u32>(&self) -> Result<usize, u32> {
         let rows = 0..self.list.row_count();
-        match (self.code, self.arguments) {
+        match (CODE, self.arguments) {
             (RESIZE | RESIZE_WITHOUT_FILL, [count, ..]) => self.resized_elements(count),
             (REPLACE, [_, _, limit]) => {
                 let valid = rows.filter(|row| limit.limit(*row).is_some());
@@ -361,9 +438,9 @@ impl<O: Offset, V: Value> Call<'_, O, V> {
             _ => {
                 let mut counter = Counter { elements: 0 };
                 for row in rows {
-                    self.make(row, &mut counter).unwrap_or(Ok(()))?;
+                    self.make::<CODE>(row, &mut counter).unwrap_or(Ok(()))?;
                 }
-                if self.code == UNION && counter.elements as u64 > MOST_ELEMENTS {
+                if CODE == UNION && counter.elements as u64 > MOST_ELEMENTS {
                     return Err(8);
                 }
                 Ok(counter.elements)
@@ -413,18 +490,8 @@ fn slice_plan(length: usize, from: i64, to: i64, stride: i64) -> Result<SlicePla
     } else if i32::try_from(stride).is_err() {
         Err(6)
     } else {
-        Ok(SlicePlan { start, stride, count: places_by_stepping(end - start, stride) })
+        Ok(SlicePlan { start, stride, count: ((end - start) / stride + 1) as usize })
     }
-}
-
-/// How many places there are over a distance that the stride does not go against.
-fn places_by_stepping(distance: i64, stride: i64) -> usize {
-    let (mut rest, mut count) = (distance, 1);
-    while if stride > 0 { rest >= stride } else { rest <= stride } {
-        rest -= stride;
-        count += 1;
-    }
-    count
 }
 
 fn slice<V: Value>(
@@ -436,9 +503,9 @@ fn slice<V: Value>(
 ) -> Result<(), u32> {
     let SlicePlan { start, stride, count } = slice_plan(row.len(), from, to, stride)?;
     if stride == 1 {
-        sink.places(row, start as usize..start as usize + count);
+        sink.run(row, start as usize..start as usize + count);
     } else {
-        sink.places(row, (0..count).map(|step| (start + step as i64 * stride) as usize));
+        sink.strided(row, start as usize, stride, count);
     }
     Ok(())
 }
@@ -446,7 +513,7 @@ fn slice<V: Value>(
 fn resize<V: Value>(row: Row<V>, count: i64, fill: Option<V>, sink: &mut impl Sink<V>) {
     let count = count as usize;
     let kept = count.min(row.len());
-    sink.places(row, 0..kept);
+    sink.run(row, 0..kept);
     sink.fill(fill, count - kept);
 }
 
@@ -459,13 +526,13 @@ fn exchange<V: Value>(
 ) {
     let mut rest = 0;
     for place in matches {
-        sink.places(row, rest..place);
+        sink.run(row, rest..place);
         if let Some(element) = new {
             sink.fill(element, 1);
         }
         rest = place + 1;
     }
-    sink.places(row, rest..row.len());
+    sink.run(row, rest..row.len());
 }
 
 struct Counter {
@@ -473,6 +540,18 @@ struct Counter {
 }
 
 impl<V> Sink<V> for Counter {
+    fn run(&mut self, _: Row<V>, places: Range<usize>) {
+        self.elements += places.len();
+    }
+
+    fn reversed(&mut self, row: Row<V>) {
+        self.elements += row.values.len();
+    }
+
+    fn strided(&mut self, _: Row<V>, _: usize, _: i64, count: usize) {
+        self.elements += count;
+    }
+
     fn places(&mut self, _: Row<V>, places: impl Iterator<Item = usize>) {
         self.elements += match places.size_hint() {
             (least, Some(most)) if least == most => least,
@@ -487,60 +566,79 @@ impl<V> Sink<V> for Counter {
 
 // Results.
 
-/// Writes bits one after another into whole bytes; ones that come together wait until others come.
+/// Writes bits one after another in words of 64; ones that come together wait until others come.
 struct BitWriter<'a> {
     bytes: &'a mut [u8],
+    /// The bytes of the words that are written.
     written: usize,
-    current: u8,
+    current: u64,
+    /// The bits of the current word, at most 63.
+    filled: usize,
     zeros: u64,
     waiting: usize,
 }
 
 impl<'a> BitWriter<'a> {
     fn new(bytes: &'a mut [u8]) -> Self {
-        BitWriter { bytes, written: 0, current: 0, zeros: 0, waiting: 0 }
+        BitWriter { bytes, written: 0, current: 0, filled: 0, zeros: 0, waiting: 0 }
     }
 
     fn push_ones(&mut self, times: usize) {
         self.waiting += times;
     }
 
-    fn push(&mut self, bits: impl Iterator<Item = bool>) {
-        self.write_waiting();
-        // Locals, for the fields could lie in the bytes for all that the compiler knows.
-        let (mut written, mut current, mut zeros) = (self.written, self.current, self.zeros);
-        for bit in bits {
-            current |= u8::from(bit) << (written % 8);
-            zeros += u64::from(!bit);
-            written += 1;
-            if written % 8 == 0 {
-                self.bytes[written / 8 - 1] = current;
-                current = 0;
-            }
+    /// Up to 64 bits, and zeros above them.
+    fn push_bits(&mut self, bits: u64, count: usize) {
+        if self.waiting > 0 {
+            self.write_waiting();
         }
-        (self.written, self.current, self.zeros) = (written, current, zeros);
+        self.zeros += count as u64 - u64::from(bits.count_ones());
+        self.append(bits, count);
+    }
+
+    fn push_bit(&mut self, bit: bool) {
+        if self.waiting > 0 {
+            self.write_waiting();
+        }
+        self.zeros += u64::from(!bit);
+        self.append(u64::from(bit), 1);
+    }
+
+    fn push_zeros(&mut self, times: usize) {
+        for done in (0..times).step_by(64) {
+            self.push_bits(0, (times - done).min(64));
+        }
+    }
+
+    fn append(&mut self, bits: u64, count: usize) {
+        self.current |= bits << self.filled;
+        let filled = self.filled + count;
+        if filled >= 64 {
+            let word = &mut self.bytes[self.written..self.written + 8];
+            word.copy_from_slice(&self.current.to_le_bytes());
+            self.written += 8;
+            self.current = bits.checked_shr(64 - self.filled as u32).unwrap_or(0);
+        }
+        self.filled = filled % 64;
     }
 
     fn write_waiting(&mut self) {
-        let ones = std::mem::take(&mut self.waiting);
-        if ones == 0 {
-            return;
-        }
-        let first = ones.min((8 - self.written % 8) % 8);
-        self.push(std::iter::repeat_n(true, first));
-        let (whole, last) = ((ones - first) / 8, (ones - first) % 8);
-        let start = self.written / 8;
-        self.bytes[start..start + whole].fill(0xff);
+        let waiting = std::mem::take(&mut self.waiting);
+        let first = waiting.min(64 - self.filled);
+        self.append(ones(first), first);
+        let whole = (waiting - first) / 64;
+        self.bytes[self.written..self.written + 8 * whole].fill(0xff);
         self.written += 8 * whole;
-        self.push(std::iter::repeat_n(true, last));
+        let last = (waiting - first) % 64;
+        self.append(ones(last), last);
     }
 
-    /// Ends the last byte, and gives the number of zeros.
+    /// Ends the last word, and gives the number of zeros.
     fn finish(mut self) -> u64 {
         self.write_waiting();
-        if self.written % 8 != 0 {
-            self.bytes[self.written / 8] = self.current;
-        }
+        let last = self.filled.div_ceil(8);
+        let rest = &mut self.bytes[self.written..self.written + last];
+        rest.copy_from_slice(&self.current.to_le_bytes()[..last]);
         self.zeros
     }
 }
@@ -559,7 +657,7 @@ impl<'a, O: Offset> RowWriter<'a, O> {
     }
 
     fn push(&mut self, valid: bool, end: usize) {
-        self.bits.push(std::iter::once(valid));
+        self.bits.push_bit(valid);
         self.rows += 1;
         self.offsets[self.rows] = O::of(end as i32);
     }
@@ -578,23 +676,122 @@ impl<'a, V> ElementWriter<'a, V> {
     }
 }
 
+fn copy_each<'a, V: Copy + 'a>(slots: &mut [V], values: impl Iterator<Item = &'a V>) {
+    slots.iter_mut().zip(values).for_each(|(slot, value)| *slot = *value);
+}
+
+/// Copies as many values as there are slots; few of them without a call, as two parts that may
+/// overlap.
+fn copy_run<V: Copy>(slots: &mut [V], values: &[V]) {
+    fn both_ends<V: Copy, const N: usize>(slots: &mut [V], values: &[V]) {
+        if let (Some(slots), Some(values)) = (slots.first_chunk_mut::<N>(), values.first_chunk()) {
+            *slots = *values;
+        }
+        if let (Some(slots), Some(values)) = (slots.last_chunk_mut::<N>(), values.last_chunk()) {
+            *slots = *values;
+        }
+    }
+    match values.len() {
+        0 => (),
+        1 => both_ends::<V, 1>(slots, values),
+        2..=3 => both_ends::<V, 2>(slots, values),
+        4..=8 => both_ends::<V, 4>(slots, values),
+        9..=16 => both_ends::<V, 8>(slots, values),
+        _ => slots.copy_from_slice(values),
+    }
+}
+
+/// Writes what null slots hold where the bits of these slots, at most 64, are 0.
+fn write_nulls<V: Value>(slots: &mut [V], bits: u64) {
+    let mut nulls = !bits & ones(slots.len());
+    while nulls != 0 {
+        slots[nulls.trailing_zeros() as usize] = V::NULL;
+        nulls &= nulls - 1;
+    }
+}
+
 impl<V: Value> Sink<V> for ElementWriter<'_, V> {
+    #[inline(always)]
+    fn run(&mut self, row: Row<V>, places: Range<usize>) {
+        let next = self.elements + places.len();
+        let slots = &mut self.values[self.elements..next];
+        copy_run(slots, &row.values[places.clone()]);
+        self.elements = next;
+        if row.elements.is_empty() {
+            return self.bits.push_ones(places.len());
+        }
+        let end = places.end;
+        for (slots, place) in slots.chunks_mut(64).zip(places.step_by(64)) {
+            let (bits, count) = row.bits(place, end);
+            write_nulls(slots, bits);
+            self.bits.push_bits(bits, count);
+        }
+    }
+
+    fn reversed(&mut self, row: Row<V>) {
+        let next = self.elements + row.len();
+        let slots = &mut self.values[self.elements..next];
+        copy_each(slots, row.values.iter().rev());
+        self.elements = next;
+        if row.elements.is_empty() {
+            return self.bits.push_ones(row.len());
+        }
+        let mut end = row.len();
+        for slots in slots.chunks_mut(64) {
+            let (bits, count) = row.bits(end - slots.len(), end);
+            let bits = bits.reverse_bits() >> (64 - count);
+            write_nulls(slots, bits);
+            self.bits.push_bits(bits, count);
+            end -= count;
+        }
+    }
+
+    fn strided(&mut self, row: Row<V>, start: usize, stride: i64, count: usize) {
+        let next = self.elements + count;
+        let slots = &mut self.values[self.elements..next];
+        let step = stride.unsigned_abs() as usize;
+        if stride > 0 {
+            copy_each(slots, row.values[start..].iter().step_by(step));
+        } else {
+            copy_each(slots, row.values[..=start].iter().rev().step_by(step));
+        }
+        self.elements = next;
+        if row.elements.is_empty() {
+            return self.bits.push_ones(count);
+        }
+        let mut place = (row.start + start) as i64;
+        for slots in slots.chunks_mut(64) {
+            let mut bits = 0;
+            for at in 0..slots.len() {
+                bits |= u64::from(bit(row.elements, place as usize)) << at;
+                place += stride;
+            }
+            write_nulls(slots, bits);
+            self.bits.push_bits(bits, slots.len());
+        }
+    }
+
     fn places(&mut self, row: Row<V>, places: impl Iterator<Item = usize>) {
-        let slots = self.values[self.elements..].iter_mut();
+        let slots = self.values[self.elements..].iter_mut().zip(places);
         let mut written = 0;
         if row.elements.is_empty() {
-            for (slot, place) in slots.zip(places) {
+            for (slot, place) in slots {
                 *slot = row.values[place];
                 written += 1;
             }
             self.bits.push_ones(written);
         } else {
-            self.bits.push(slots.zip(places).map(|(slot, place)| {
-                let element = row.element(place);
-                *slot = element.unwrap_or(V::NULL);
+            let mut bits = 0;
+            for (slot, place) in slots {
+                let valid = row.is_valid(place);
+                *slot = if valid { row.values[place] } else { V::NULL };
+                bits |= u64::from(valid) << (written % 64);
                 written += 1;
-                element.is_some()
-            }));
+                if written % 64 == 0 {
+                    self.bits.push_bits(std::mem::take(&mut bits), 64);
+                }
+            }
+            self.bits.push_bits(bits, written % 64);
         }
         self.elements += written;
     }
@@ -604,7 +801,7 @@ impl<V: Value> Sink<V> for ElementWriter<'_, V> {
         self.values[self.elements..end].fill(element.unwrap_or(V::NULL));
         match element {
             Some(_) => self.bits.push_ones(times),
-            None => self.bits.push(std::iter::repeat_n(false, times)),
+            None => self.bits.push_zeros(times),
         }
         self.elements = end;
     }
@@ -642,10 +839,28 @@ pub fn write_lists<O: Offset, V: Value>(
     write_rows(call, room)
 }
 
-/// The same for columns that are not refused.
+/// The same for columns that are not refused; the operation is chosen once for all rows.
 fn write_rows<O: Offset, V: Value>(call: &Call<O, V>, room: Lists<O, V>) -> Result<[u64; 4], u32> {
+    macro_rules! by_code {
+        ($($code:ident)+) => {
+            match call.code {
+                $($code => write_rows_of::<$code, O, V>(call, room),)+
+                _ => unreachable!("a code that no entry lets through"),
+            }
+        };
+    }
+    by_code! {
+        COPY REVERSE DISTINCT DISTINCT_BY_SET POP_FRONT POP_BACK SLICE SLICE_WITHOUT_STRIDE
+        RESIZE RESIZE_WITHOUT_FILL REPLACE REMOVE UNION INTERSECT
+    }
+}
+
+fn write_rows_of<const CODE: u32, O: Offset, V: Value>(
+    call: &Call<O, V>,
+    room: Lists<O, V>,
+) -> Result<[u64; 4], u32> {
     let rows = call.list.row_count();
-    let elements = call.elements()?;
+    let elements = call.elements::<CODE>()?;
     if !rows_fit(room.offsets, room.rows, rows)
         || !elements_fit(room.values, room.elements, elements)
     {
@@ -654,7 +869,7 @@ fn write_rows<O: Offset, V: Value>(call: &Call<O, V>, room: Lists<O, V>) -> Resu
     let mut row_writer = RowWriter::new(room.offsets, room.rows);
     let mut element_writer = ElementWriter::new(&mut room.values[..elements], room.elements);
     for row in 0..rows {
-        let valid = call.make(row, &mut element_writer).is_some();
+        let valid = call.make::<CODE>(row, &mut element_writer).is_some();
         row_writer.push(valid, element_writer.elements);
     }
     let (null_rows, null_elements) = (row_writer.bits.finish(), element_writer.bits.finish());
@@ -672,11 +887,11 @@ fn write_values<V: Value>(
         return Err(9);
     }
     let mut bits = BitWriter::new(out_rows);
-    bits.push(out_values[..rows].iter_mut().enumerate().map(|(row, slot)| {
+    for (row, slot) in out_values[..rows].iter_mut().enumerate() {
         let value = value(row);
         *slot = value.unwrap_or(V::NULL);
-        value.is_some()
-    }));
+        bits.push_bit(value.is_some());
+    }
     Ok([rows as u64, bits.finish()])
 }
 
@@ -695,10 +910,7 @@ pub fn write_any_values<O: Offset, V: Value>(
     if column.short_bitmap() {
         return Err(2);
     }
-    let value = |at| {
-        let row = column.row(at)?;
-        (0..row.len()).find_map(|place| row.element(place))
-    };
+    let value = |at| column.row(at)?.first_valid();
     write_values(column.row_count(), value, out_values, out_rows)
 }
 
@@ -803,7 +1015,7 @@ pub fn write_repeated<O: Offset, V: Value>(
         let row = column.row(at);
         for _ in 0..times.unwrap_or(0) {
             if let Some(row) = row {
-                element_writer.places(row, 0..row.len());
+                element_writer.run(row, 0..row.len());
             }
             lists.push(row.is_some(), element_writer.elements);
         }
@@ -981,19 +1193,6 @@ pub fn list(
     answer(result, counts)
 }
 
-/// Distinct with a set on the heap, for the benchmark.
-pub fn distinct_by_set(
-    _: u32,
-    inputs: [&[u8]; 4],
-    starts: [u32; 2],
-    outputs: [&mut [u8]; 4],
-    counts: &mut [u8],
-) -> u32 {
-    let list = Column::in_place(inputs, starts);
-    let call = Call { code: DISTINCT_BY_SET, list, right: None, arguments: &[] };
-    answer(write_lists(&call, lists_in_place(outputs)), counts)
-}
-
 pub fn lists(
     code: u32,
     inputs: [&[u8]; 8],
@@ -1091,13 +1290,14 @@ fn step_numbers(step: &[Bytes4; 4]) -> [u32; 4] {
     step.map(u32::from_le_bytes)
 }
 
-fn is_malformed_step(step: &[Bytes4; 4], columns: u32) -> bool {
+fn is_malformed_step(step: &[Bytes4; 4], columns: usize) -> bool {
     let [code, numbers @ ..] = step_numbers(step);
     let Some(taken) = columns_taken(code) else {
         return true;
     };
     let (used, unused) = numbers.split_at(taken);
-    used.iter().any(|number| *number >= columns) || unused.iter().any(|number| *number != 0)
+    used.iter().any(|number| *number as usize >= columns)
+        || unused.iter().any(|number| *number != 0)
 }
 
 /// The lists and the argument columns of a recipe, of which the latter lie in one slice.
@@ -1108,7 +1308,7 @@ pub struct RecipeColumns<'a, O, V> {
 }
 
 impl<'a, O: Offset, V: Value> RecipeColumns<'a, O, V> {
-    fn refusal(&self, columns: u32) -> Option<u32> {
+    fn refusal(&self, columns: usize) -> Option<u32> {
         let RecipeColumns { list, second, arguments } = self;
         if list.bad_start() || second.bad_start() || arguments.bad_start() {
             Some(13)
@@ -1117,7 +1317,7 @@ impl<'a, O: Offset, V: Value> RecipeColumns<'a, O, V> {
         } else if list.short_bitmap() || second.short_bitmap() || arguments.short_bitmap() {
             Some(2)
         } else if second.row_count() != list.row_count()
-            || arguments.values.len() != columns as usize * list.row_count()
+            || arguments.values.len() != columns * list.row_count()
         {
             Some(3)
         } else {
@@ -1190,7 +1390,7 @@ fn run_steps<O: Offset, V: Value>(
 
 /// The whole recipe but for the answers of the entry, the trays' zeros and the tally.
 pub fn run_recipe<O: Offset, V: Value>(
-    columns: u32,
+    columns: usize,
     numbers: &[u8],
     lent: &RecipeColumns<O, V>,
     trays: [Lists<O, V>; 2],
@@ -1275,6 +1475,130 @@ pub fn recipe(
             arguments: Argument::in_place([arguments, argument_bits], b4),
         };
         let trays = [[o0, o1, o2, o3], [t0, t1, t2, t3]].map(lists_in_place);
-        run_recipe(columns, numbers, &lent, trays, lists_in_place([r0, r1, r2, r3]))
+        let output = lists_in_place([r0, r1, r2, r3]);
+        run_recipe(columns as usize, numbers, &lent, trays, output)
     })
+}
+
+// Typed entries.
+
+const TYPED: Typed = Typed {
+    list: typed_list,
+    lists: typed_lists,
+    any_value: typed_any_value,
+    element: typed_element,
+    list_repeat: typed_list_repeat,
+    recipe: typed_recipe,
+};
+
+/// A typed entry's only number of its own.
+const NOT_SERVED: u32 = 100;
+
+/// What a typed entry returns: 0, the counts being written, or a refusal; 100 before all else where
+/// the counts are too few.
+fn tell<const N: usize>(counts: &mut [u64], result: impl FnOnce() -> Result<[u64; N], u32>) -> u32 {
+    let Some(places) = counts.first_chunk_mut() else {
+        return NOT_SERVED;
+    };
+    match result() {
+        Ok(numbers) => {
+            *places = numbers;
+            0
+        }
+        Err(number) => number,
+    }
+}
+
+fn typed_list(
+    code: u32,
+    list: List,
+    arguments: [Values; 3],
+    room: Room,
+    counts: &mut [u64],
+) -> u32 {
+    let taken = match code {
+        RESIZE_WITHOUT_FILL => 1,
+        UNION | INTERSECT => return NOT_SERVED,
+        _ => match columns_taken(code) {
+            Some(taken) => taken,
+            None => return NOT_SERVED,
+        },
+    };
+    let call = Call { code, list, right: None, arguments: &arguments[..taken] };
+    tell(counts, || write_lists(&call, room))
+}
+
+/// Distinct with a set on the heap, for the benchmark.
+pub fn typed_distinct_by_set(
+    _: u32,
+    list: List,
+    _: [Values; 3],
+    room: Room,
+    counts: &mut [u64],
+) -> u32 {
+    let call = Call { code: DISTINCT_BY_SET, list, right: None, arguments: &[] };
+    tell(counts, || write_lists(&call, room))
+}
+
+fn typed_lists(code: u32, [list, right]: [List; 2], room: Room, counts: &mut [u64]) -> u32 {
+    if code != UNION && code != INTERSECT {
+        return NOT_SERVED;
+    }
+    let call = Call { code, list, right: Some(right), arguments: &[] };
+    tell(counts, || write_lists(&call, room))
+}
+
+fn typed_any_value(list: List, values: &mut [i64], rows: &mut [u8], counts: &mut [u64]) -> u32 {
+    tell(counts, || write_any_values(list, values, rows))
+}
+
+fn typed_element(
+    list: List,
+    indexes: Values,
+    values: &mut [i64],
+    rows: &mut [u8],
+    counts: &mut [u64],
+) -> u32 {
+    tell(counts, || write_elements(list, indexes, values, rows))
+}
+
+fn typed_list_repeat(
+    list: List,
+    times: Values,
+    outer: OuterRoom,
+    inner: Room,
+    counts: &mut [u64],
+) -> u32 {
+    tell(counts, || write_repeated(list, times, outer, inner))
+}
+
+fn typed_recipe(
+    recipe: Recipe,
+    [mut one, mut two, output]: [Room; 3],
+    counts: &mut [u64],
+    tally: &mut [u64],
+) -> u32 {
+    let Recipe { station, numbers, columns, lists: [list, second], arguments } = recipe;
+    let result = if tally.len() < 32 {
+        NOT_SERVED
+    } else {
+        tell(counts, || {
+            if station > 15 {
+                return Err(15);
+            }
+            let lent = RecipeColumns { list, second, arguments };
+            let trays = [reborrow(&mut one), reborrow(&mut two)];
+            let result = run_recipe(columns, bytes_of(numbers), &lent, trays, output);
+            let count = &mut tally[station as usize + if result.is_ok() { 0 } else { 16 }];
+            *count = count.saturating_add(1);
+            result
+        })
+    };
+    for Lists { offsets, rows, values, elements } in [one, two] {
+        offsets.fill(0);
+        rows.fill(0);
+        values.fill(0);
+        elements.fill(0);
+    }
+    result
 }

@@ -1,4 +1,4 @@
-//! The port's C entries behind safe functions.
+//! The port's C entries over bytes behind safe functions, and the library of all its entries.
 //!
 //! A slice passes as a pointer and a length in bytes, a bitmap of a column with its starting bit
 //! behind them. The entries demand nothing of their caller
@@ -10,6 +10,8 @@ pub use crate::mock::LIBRARY;
 
 #[cfg(not(mock))]
 use crate::library::Library;
+#[cfg(not(mock))]
+use crate::typed_port::TYPED;
 
 /// The safe function of an entry: the code, if it takes one, or the station and the number of
 /// columns, then the names of its input slices, those of bitmaps with that of their starting bit,
@@ -17,43 +19,43 @@ use crate::library::Library;
 #[cfg(not(mock))]
 macro_rules! entry {
     (list) => {
-        entry! { list = duthlan_list (op)
+        entry! { list = duthlan_bytes_list (op)
             [offsets rows:rows_start values elements:elements_start]
             [out_offsets out_rows out_values out_elements] }
     };
     (any_value) => {
-        entry! { any_value = duthlan_any_value ()
+        entry! { any_value = duthlan_bytes_any_value ()
             [offsets rows:rows_start values elements:elements_start]
             [out_values out_rows] }
     };
     (element) => {
-        entry! { element = duthlan_element ()
+        entry! { element = duthlan_bytes_element ()
             [offsets rows:rows_start values elements:elements_start
              indexes index_bits:index_start]
             [out_values out_rows] }
     };
     (lists) => {
-        entry! { lists = duthlan_lists (op)
+        entry! { lists = duthlan_bytes_lists (op)
             [offsets rows:rows_start values elements:elements_start
              right_offsets right_rows:right_rows_start
              right_values right_elements:right_elements_start]
             [out_offsets out_rows out_values out_elements] }
     };
     (list_with) => {
-        entry! { list_with = duthlan_list_with (op)
+        entry! { list_with = duthlan_bytes_list_with (op)
             [offsets rows:rows_start values elements:elements_start
              first first_bits:first_start second second_bits:second_start
              third third_bits:third_start]
             [out_offsets out_rows out_values out_elements] }
     };
     (list_repeat) => {
-        entry! { list_repeat = duthlan_list_repeat ()
+        entry! { list_repeat = duthlan_bytes_list_repeat ()
             [offsets rows:rows_start values elements:elements_start
              times times_bits:times_start]
             [out_offsets out_rows inner_offsets inner_rows out_values out_elements] }
     };
     (recipe) => {
-        entry! { recipe = duthlan_recipe (station columns)
+        entry! { recipe = duthlan_bytes_recipe (station columns)
             [numbers offsets rows:rows_start values elements:elements_start
              second_offsets second_rows:second_rows_start
              second_values second_elements:second_elements_start
@@ -103,12 +105,13 @@ macro_rules! entry {
 #[cfg(not(mock))]
 macro_rules! archive {
     ($($name:ident)+) => {
-        #[link(name = "duthlan", kind = "static")]
+        #[link(name = "duthlan_bytes", kind = "static")]
         extern "C" {}
 
         $(entry! { $name })+
 
-        pub const LIBRARY: Library = Library { $($name: Some($name),)+ ..Library::EMPTY };
+        pub const LIBRARY: Library =
+            Library { $($name: Some($name),)+ typed: Some(TYPED), ..Library::EMPTY };
     };
 }
 

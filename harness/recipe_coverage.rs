@@ -538,6 +538,7 @@ pub fn demanded() -> Vec<Met> {
     all.extend(crate::coverage::demanded_no_offsets(entry));
     all.extend(crate::coverage::demanded_null_slots());
     all.extend(crate::coverage::demanded_starts(entry, &shared_answers()));
+    all.extend(crate::coverage::demanded_typed(entry, &ANSWERS));
     all.extend(MANY_NUMBERS.map(|(_, name)| ("numbers", name.to_string())));
     all
 }

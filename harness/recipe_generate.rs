@@ -1,9 +1,10 @@
 //! Makes recipes: steps that carry rows on, steps that are refused, argument columns that several
 //! steps share, and trays and outputs as long as they need, longer, or one slot short.
 
-use crate::entry::{Case, Entry, Input, MOST_VALUES, TALLY, TALLY_BYTES};
-use crate::generate::{full_columns, lay_out, lay_out_argument, random_element, random_lists};
-use crate::generate::{refuse_row, room_for, shuffle, Layout, Room, RowShape, MOST_BITMAP_BYTES};
+use crate::entry::{Case, Entry, Input, SliceKind, MOST_VALUES, TALLY, TALLY_BYTES};
+use crate::generate::{columns_within, full_columns, lay_out, lay_out_argument};
+use crate::generate::{random_element, random_lists, refuse_row, room_for, shuffle};
+use crate::generate::{Layout, Left, Room, RowShape, MOST_BITMAP_BYTES};
 use crate::model::{self, Element, Made, Operation, RecipeShown, Row, Shown, Tally};
 use crate::model::{CODES, STATIONS};
 use crate::rng::Rng;
@@ -19,6 +20,8 @@ pub struct Draft {
     free: Vec<usize>,
     kept: usize,
     null_eighths: usize,
+    /// The most elements that a step may make.
+    pub most: usize,
     /// Columns that would make one of the steps refused, by their numbers.
     refused: Vec<(usize, Vec<Element>)>,
 }
@@ -53,7 +56,8 @@ impl Draft {
         let carried = lists[0].clone();
         let columns = vec![vec![None; carried.len()]; columns];
         let shown = RecipeShown { steps: Vec::new(), lists, columns };
-        Draft { shown, carried, free, kept: 0, null_eighths, refused: Vec::new() }
+        let (kept, most) = (0, MOST_VALUES);
+        Draft { shown, carried, free, kept, null_eighths, most, refused: Vec::new() }
     }
 
     /// The lists that an operation takes.
@@ -69,7 +73,8 @@ impl Draft {
     /// there are too few columns or the result is too large, and mostly where no element is left.
     fn add(&mut self, operation: Operation, rng: &mut Rng) -> bool {
         let lists = self.lists_of(operation);
-        let columns = full_columns(operation, &lists, self.null_eighths, rng);
+        let left = Left { inner_rows: 0, elements: self.most as u64 };
+        let columns = columns_within(operation, &lists, self.null_eighths, left, rng);
         let used: Vec<usize> =
             (0..self.shown.columns.len()).filter(|at| !self.free.contains(at)).collect();
         let mut step = [code_of(operation), 0, 0, 0];
@@ -91,7 +96,7 @@ impl Draft {
             return false;
         };
         let (before, after) = (elements_in(&self.carried), elements_in(&rows));
-        if after > MOST_VALUES || before > 0 && after == 0 && !rng.chance(1, 16) {
+        if after > self.most || before > 0 && after == 0 && !rng.chance(1, 16) {
             return false;
         }
         self.free.drain(..taken);
@@ -271,7 +276,7 @@ pub fn no_station(rng: &mut Rng) -> u32 {
 pub struct RecipeCall {
     pub station: u32,
     pub numbers: Vec<u32>,
-    pub columns: u32,
+    pub columns: usize,
     pub lists: [Vec<Row>; 2],
     pub arguments: Vec<Element>,
 }
@@ -282,7 +287,7 @@ impl RecipeCall {
         RecipeCall {
             station: random_station(rng),
             numbers: shown.steps.concat(),
-            columns: shown.columns.len() as u32,
+            columns: shown.columns.len(),
             lists: shown.lists.clone(),
             arguments: shown.columns.concat(),
         }
@@ -290,7 +295,7 @@ impl RecipeCall {
 
     /// The values that the argument columns should have.
     pub fn wanted_values(&self) -> u64 {
-        u64::from(self.columns) * self.lists[0].len() as u64
+        self.columns as u64 * self.lists[0].len() as u64
     }
 
     /// The columns of the call; the layouts are used in turn.
@@ -315,6 +320,11 @@ pub fn recipe_input(shown: &RecipeShown, layouts: &[Layout], rng: &mut Rng) -> I
 /// The slots that the steps take in tray one, tray two and the output, up to one that is refused;
 /// where the steps are not reached, slots that would be enough for a copy.
 pub fn recipe_slots(input: &Input) -> Vec<usize> {
+    recipe_slots_within(input, MOST_VALUES)
+}
+
+/// The same, with no more than this many values in any place.
+fn recipe_slots_within(input: &Input, most: usize) -> Vec<usize> {
     let recipe = input.recipe().expect("the call of a recipe");
     if model::refusal_before_steps(&recipe).is_some() {
         let list = &input.lists[0];
@@ -323,10 +333,9 @@ pub fn recipe_slots(input: &Input) -> Vec<usize> {
         return [copy.clone(), copy.clone(), copy].concat();
     }
     let mut needed = [[0; 4]; 3];
-    let most = MOST_VALUES as u64;
     // A refusal leaves what the steps before it took.
     let _ = model::carry(&model::recipe_shown(&recipe), |place, slots| {
-        let fits = slots[2] <= most;
+        let fits = slots[2] <= most as u64;
         if fits {
             let before = needed[place as usize].iter_mut();
             before.zip(slots).for_each(|(before, slots)| *before = (*before).max(*slots as usize));
@@ -361,7 +370,17 @@ fn random_tally(rng: &mut Rng) -> Vec<u8> {
 /// The call of a recipe, with trays and outputs of the given room that hold random bytes, or now
 /// and then only zeros. Of any room, one slice is short in an eighth of the calls.
 pub fn lend_recipe(input: &Input, room: Room, rng: &mut Rng) -> Case {
-    let needed = recipe_slots(input);
+    lend_recipe_within(input, room, |kind| kind.most.unwrap_or(MOST_BITMAP_BYTES), rng)
+}
+
+/// The same, with no more than so many slots in each slice.
+pub fn lend_recipe_within(
+    input: &Input,
+    room: Room,
+    most: impl Fn(&SliceKind) -> usize,
+    rng: &mut Rng,
+) -> Case {
+    let needed = recipe_slots_within(input, most(&input.entry.outputs()[2]));
     let written: Vec<usize> = (0..needed.len()).filter(|slice| needed[*slice] > 0).collect();
     let is_short = room == Room::Any && rng.chance(1, 8) && !written.is_empty();
     let short = is_short.then(|| rng.pick(&written));
@@ -374,7 +393,7 @@ pub fn lend_recipe(input: &Input, room: Room, rng: &mut Rng) -> Case {
             Room::Any => needed + rng.pick(&[0, 0, 1, 5]),
             _ => room_for(needed, slice, room, rng),
         };
-        let bytes = slots.min(kind.most.unwrap_or(MOST_BITMAP_BYTES)) * kind.width;
+        let bytes = slots.min(most(kind)) * kind.width;
         outputs.push(if clean { vec![0; bytes] } else { rng.bytes(bytes) });
     }
     outputs.push(random_tally(rng));

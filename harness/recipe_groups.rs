@@ -165,14 +165,14 @@ fn spoil_code(input: &mut Input, rng: &mut Rng) {
 }
 
 fn spoil_column_count(input: &mut Input, rng: &mut Rng) {
-    let columns = rng.pick(&[9, 9, 9, 10, 16, 256, 264, 1 << 31, u32::MAX]);
+    let columns = rng.pick(&[9, 9, 9, 10, 16, 256, 264, 1 << 31, u32::MAX as usize]);
     input.entry = input.entry.with_columns(columns);
 }
 
 /// Lends values for all columns, unless these are too many.
 fn suit_arguments(input: &mut Input) {
     let rows = input.lists[0].row_count();
-    let values = columns_of(input) as usize * rows;
+    let values = columns_of(input) * rows;
     let arguments = &mut input.arguments[0];
     if arguments.values.len() < values && values <= MOST_ARGUMENTS {
         arguments.values.resize(values, 1);
@@ -181,12 +181,12 @@ fn suit_arguments(input: &mut Input) {
     }
 }
 
-pub fn columns_of(input: &Input) -> u32 {
+pub fn columns_of(input: &Input) -> usize {
     input.entry.recipe().1
 }
 
 fn spoil_used_number(input: &mut Input, rng: &mut Rng) {
-    let columns = columns_of(input);
+    let columns = columns_of(input) as u32;
     let at = some_step(input, |code| roles_of(code) > 0, rng);
     let place = at + 1 + rng.below(roles_of(input.numbers[at]));
     let number = input.numbers[place];
@@ -503,7 +503,7 @@ fn random_case(rng: &mut Rng) -> Case {
     let (rows, columns) = (rng.below(4), rng.pick(&[0, 2, 4, 4, 4, 8, 9]));
     let station = if rng.chance(1, 16) { no_station(rng) } else { random_station(rng) };
     let entry = Entry::Recipe { station, columns };
-    let arguments = rows * columns as usize;
+    let arguments = rows * columns;
     let slice = |(at, kind)| random_slice(kind, if at == 9 { arguments } else { rows }, rng);
     let inputs = entry.inputs().into_iter().enumerate().map(slice).collect();
     let mut outputs = Vec::new();
@@ -604,7 +604,7 @@ fn short_recipes(checker: &mut Checker, _entry: Entry, rng: &mut Rng, _calls: u6
     }
 }
 
-fn check_short(checker: &mut Checker, columns: u32, numbers: &[u32], rng: &mut Rng) {
+fn check_short(checker: &mut Checker, columns: usize, numbers: &[u32], rng: &mut Rng) {
     const VALUES: [Element; 6] = [None, Some(-1), Some(0), Some(1), Some(1), Some(2)];
     let shown = RecipeShown {
         steps: Vec::new(),

@@ -12,7 +12,7 @@ use crate::recipe_generate::{accepted_recipe, RecipeCall};
 use crate::rng::Rng;
 
 /// Starting bits that there are not: the next ones, and such as are 0 to 7 in a part of their bits.
-const OVER: [u32; 12] = [8, 9, 15, 16, 31, 255, 256, 259, 65536, 65543, 2147483648, u32::MAX];
+const OVER: [usize; 12] = [8, 9, 15, 16, 31, 255, 256, 259, 65536, 65543, 2147483648, 4294967295];
 
 /// What lies behind a bitmap that is just long enough: the bits from its start to its end fill their
 /// bytes, or go one bit, or some bits, into the last.
@@ -50,7 +50,7 @@ impl Shows {
     }
 
     /// Its columns, with one bitmap from this bit and the others from random ones.
-    fn laid_out(&self, at: usize, start: u32, absent_bitmaps: bool, rng: &mut Rng) -> Input {
+    fn laid_out(&self, at: usize, start: usize, absent_bitmaps: bool, rng: &mut Rng) -> Input {
         let (entry, lists) = match self {
             Shows::Operation(entry, _) => (*entry, entry.lists()),
             Shows::Recipe(_) => (Entry::RECIPE, 2),
@@ -73,20 +73,20 @@ impl Shows {
 
 /// Flips the bits of a bitmap that are for no position.
 fn flip_unseen(bitmap: &mut Bitmap, positions: usize) {
-    let start = bitmap.start as usize;
+    let start = bitmap.start;
     for bit in (0..8 * bitmap.bytes.len()).filter(|bit| !(start..start + positions).contains(bit)) {
         bitmap.bytes[bit / 8] ^= 1 << (bit % 8);
     }
 }
 
 /// A call whose bitmap ends so far into its last byte, and which has more than one byte.
-fn ending_at(entry: Entry, at: usize, start: u32, end: usize, rng: &mut Rng) -> (Shows, Input) {
+fn ending_at(entry: Entry, at: usize, start: usize, end: usize, rng: &mut Rng) -> (Shows, Input) {
     loop {
         let shows = Shows::random(entry, rng);
         let input = shows.laid_out(at, start, false, rng);
         let case = lend(&input, Room::Exact, rng);
         let (_, bytes, _, positions) = case.taken_bitmaps()[at];
-        if bytes.len() > 1 && (start as usize + positions) % 8 == end {
+        if bytes.len() > 1 && (start + positions) % 8 == end {
             return (shows, input);
         }
     }
@@ -98,7 +98,7 @@ fn check_start(
     checker: &mut Checker,
     entry: Entry,
     at: usize,
-    start: u32,
+    start: usize,
     end: usize,
     rng: &mut Rng,
 ) {
@@ -107,7 +107,7 @@ fn check_start(
     let positions = case.taken_bitmaps()[at].3;
     let mut flipped = input.clone();
     flip_unseen(flipped.bitmaps_mut()[at], positions);
-    let others = [0, rng.below(8) as u32].map(|start| shows.laid_out(at, start, false, rng));
+    let others = [0, rng.below(8)].map(|start| shows.laid_out(at, start, false, rng));
     let mut calls = vec![(case.clone(), checker.check(&case))];
     for other in [&flipped].into_iter().chain(&others) {
         let mut case = case.clone();
@@ -123,7 +123,7 @@ fn check_start(
 }
 
 /// No bitmap: from whatever bit, all is valid.
-fn check_absent(checker: &mut Checker, entry: Entry, at: usize, start: u32, rng: &mut Rng) {
+fn check_absent(checker: &mut Checker, entry: Entry, at: usize, start: usize, rng: &mut Rng) {
     for _ in 0..2 {
         let shows = Shows::random(entry, rng);
         let mut input = shows.laid_out(at, start, true, rng);
@@ -139,7 +139,7 @@ fn check_absent(checker: &mut Checker, entry: Entry, at: usize, start: u32, rng:
 }
 
 /// A bit over 7 gives 13, whether there is a bitmap or not.
-fn check_over(checker: &mut Checker, entry: Entry, at: usize, start: u32, rng: &mut Rng) {
+fn check_over(checker: &mut Checker, entry: Entry, at: usize, start: usize, rng: &mut Rng) {
     for absent in [false, true, true] {
         let mut input = Shows::random(entry, rng).laid_out(at, 0, false, rng);
         let bitmap = &mut input.bitmaps_mut()[at];

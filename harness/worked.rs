@@ -497,12 +497,12 @@ fn argument(values: &[i64], bits: &[u8]) -> ArgumentColumn {
 }
 
 /// The list with its bitmaps from these bits.
-fn from_bits(mut list: ListColumn, rows_start: u32, elements_start: u32) -> ListColumn {
+fn from_bits(mut list: ListColumn, rows_start: usize, elements_start: usize) -> ListColumn {
     (list.rows.start, list.elements.start) = (rows_start, elements_start);
     list
 }
 
-fn argument_from(start: u32, values: &[i64], bits: &[u8]) -> ArgumentColumn {
+fn argument_from(start: usize, values: &[i64], bits: &[u8]) -> ArgumentColumn {
     ArgumentColumn { values: values.to_vec(), bits: Bitmap { bytes: bits.to_vec(), start } }
 }
 
@@ -549,7 +549,7 @@ fn cases_from_bits() -> Vec<Worked> {
         worked(
             "the largest of no offsets",
             Reverse,
-            vec![from_bits(none(), 0, u32::MAX)],
+            vec![from_bits(none(), 0, 4294967295)],
             vec![],
             "refusal 13",
         ),
@@ -924,7 +924,7 @@ const OF_REFUSED_STEPS: &[RecipeCase] = &[
 fn recipe_from_text((name, steps, lists, columns, wanted): &RecipeCase) -> Worked {
     let columns: Vec<Vec<Item>> = columns.iter().map(|text| parse(text)).collect();
     let items = columns.concat();
-    let entry = Entry::Recipe { station: 5, columns: columns.len() as u32 };
+    let entry = Entry::Recipe { station: 5, columns: columns.len() };
     Worked {
         name: format!("recipe ({name})"),
         input: Input {
@@ -939,7 +939,7 @@ fn recipe_from_text((name, steps, lists, columns, wanted): &RecipeCase) -> Worke
 
 /// Recipes that the notation does not give.
 fn laid_out_recipes() -> Vec<Worked> {
-    let recipe = |name: &str, columns: u32, numbers: &[u32], lists, arguments, wanted: &str| {
+    let recipe = |name: &str, columns: usize, numbers: &[u32], lists, arguments, wanted: &str| {
         let (entry, numbers) = (Entry::Recipe { station: 5, columns }, numbers.to_vec());
         Worked {
             name: format!("recipe ({name})"),

@@ -1,4 +1,4 @@
--- Demand 3 over the C entries. Of each entry of `duthlan`: where the number that it returned is below 100, and so none of the
+-- Demand 3 over the C entries over bytes. Of each entry of `duthlan_bytes`: where the number that it returned is below 100, and so none of the
 -- entry's own, what it returned and wrote are the bytes of what the call ends in. Calls on well-formed columns that are alike end in one
 -- thing, so two such calls of an entry return one number (`one-number`), and both write the bytes of one end (`same-bytes`, `same-written`).
 use Prim.Native.Nat.{ℕ, zero, suc, _≤_, _<_}
@@ -37,13 +37,13 @@ use Rattle.entry_recipe.specs.Recipe.{recipeSizeRefusal, tallyAfter}
 use Rattle.tally_bytes.specs.Bytes.{tallyIn, withTally}
 use Rattle.tally_bytes.proofs.ReadBack.{read-back}
 use Rattle.recipes.specs.Recipes.{recipe as recipeOf}
-use Rattle.duthlan.proofs.duthlan_list.Reads as OneList
-use Rattle.duthlan.proofs.duthlan_list_with.Reads as ListWith
-use Rattle.duthlan.proofs.duthlan_lists.Reads as TwoLists
-use Rattle.duthlan.proofs.duthlan_any_value.Reads as AnyValue
-use Rattle.duthlan.proofs.duthlan_element.Reads as Element
-use Rattle.duthlan.proofs.duthlan_list_repeat.Reads as ListRepeat
-use Rattle.duthlan.proofs.duthlan_recipe.Reads as Recipe
+use Rattle.duthlan_bytes.proofs.duthlan_bytes_list.Reads as OneList
+use Rattle.duthlan_bytes.proofs.duthlan_bytes_list_with.Reads as ListWith
+use Rattle.duthlan_bytes.proofs.duthlan_bytes_lists.Reads as TwoLists
+use Rattle.duthlan_bytes.proofs.duthlan_bytes_any_value.Reads as AnyValue
+use Rattle.duthlan_bytes.proofs.duthlan_bytes_element.Reads as Element
+use Rattle.duthlan_bytes.proofs.duthlan_bytes_list_repeat.Reads as ListRepeat
+use Rattle.duthlan_bytes.proofs.duthlan_bytes_recipe.Reads as Recipe
 use Rattle.claims.specs.Bytes.{ByteSlices, BytePair, ListBytesLent, ValueBytesLent, listIn, argumentsIn, roomIn, valueRoomIn, repeatRoomIn, enter4, leave4, enter2, leave2, enter6, leave6, enter3, leave3, HoldsOver, offsetBytes, valueBytes, bitmapBytes, AnswerBytes, ListBytes, ValueBytes, RepeatBytes, RecipeBytes, overTally}
 
 -- calls that are alike, on well-formed columns, end in one thing

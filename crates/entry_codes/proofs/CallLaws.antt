@@ -18,7 +18,7 @@ use Rattle.entry_codes.specs.declared.Plain.{Plain}
 use Rattle.entry_codes.specs.declared.Plain.the-variants as P
 use Rattle.entry_codes.specs.declared.Taking.{Taking}
 use Rattle.entry_codes.specs.declared.Taking.the-variants as T
-use Rattle.entry_codes.specs.Calls.{plainLent, takingLent, plainOf, plainIn, unaryOf, unaryCall, setIn, setOf, setCall, takingOf, takingIn, withOf, withCall}
+use Rattle.entry_codes.specs.Calls.{plainLent, takingLent, plainOf, plainIn, unaryOf, unaryCall, setIn, setOf, setCall, takingOf, takingIn, withOf, withCall, oneIn, oneOf, oneCall}
 
 -- r is what the code found: the operation, or none
 module _ (op : ℕ) {r : Plain} (c : Column) (e : plainLent r ≡ unaryOf op) where
@@ -38,6 +38,15 @@ module _ (op : ℕ) {r : Taking} (c : Column) (x y z : Arguments) (e : takingLen
   pub with-code : {k : ListOp} → r ≡ T.Of k → withCall op c x y z ≡ given (listOutcome narrow (callOf k c x y z))
   unfolding withCall onLent takingLent
   with-code h = rw (← e, h)
+
+module _ (op : ℕ) {r : Taking} (c : Column) (x y z : Arguments) (e : takingLent r ≡ oneOf op) where
+  pub no-list-code : r ≡ T.None → oneCall op c x y z ≡ absent
+  unfolding oneCall onLent takingLent
+  no-list-code h = rw (← e, h)
+
+  pub list-code : {k : ListOp} → r ≡ T.Of k → oneCall op c x y z ≡ given (listOutcome narrow (callOf k c x y z))
+  unfolding oneCall onLent takingLent
+  list-code h = rw (← e, h)
 
 module _ (op : ℕ) {r : Operation} (c d : Column) (e : r ≡ operationOf op) where
   pub one-code : {k : ListOp} → r ≡ S.One k → setCall op c d ≡ absent
@@ -68,14 +77,24 @@ module _ (code : ℕ) {o : Operation} (e : o ≡ operationOf code) where
   plain-none q = rw (← e, q)
 
   module _ (n : code ≡ 11 → ⊥) where
-    pub taking-one : {k : ListOp} → o ≡ S.One k → takingOf k ≡ withOf code
-    unfolding withOf takingIn
-    taking-one q = rw (ne-eqb code 11 n, ← e, q)
+    pub list-one : {k : ListOp} → o ≡ S.One k → given k ≡ oneOf code
+    unfolding oneOf oneIn
+    list-one q = rw (ne-eqb code 11 n, ← e, q)
 
-    pub taking-two : {k : SetOp} → o ≡ S.Two k → absent ≡ withOf code
-    unfolding withOf takingIn
-    taking-two q = rw (ne-eqb code 11 n, ← e, q)
+    pub list-two : {k : SetOp} → o ≡ S.Two k → absent ≡ oneOf code
+    unfolding oneOf oneIn
+    list-two q = rw (ne-eqb code 11 n, ← e, q)
 
-    pub taking-none : o ≡ S.None → absent ≡ withOf code
-    unfolding withOf takingIn
-    taking-none q = rw (ne-eqb code 11 n, ← e, q)
+    pub list-none : o ≡ S.None → absent ≡ oneOf code
+    unfolding oneOf oneIn
+    list-none q = rw (ne-eqb code 11 n, ← e, q)
+
+-- r is what the code found among all operations on one list
+module _ (code : ℕ) {r : Taking} (e : takingLent r ≡ oneOf code) where
+  pub taking-one : {k : ListOp} → r ≡ T.Of k → takingOf k ≡ withOf code
+  unfolding withOf takingIn takingLent
+  taking-one q = rw (← e, q)
+
+  pub taking-none : r ≡ T.None → absent ≡ withOf code
+  unfolding withOf takingIn takingLent
+  taking-none q = rw (← e, q)

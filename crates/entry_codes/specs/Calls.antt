@@ -67,6 +67,21 @@ setOf op = setIn (operationOf op)
 unfoldable pub setCall : ℕ → Column → Column → Lent (Room → Outcome (List Row))
 setCall op c d = onLent (λ k. listOutcome narrow (setOp k c d)) (setOf op)
 
+-- ---- one list, with argument columns or without
+
+unfoldable pub oneIn : Operation → Lent ListOp
+oneIn (S.One k) = given k
+oneIn (S.Two k) = absent
+oneIn S.None = absent
+
+-- 11 is the entries' own, resize without fill
+unfoldable pub oneOf : ℕ → Lent ListOp
+oneOf op = pick (eqb op 11) (given L.Resize) (oneIn (operationOf op))
+
+-- an operation by its code, of a list and of three argument columns, of which it looks at those that it takes
+unfoldable pub oneCall : ℕ → Column → Arguments → Arguments → Arguments → Lent (Room → Outcome (List Row))
+oneCall op c x y z = onLent (λ k. listOutcome narrow (callOf k c x y z)) (oneOf op)
+
 -- ---- one list, with argument columns
 
 unfoldable pub takingOf : ListOp → Lent ListOp
@@ -78,15 +93,12 @@ takingOf L.ResizeWith = given L.ResizeWith
 takingOf L.Replace = given L.Replace
 takingOf L.Remove = given L.Remove
 
-unfoldable pub takingIn : Operation → Lent ListOp
-takingIn (S.One k) = takingOf k
-takingIn (S.Two k) = absent
-takingIn S.None = absent
+unfoldable pub takingIn : Lent ListOp → Lent ListOp
+takingIn (given k) = takingOf k
+takingIn absent = absent
 
--- 11 is the entry's own, resize without fill
 unfoldable pub withOf : ℕ → Lent ListOp
-withOf op = pick (eqb op 11) (given L.Resize) (takingIn (operationOf op))
+withOf op = takingIn (oneOf op)
 
--- an operation by its code, of a list and of three argument columns, of which it looks at those that it takes
 unfoldable pub withCall : ℕ → Column → Arguments → Arguments → Arguments → Lent (Room → Outcome (List Row))
 withCall op c x y z = onLent (λ k. listOutcome narrow (callOf k c x y z)) (withOf op)

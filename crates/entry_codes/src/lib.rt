@@ -3,10 +3,10 @@ use codes::Operation;
 use codes::operation_of;
 use model::Unary;
 use ops::ListOp;
-ghost use Rattle.entry_codes.specs.Calls.{plainLent, plainOf, takingLent, takingOf, unaryOf, withOf};
+ghost use Rattle.entry_codes.specs.Calls.{oneOf, plainLent, plainOf, takingLent, takingOf, unaryOf, withOf};
 ghost use mathlib.Core.Path.{_≡_};
 
-// An operation on one list that takes no argument columns, and below one that does.
+// An operation on one list that takes no argument columns, and below any.
 pub enum Plain {
     Of(Unary),
     None,
@@ -56,17 +56,28 @@ fn taking_of(op: ListOp) -> Taking
     }
 }
 
-// The table's, and 11: resize without fill.
-pub fn with_of(code: u32) -> Taking
-    ensures { λ r. ⌜ takingLent r ≡ withOf code ⌝ }
+// An operation on one list, with argument columns or without: the table's, and 11, resize without fill.
+pub fn one_of(code: u32) -> Taking
+    ensures { λ r. ⌜ takingLent r ≡ oneOf code ⌝ }
 {
     if code == 11 {
         return Taking::Of(ListOp::Resize);
     }
     let named = operation_of(code);
     match named {
-        Operation::One(op) => taking_of(op),
+        Operation::One(op) => Taking::Of(op),
         Operation::Two(_) => Taking::None,
         Operation::None => Taking::None,
+    }
+}
+
+// One that takes argument columns.
+pub fn with_of(code: u32) -> Taking
+    ensures { λ r. ⌜ takingLent r ≡ withOf code ⌝ }
+{
+    let named = one_of(code);
+    match named {
+        Taking::Of(op) => taking_of(op),
+        Taking::None => Taking::None,
     }
 }

@@ -98,7 +98,6 @@ meets j =
 
 -- ---- needs
 
--- each bitmap begins at bit 0
 attempt-requires : tie.Need-attempt-requires
 attempt-requires c κs = tt
 

@@ -1,0 +1,190 @@
+//! The entries of the archive: their declarations, and all the unsafe code of this crate.
+//!
+//! An entry tests everything but its pointers. It asks that each is aligned, not null and good for its
+//! length, also for a length of 0, and that no output overlaps another slice. A `&` and a `&mut` slice
+//! are just that, and what is mutably borrowed overlaps nothing else that the call borrows. An entry
+//! keeps no pointer.
+
+use crate::{
+    List, ListCounts, ListOut, RecipeInputs, Refusal, RepeatCounts, RepeatOut, Trays, ValueCounts,
+    ValueOut, Values,
+};
+
+// Each declaration has a column, or a tray, to a line: offsets, row bitmap, values, element bitmap.
+#[rustfmt::skip]
+extern "C" {
+    fn duthlan_typed_list(
+        op: u32,
+        offsets: *const i32, _: usize, rows: *const u8, _: usize, rows_start: usize, values: *const i64, _: usize, elements: *const u8, _: usize, elements_start: usize,
+        first: *const i64, _: usize, first_bits: *const u8, _: usize, first_start: usize,
+        second: *const i64, _: usize, second_bits: *const u8, _: usize, second_start: usize,
+        third: *const i64, _: usize, third_bits: *const u8, _: usize, third_start: usize,
+        out_offsets: *mut i32, _: usize, out_rows: *mut u8, _: usize, out_values: *mut i64, _: usize, out_elements: *mut u8, _: usize,
+        counts: *mut u64, _: usize,
+    ) -> u32;
+    fn duthlan_typed_lists(
+        op: u32,
+        l_offsets: *const i32, _: usize, l_rows: *const u8, _: usize, l_rows_start: usize, l_values: *const i64, _: usize, l_elements: *const u8, _: usize, l_elements_start: usize,
+        r_offsets: *const i32, _: usize, r_rows: *const u8, _: usize, r_rows_start: usize, r_values: *const i64, _: usize, r_elements: *const u8, _: usize, r_elements_start: usize,
+        out_offsets: *mut i32, _: usize, out_rows: *mut u8, _: usize, out_values: *mut i64, _: usize, out_elements: *mut u8, _: usize,
+        counts: *mut u64, _: usize,
+    ) -> u32;
+    fn duthlan_typed_any_value(
+        offsets: *const i32, _: usize, rows: *const u8, _: usize, rows_start: usize, values: *const i64, _: usize, elements: *const u8, _: usize, elements_start: usize,
+        out_values: *mut i64, _: usize, out_rows: *mut u8, _: usize,
+        counts: *mut u64, _: usize,
+    ) -> u32;
+    fn duthlan_typed_element(
+        offsets: *const i32, _: usize, rows: *const u8, _: usize, rows_start: usize, values: *const i64, _: usize, elements: *const u8, _: usize, elements_start: usize,
+        indexes: *const i64, _: usize, index_bits: *const u8, _: usize, index_start: usize,
+        out_values: *mut i64, _: usize, out_rows: *mut u8, _: usize,
+        counts: *mut u64, _: usize,
+    ) -> u32;
+    fn duthlan_typed_list_repeat(
+        offsets: *const i32, _: usize, rows: *const u8, _: usize, rows_start: usize, values: *const i64, _: usize, elements: *const u8, _: usize, elements_start: usize,
+        times: *const i64, _: usize, times_bits: *const u8, _: usize, times_start: usize,
+        out_offsets: *mut i32, _: usize, out_rows: *mut u8, _: usize,
+        inner_offsets: *mut i32, _: usize, inner_rows: *mut u8, _: usize,
+        out_values: *mut i64, _: usize, out_elements: *mut u8, _: usize,
+        counts: *mut u64, _: usize,
+    ) -> u32;
+    fn duthlan_typed_recipe(
+        station: u32, numbers: *const u32, _: usize, columns: usize,
+        offsets: *const i32, _: usize, rows: *const u8, _: usize, rows_start: usize, values: *const i64, _: usize, elements: *const u8, _: usize, elements_start: usize,
+        second_offsets: *const i32, _: usize, second_rows: *const u8, _: usize, second_rows_start: usize, second_values: *const i64, _: usize, second_elements: *const u8, _: usize, second_elements_start: usize,
+        arguments: *const i64, _: usize, argument_bits: *const u8, _: usize, argument_start: usize,
+        one_offsets: *mut i32, _: usize, one_rows: *mut u8, _: usize, one_values: *mut i64, _: usize, one_elements: *mut u8, _: usize,
+        two_offsets: *mut i32, _: usize, two_rows: *mut u8, _: usize, two_values: *mut i64, _: usize, two_elements: *mut u8, _: usize,
+        out_offsets: *mut i32, _: usize, out_rows: *mut u8, _: usize, out_values: *mut i64, _: usize, out_elements: *mut u8, _: usize,
+        counts: *mut u64, _: usize, tally: *mut u64, _: usize,
+    ) -> u32;
+}
+
+/// The counts of an accepted call, or the refusal.
+fn told<const N: usize>(number: u32, counts: [u64; N]) -> Result<[u64; N], Refusal> {
+    match number {
+        0 => Ok(counts),
+        number => Err(Refusal::of(number)),
+    }
+}
+
+fn list_counts([rows, elements, null_rows, null_elements]: [u64; 4]) -> ListCounts {
+    ListCounts { rows, elements, null_rows, null_elements }
+}
+
+fn value_counts([rows, null_rows]: [u64; 2]) -> ValueCounts {
+    ValueCounts { rows, null_rows }
+}
+
+// SAFETY, of every block below: each pointer stands before the length of the slice that it comes from, a
+// shared borrow for an input and a mutable one for an output, and the borrows outlive the call.
+
+#[rustfmt::skip]
+pub fn list(op: u32, list: List, [first, second, third]: [Values; 3], out: &mut ListOut) -> Result<ListCounts, Refusal> {
+    let mut counts = [0; 4];
+    let number = unsafe {
+        duthlan_typed_list(
+            op,
+            list.offsets.as_ptr(), list.offsets.len(), list.rows.bytes.as_ptr(), list.rows.bytes.len(), list.rows.start,
+            list.values.as_ptr(), list.values.len(), list.elements.bytes.as_ptr(), list.elements.bytes.len(), list.elements.start,
+            first.values.as_ptr(), first.values.len(), first.valid.bytes.as_ptr(), first.valid.bytes.len(), first.valid.start,
+            second.values.as_ptr(), second.values.len(), second.valid.bytes.as_ptr(), second.valid.bytes.len(), second.valid.start,
+            third.values.as_ptr(), third.values.len(), third.valid.bytes.as_ptr(), third.valid.bytes.len(), third.valid.start,
+            out.offsets.as_mut_ptr(), out.offsets.len(), out.rows.as_mut_ptr(), out.rows.len(),
+            out.values.as_mut_ptr(), out.values.len(), out.elements.as_mut_ptr(), out.elements.len(),
+            counts.as_mut_ptr(), counts.len(),
+        )
+    };
+    told(number, counts).map(list_counts)
+}
+
+#[rustfmt::skip]
+pub fn lists(op: u32, left: List, right: List, out: &mut ListOut) -> Result<ListCounts, Refusal> {
+    let mut counts = [0; 4];
+    let number = unsafe {
+        duthlan_typed_lists(
+            op,
+            left.offsets.as_ptr(), left.offsets.len(), left.rows.bytes.as_ptr(), left.rows.bytes.len(), left.rows.start,
+            left.values.as_ptr(), left.values.len(), left.elements.bytes.as_ptr(), left.elements.bytes.len(), left.elements.start,
+            right.offsets.as_ptr(), right.offsets.len(), right.rows.bytes.as_ptr(), right.rows.bytes.len(), right.rows.start,
+            right.values.as_ptr(), right.values.len(), right.elements.bytes.as_ptr(), right.elements.bytes.len(), right.elements.start,
+            out.offsets.as_mut_ptr(), out.offsets.len(), out.rows.as_mut_ptr(), out.rows.len(),
+            out.values.as_mut_ptr(), out.values.len(), out.elements.as_mut_ptr(), out.elements.len(),
+            counts.as_mut_ptr(), counts.len(),
+        )
+    };
+    told(number, counts).map(list_counts)
+}
+
+#[rustfmt::skip]
+pub fn any_value(list: List, out: &mut ValueOut) -> Result<ValueCounts, Refusal> {
+    let mut counts = [0; 2];
+    let number = unsafe {
+        duthlan_typed_any_value(
+            list.offsets.as_ptr(), list.offsets.len(), list.rows.bytes.as_ptr(), list.rows.bytes.len(), list.rows.start,
+            list.values.as_ptr(), list.values.len(), list.elements.bytes.as_ptr(), list.elements.bytes.len(), list.elements.start,
+            out.values.as_mut_ptr(), out.values.len(), out.rows.as_mut_ptr(), out.rows.len(),
+            counts.as_mut_ptr(), counts.len(),
+        )
+    };
+    told(number, counts).map(value_counts)
+}
+
+#[rustfmt::skip]
+pub fn element(list: List, index: Values, out: &mut ValueOut) -> Result<ValueCounts, Refusal> {
+    let mut counts = [0; 2];
+    let number = unsafe {
+        duthlan_typed_element(
+            list.offsets.as_ptr(), list.offsets.len(), list.rows.bytes.as_ptr(), list.rows.bytes.len(), list.rows.start,
+            list.values.as_ptr(), list.values.len(), list.elements.bytes.as_ptr(), list.elements.bytes.len(), list.elements.start,
+            index.values.as_ptr(), index.values.len(), index.valid.bytes.as_ptr(), index.valid.bytes.len(), index.valid.start,
+            out.values.as_mut_ptr(), out.values.len(), out.rows.as_mut_ptr(), out.rows.len(),
+            counts.as_mut_ptr(), counts.len(),
+        )
+    };
+    told(number, counts).map(value_counts)
+}
+
+#[rustfmt::skip]
+pub fn list_repeat(list: List, times: Values, out: &mut RepeatOut) -> Result<RepeatCounts, Refusal> {
+    let mut counts = [0; 6];
+    let number = unsafe {
+        duthlan_typed_list_repeat(
+            list.offsets.as_ptr(), list.offsets.len(), list.rows.bytes.as_ptr(), list.rows.bytes.len(), list.rows.start,
+            list.values.as_ptr(), list.values.len(), list.elements.bytes.as_ptr(), list.elements.bytes.len(), list.elements.start,
+            times.values.as_ptr(), times.values.len(), times.valid.bytes.as_ptr(), times.valid.bytes.len(), times.valid.start,
+            out.offsets.as_mut_ptr(), out.offsets.len(), out.rows.as_mut_ptr(), out.rows.len(),
+            out.inner_offsets.as_mut_ptr(), out.inner_offsets.len(), out.inner_rows.as_mut_ptr(), out.inner_rows.len(),
+            out.values.as_mut_ptr(), out.values.len(), out.elements.as_mut_ptr(), out.elements.len(),
+            counts.as_mut_ptr(), counts.len(),
+        )
+    };
+    let [rows, elements, null_rows, null_elements, inner_rows, null_inner_rows] = told(number, counts)?;
+    Ok(RepeatCounts { rows, elements, null_rows, null_elements, inner_rows, null_inner_rows })
+}
+
+#[rustfmt::skip]
+pub fn recipe(
+    station: u32, numbers: &[u32], RecipeInputs { list, second, columns, arguments }: RecipeInputs,
+    Trays { one, two }: &mut Trays, out: &mut ListOut, tally: &mut [u64; 32],
+) -> Result<ListCounts, Refusal> {
+    let mut counts = [0; 4];
+    let number = unsafe {
+        duthlan_typed_recipe(
+            station, numbers.as_ptr(), numbers.len(), columns,
+            list.offsets.as_ptr(), list.offsets.len(), list.rows.bytes.as_ptr(), list.rows.bytes.len(), list.rows.start,
+            list.values.as_ptr(), list.values.len(), list.elements.bytes.as_ptr(), list.elements.bytes.len(), list.elements.start,
+            second.offsets.as_ptr(), second.offsets.len(), second.rows.bytes.as_ptr(), second.rows.bytes.len(), second.rows.start,
+            second.values.as_ptr(), second.values.len(), second.elements.bytes.as_ptr(), second.elements.bytes.len(), second.elements.start,
+            arguments.values.as_ptr(), arguments.values.len(), arguments.valid.bytes.as_ptr(), arguments.valid.bytes.len(), arguments.valid.start,
+            one.offsets.as_mut_ptr(), one.offsets.len(), one.rows.as_mut_ptr(), one.rows.len(),
+            one.values.as_mut_ptr(), one.values.len(), one.elements.as_mut_ptr(), one.elements.len(),
+            two.offsets.as_mut_ptr(), two.offsets.len(), two.rows.as_mut_ptr(), two.rows.len(),
+            two.values.as_mut_ptr(), two.values.len(), two.elements.as_mut_ptr(), two.elements.len(),
+            out.offsets.as_mut_ptr(), out.offsets.len(), out.rows.as_mut_ptr(), out.rows.len(),
+            out.values.as_mut_ptr(), out.values.len(), out.elements.as_mut_ptr(), out.elements.len(),
+            counts.as_mut_ptr(), counts.len(), tally.as_mut_ptr(), tally.len(),
+        )
+    };
+    told(number, counts).map(list_counts)
+}

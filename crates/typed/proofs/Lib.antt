@@ -1,0 +1,3 @@
+pub mod TypedLaws
+pub mod RecipeLaws
+pub mod ReadBack

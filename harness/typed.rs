@@ -1,0 +1,110 @@
+//! A library of typed entries: safe functions on slices of numbers. The port, the plain Rust and the
+//! mock each give one of these. A list is lent as a column of `plain.rs`, and so is what is lent for
+//! results; counts and a tally are numbers too.
+
+use crate::entry::Entry;
+use crate::library::outputs;
+use crate::numbers::{of_bytes, of_bytes_mut};
+use crate::plain::{Argument, Column, Lists, Outer};
+
+/// A list column, an argument column, and the room for a list answer and for the outer rows of
+/// list-repeat's, all of them numbers.
+pub type List<'a> = Column<'a, i32, i64>;
+pub type Values<'a> = Argument<'a, i64>;
+pub type Room<'a> = Lists<'a, i32, i64>;
+pub type OuterRoom<'a> = Outer<'a, i32>;
+
+/// A recipe as it is lent: its station, its numbers, how many argument columns it has, its lists,
+/// and the one slice of its arguments.
+#[derive(Clone, Copy)]
+pub struct Recipe<'a> {
+    pub station: u32,
+    pub numbers: &'a [u32],
+    pub columns: usize,
+    pub lists: [List<'a>; 2],
+    pub arguments: Values<'a>,
+}
+
+#[derive(Clone, Copy)]
+pub struct Typed {
+    pub list: fn(u32, List, [Values; 3], Room, &mut [u64]) -> u32,
+    pub lists: fn(u32, [List; 2], Room, &mut [u64]) -> u32,
+    pub any_value: fn(List, &mut [i64], &mut [u8], &mut [u64]) -> u32,
+    pub element: fn(List, Values, &mut [i64], &mut [u8], &mut [u64]) -> u32,
+    pub list_repeat: fn(List, Values, OuterRoom, Room, &mut [u64]) -> u32,
+    /// The rooms are tray one, tray two and the output; the tally comes last.
+    pub recipe: fn(Recipe, [Room; 3], &mut [u64], &mut [u64]) -> u32,
+}
+
+fn list<'a>(slices: &[&'a [u8]], starts: &[usize]) -> List<'a> {
+    Column {
+        offsets: of_bytes(slices[0]),
+        rows: slices[1],
+        rows_start: starts[0],
+        values: of_bytes(slices[2]),
+        elements: slices[3],
+        elements_start: starts[1],
+    }
+}
+
+fn values<'a>(slices: &[&'a [u8]], start: usize) -> Values<'a> {
+    Argument { values: of_bytes(slices[0]), bits: slices[1], start }
+}
+
+fn room<'a>([offsets, rows, values, elements]: [&'a mut [u8]; 4]) -> Room<'a> {
+    Lists { offsets: of_bytes_mut(offsets), rows, values: of_bytes_mut(values), elements }
+}
+
+impl Typed {
+    /// Calls an entry with slices of bytes that are aligned for their numbers. A list operation
+    /// comes with three argument columns, whatever it takes.
+    pub fn call(
+        &self,
+        entry: Entry,
+        lent: &[&[u8]],
+        starts: &[usize],
+        results: &mut [&mut [u8]],
+        counts: &mut [u8],
+    ) -> u32 {
+        let counts = of_bytes_mut(counts);
+        match entry {
+            Entry::List(_) => panic!("a typed list operation has argument columns"),
+            Entry::ListWith(code) => {
+                let argument = |at: usize| values(&lent[4 + 2 * at..], starts[2 + at]);
+                let arguments = [argument(0), argument(1), argument(2)];
+                (self.list)(code, list(lent, starts), arguments, room(outputs(results)), counts)
+            }
+            Entry::Lists(code) => {
+                let both = [list(lent, starts), list(&lent[4..], &starts[2..])];
+                (self.lists)(code, both, room(outputs(results)), counts)
+            }
+            Entry::AnyValue => {
+                let [values, rows] = outputs(results);
+                (self.any_value)(list(lent, starts), of_bytes_mut(values), rows, counts)
+            }
+            Entry::Element => {
+                let (list, indexes) = (list(lent, starts), values(&lent[4..], starts[2]));
+                let [values, rows] = outputs(results);
+                (self.element)(list, indexes, of_bytes_mut(values), rows, counts)
+            }
+            Entry::ListRepeat => {
+                let (list, times) = (list(lent, starts), values(&lent[4..], starts[2]));
+                let [offsets, rows, inner @ ..]: [&mut [u8]; 6] = outputs(results);
+                let outer = Outer { offsets: of_bytes_mut(offsets), rows };
+                (self.list_repeat)(list, times, outer, room(inner), counts)
+            }
+            Entry::Recipe { station, columns } => {
+                let recipe = Recipe {
+                    station,
+                    numbers: of_bytes(lent[0]),
+                    columns,
+                    lists: [list(&lent[1..], starts), list(&lent[5..], &starts[2..])],
+                    arguments: values(&lent[9..], starts[4]),
+                };
+                let [a, b, c, d, e, f, g, h, i, j, k, l, tally] = outputs(results);
+                let rooms = [[a, b, c, d], [e, f, g, h], [i, j, k, l]].map(room);
+                (self.recipe)(recipe, rooms, counts, of_bytes_mut(tally))
+            }
+        }
+    }
+}

@@ -1,0 +1,153 @@
+//! The port's typed C entries behind safe functions.
+//!
+//! A slice passes as a pointer and a length in numbers, a bitmap of a column with its starting bit
+//! behind them. The entries demand of their caller what the byte entries do, and that each pointer is
+//! aligned for its numbers; Rust's slices give all of it, empty ones too.
+
+use crate::typed::{List, OuterRoom, Recipe, Room, Typed, Values};
+
+pub const TYPED: Typed = Typed { list, lists, any_value, element, list_repeat, recipe };
+
+#[link(name = "duthlan", kind = "static")]
+extern "C" {}
+
+/// The safe function of an entry: the number that it takes first, if it takes one, then its input
+/// slices, those of bitmaps with their starting bit (a recipe's numbers with how many columns it
+/// has), then its output slices.
+macro_rules! entry {
+    ($symbol:ident ($($code:ident)?)
+        [$($input:ident: $of:ty $(, $start:ident)?);+] [$($output:ident: $to:ty),+]) => {
+        #[allow(clippy::too_many_arguments)]
+        fn $symbol(
+            $($code: u32,)?
+            $($input: &[$of], $($start: usize,)?)+
+            $($output: &mut [$to],)+
+        ) -> u32 {
+            extern "C" {
+                fn $symbol(
+                    $($code: u32,)?
+                    $($input: *const $of, _: usize, $($start: usize,)?)+
+                    $($output: *mut $to, _: usize,)+
+                ) -> u32;
+            }
+            // Sound: each pointer and length come from one slice, and no mutable slice overlaps
+            // another.
+            unsafe {
+                $symbol(
+                    $($code,)?
+                    $($input.as_ptr(), $input.len(), $($start,)?)+
+                    $($output.as_mut_ptr(), $output.len(),)+
+                )
+            }
+        }
+    };
+}
+
+entry!(
+    duthlan_typed_list (op)
+    [offsets: i32; rows: u8, rows_start; values: i64; elements: u8, elements_start;
+     first: i64; first_bits: u8, first_start; second: i64; second_bits: u8, second_start;
+     third: i64; third_bits: u8, third_start]
+    [out_offsets: i32, out_rows: u8, out_values: i64, out_elements: u8, counts: u64]
+);
+
+entry!(
+    duthlan_typed_lists (op)
+    [l_offsets: i32; l_rows: u8, l_rows_start; l_values: i64; l_elements: u8, l_elements_start;
+     r_offsets: i32; r_rows: u8, r_rows_start; r_values: i64; r_elements: u8, r_elements_start]
+    [out_offsets: i32, out_rows: u8, out_values: i64, out_elements: u8, counts: u64]
+);
+
+entry!(
+    duthlan_typed_any_value ()
+    [offsets: i32; rows: u8, rows_start; values: i64; elements: u8, elements_start]
+    [out_values: i64, out_rows: u8, counts: u64]
+);
+
+entry!(
+    duthlan_typed_element ()
+    [offsets: i32; rows: u8, rows_start; values: i64; elements: u8, elements_start;
+     indexes: i64; index_bits: u8, index_start]
+    [out_values: i64, out_rows: u8, counts: u64]
+);
+
+entry!(
+    duthlan_typed_list_repeat ()
+    [offsets: i32; rows: u8, rows_start; values: i64; elements: u8, elements_start;
+     times: i64; times_bits: u8, times_start]
+    [out_offsets: i32, out_rows: u8, inner_offsets: i32, inner_rows: u8,
+     out_values: i64, out_elements: u8, counts: u64]
+);
+
+entry!(
+    duthlan_typed_recipe (station)
+    [numbers: u32, columns;
+     offsets: i32; rows: u8, rows_start; values: i64; elements: u8, elements_start;
+     second_offsets: i32; second_rows: u8, second_rows_start;
+     second_values: i64; second_elements: u8, second_elements_start;
+     arguments: i64; argument_bits: u8, argument_start]
+    [one_offsets: i32, one_rows: u8, one_values: i64, one_elements: u8,
+     two_offsets: i32, two_rows: u8, two_values: i64, two_elements: u8,
+     out_offsets: i32, out_rows: u8, out_values: i64, out_elements: u8,
+     counts: u64, tally: u64]
+);
+
+#[rustfmt::skip]
+fn list(op: u32, l: List, [x, y, z]: [Values; 3], out: Room, counts: &mut [u64]) -> u32 {
+    duthlan_typed_list(
+        op, l.offsets, l.rows, l.rows_start, l.values, l.elements, l.elements_start,
+        x.values, x.bits, x.start, y.values, y.bits, y.start, z.values, z.bits, z.start,
+        out.offsets, out.rows, out.values, out.elements, counts,
+    )
+}
+
+#[rustfmt::skip]
+fn lists(op: u32, [l, r]: [List; 2], out: Room, counts: &mut [u64]) -> u32 {
+    duthlan_typed_lists(
+        op, l.offsets, l.rows, l.rows_start, l.values, l.elements, l.elements_start,
+        r.offsets, r.rows, r.rows_start, r.values, r.elements, r.elements_start,
+        out.offsets, out.rows, out.values, out.elements, counts,
+    )
+}
+
+#[rustfmt::skip]
+fn any_value(l: List, out_values: &mut [i64], out_rows: &mut [u8], counts: &mut [u64]) -> u32 {
+    duthlan_typed_any_value(
+        l.offsets, l.rows, l.rows_start, l.values, l.elements, l.elements_start,
+        out_values, out_rows, counts,
+    )
+}
+
+#[rustfmt::skip]
+fn element(
+    l: List, x: Values, out_values: &mut [i64], out_rows: &mut [u8], counts: &mut [u64],
+) -> u32 {
+    duthlan_typed_element(
+        l.offsets, l.rows, l.rows_start, l.values, l.elements, l.elements_start,
+        x.values, x.bits, x.start, out_values, out_rows, counts,
+    )
+}
+
+#[rustfmt::skip]
+fn list_repeat(l: List, x: Values, outer: OuterRoom, inner: Room, counts: &mut [u64]) -> u32 {
+    duthlan_typed_list_repeat(
+        l.offsets, l.rows, l.rows_start, l.values, l.elements, l.elements_start,
+        x.values, x.bits, x.start,
+        outer.offsets, outer.rows, inner.offsets, inner.rows, inner.values, inner.elements, counts,
+    )
+}
+
+#[rustfmt::skip]
+fn recipe(recipe: Recipe, rooms: [Room; 3], counts: &mut [u64], tally: &mut [u64]) -> u32 {
+    let Recipe { station, numbers, columns, lists: [l, r], arguments: x } = recipe;
+    let [one, two, out] = rooms;
+    duthlan_typed_recipe(
+        station, numbers, columns,
+        l.offsets, l.rows, l.rows_start, l.values, l.elements, l.elements_start,
+        r.offsets, r.rows, r.rows_start, r.values, r.elements, r.elements_start,
+        x.values, x.bits, x.start,
+        one.offsets, one.rows, one.values, one.elements,
+        two.offsets, two.rows, two.values, two.elements,
+        out.offsets, out.rows, out.values, out.elements, counts, tally,
+    )
+}

@@ -7,6 +7,7 @@ use crate::coverage::{self, Coverage, SHARED};
 use crate::entry::{decode_i32, decode_i64, decode_tally, decode_u32};
 use crate::entry::{Case, Content, Expected, Input, Route, SliceKind, TALLY, TALLY_BYTES};
 use crate::generate::untaken_column;
+use crate::lending;
 use crate::library::Library;
 use crate::model::{is_valid, ArgumentColumn, Tally, UNDER_NULL};
 use crate::numbers::{bytes_of, bytes_of_mut};
@@ -142,6 +143,8 @@ pub struct Checker<'a> {
     pub differences: u64,
     /// Whether inputs of equal bytes are lent as one slice.
     pub shares: bool,
+    /// Whether calls are not made, but asked how much is to be lent for them.
+    pub asks: bool,
     /// Whether it is recorded what the calls reach.
     pub records: bool,
     pub coverage: Coverage,
@@ -159,6 +162,7 @@ impl<'a> Checker<'a> {
             typed: 0,
             differences: 0,
             shares: false,
+            asks: false,
             records: true,
             coverage: Coverage::default(),
         }
@@ -168,7 +172,7 @@ impl<'a> Checker<'a> {
         self.group = name.to_string();
         self.rng = Rng::new(0, name);
         (self.calls, self.over_bytes, self.typed, self.differences) = (0, 0, 0, 0);
-        self.shares = false;
+        (self.shares, self.asks) = (false, false);
     }
 
     /// Whether calls are made this way.
@@ -183,7 +187,7 @@ impl<'a> Checker<'a> {
         kind: &'static str,
         subject: impl Into<Cow<'static, str>>,
     ) {
-        if self.records {
+        if self.records && !self.asks {
             self.coverage.count(case.entry.name(), kind, subject);
         }
     }
@@ -198,6 +202,9 @@ impl<'a> Checker<'a> {
     /// Makes the call, over bytes and typed, and compares everything with the model; what is
     /// observed over bytes is given, or typed where that alone is done.
     pub fn check(&mut self, case: &Case) -> Observed {
+        if self.asks {
+            return self.ask(case);
+        }
         self.begin_call();
         let expected = case.expected();
         if self.records {
@@ -221,6 +228,9 @@ impl<'a> Checker<'a> {
 
     /// Makes a call that is for the typed entries alone.
     pub fn check_typed(&mut self, case: &Case) -> Observed {
+        if self.asks {
+            return self.ask(case);
+        }
         self.begin_call();
         let typed_case = self.typed_case(case);
         let expected = typed_case.expected_typed();
@@ -232,6 +242,55 @@ impl<'a> Checker<'a> {
         self.begin_call();
         let typed_case = self.typed_case(case);
         self.compare_typed(case, &typed_case, expected)
+    }
+
+    /// Asks how much is to be lent for a call, which is not made, and compares the answer with the
+    /// harness's own reading. What the call has for its counts is lent for the lengths, which are
+    /// given as counts.
+    pub fn ask(&mut self, case: &Case) -> Observed {
+        self.begin_call();
+        self.typed += 1;
+        let typed_case = Case { outputs: Vec::new(), ..self.typed_case(case) };
+        let case = &typed_case;
+        let expected = lending::expected(case);
+        if self.records {
+            for subject in coverage::lending_met(case, &expected) {
+                self.coverage.count(case.entry.typed_name(), "lending", subject);
+            }
+        }
+        let inputs = Arena::new(&case.aligned_inputs(Route::Typed));
+        let lent = Arena::new(&case.aligned_outputs(Route::Typed));
+        let (mut inputs_after, mut after) = (inputs.clone(), lent.clone());
+        let number = self.call(Route::Typed, true, case, &mut inputs_after, &mut after);
+
+        let mut wanted = lent;
+        wanted.write(0, bytes_of(expected.as_deref().unwrap_or(&[])));
+        let wanted_number = expected.as_ref().err().copied().unwrap_or(0);
+        let mut faults = Vec::new();
+        if number != wanted_number {
+            faults.push(format!("answered {number}, expected {wanted_number}"));
+        }
+        if after.slices() != wanted.slices() {
+            faults.push(format!("lengths should be {}", show(COUNTS, wanted.slices()[0])));
+            faults.push(format!("lengths are now   {}", show(COUNTS, after.slices()[0])));
+        }
+        if !wanted.equal_outside(&after) {
+            faults.push("bytes outside the lent lengths were changed".to_string());
+        }
+        if inputs_after != inputs {
+            faults.push("the inputs, or the bytes around them, were changed".to_string());
+        }
+        if !faults.is_empty() {
+            faults.insert(0, "asked how much to lend; what are called counts are lengths".into());
+            self.report(case, &faults);
+        }
+        let mut counts = Vec::new();
+        if number == 0 {
+            counts = after.slices()[0].chunks_exact(8).flat_map(decode_i64).collect();
+            counts.truncate(lending::places(case.entry));
+        }
+        let counts = counts.into_iter().map(|count| count as u64).collect();
+        Observed { number, counts, written: Vec::new(), tally: None }
     }
 
     fn typed_case(&mut self, case: &Case) -> Case {
@@ -261,7 +320,7 @@ impl<'a> Checker<'a> {
         let lent = Arena::new(&case.aligned_outputs(route));
         let mut inputs_after = inputs.clone();
         let mut after = lent.clone();
-        let number = self.call(route, case, &mut inputs_after, &mut after);
+        let number = self.call(route, false, case, &mut inputs_after, &mut after);
 
         let mut wanted = lent;
         for (slice, bytes) in expected.written.iter().enumerate() {
@@ -287,19 +346,26 @@ impl<'a> Checker<'a> {
     }
 
     /// Lends copies of the inputs too, so that a write to them is seen.
-    fn call(&self, route: Route, case: &Case, inputs: &mut Arena, outputs: &mut Arena) -> u32 {
+    fn call(
+        &self,
+        route: Route,
+        asks: bool,
+        case: &Case,
+        inputs: &mut Arena,
+        outputs: &mut Arena,
+    ) -> u32 {
         let (mut lent, mut slices) = (inputs.slices(), outputs.slices_mut());
         if self.shares {
             share_equal(&mut lent, case);
         }
         if !self.manner.apart {
-            return self.call_with(route, case, &lent, &mut slices);
+            return self.call_with(route, asks, case, &lent, &mut slices);
         }
         let owned: Vec<Vec<u8>> = lent.iter().map(|slice| slice.to_vec()).collect();
         let mut results: Vec<Vec<u8>> = slices.iter().map(|slice| slice.to_vec()).collect();
         let lent: Vec<&[u8]> = owned.iter().map(Vec::as_slice).collect();
         let mut lent_results: Vec<&mut [u8]> = results.iter_mut().map(Vec::as_mut_slice).collect();
-        let number = self.call_with(route, case, &lent, &mut lent_results);
+        let number = self.call_with(route, asks, case, &lent, &mut lent_results);
         for (slice, result) in slices.iter_mut().zip(&results) {
             slice.copy_from_slice(result);
         }
@@ -309,12 +375,16 @@ impl<'a> Checker<'a> {
     fn call_with(
         &self,
         route: Route,
+        asks: bool,
         case: &Case,
         lent: &[&[u8]],
         slices: &mut [&mut [u8]],
     ) -> u32 {
         let (counts, outputs) = slices.split_last_mut().expect("counts are always lent");
         match (route, &self.library.typed) {
+            (Route::Typed, Some(typed)) if asks => {
+                typed.lending.ask(case.entry, lent, &case.starts, counts)
+            }
             (Route::Typed, Some(typed)) => {
                 typed.call(case.entry, lent, &case.starts, outputs, counts)
             }

@@ -10,6 +10,7 @@ use crate::entry::{decode_i32, decode_i64};
 use crate::entry::{Case, Content, Entry, Expected, Input, SliceKind};
 use crate::entry::{NOT_SERVED, TALLY, TALLY_BYTES, TRAYS};
 use crate::generate::{Column, Harm};
+use crate::lending::LARGEST_OFFSET;
 use crate::library::Library;
 use crate::model::{
     self, is_valid, ArgumentColumn, Bitmap, Element, ListColumn, Made, Operation, Role, Row, Shown,
@@ -493,6 +494,35 @@ pub fn demanded_typed(entry: Entry, answers: &[u32]) -> Vec<(&'static str, Strin
     let named = TYPED.into_iter().chain(FOR_PLACES).filter(is_met);
     all.extend(named.map(str::to_string));
     all.into_iter().map(|subject| ("typed", subject)).collect()
+}
+
+// How much to lend.
+
+const LIMIT_MET: [&str; 4] =
+    ["a limit that stops", "three limits, all unlike", "no steps", "limits of 32 steps"];
+
+/// The answer, and what limits are like.
+pub fn lending_met(case: &Case, expected: &Result<Vec<u64>, u32>) -> Vec<Cow<'static, str>> {
+    let number = expected.as_ref().err().copied().unwrap_or(0);
+    let mut met = vec![Cow::Owned(format!("answer {number}"))];
+    if let (true, Ok(limits)) = (case.entry.is_recipe(), expected) {
+        let steps = case.inputs[0].len() / 16;
+        let unlike = limits[0] != limits[1] && limits[1] != limits[2] && limits[0] != limits[2];
+        let holds = [limits.contains(&LARGEST_OFFSET), unlike, steps == 0, steps == 32];
+        met.extend(chosen(LIMIT_MET, holds).into_iter().map(Cow::Borrowed));
+    }
+    met
+}
+
+/// What calls that ask must reach: all answers of the call but 9, 15 and those over bytes.
+fn demanded_lending(entry: Entry) -> Vec<(&'static str, String)> {
+    let numbers = if entry.is_recipe() { vec![0, 10, 13, 1, 2, 3, 100] } else { answers(entry) };
+    let numbers = numbers.into_iter().filter(|number| !matches!(number, 9 | 101 | 102));
+    let mut all: Vec<String> = numbers.map(|number| format!("answer {number}")).collect();
+    if entry.is_recipe() {
+        all.extend(LIMIT_MET.map(str::to_string));
+    }
+    all.into_iter().map(|subject| ("lending", subject)).collect()
 }
 
 // Rows.
@@ -1375,6 +1405,7 @@ fn demanded(entry: Entry) -> Vec<(&'static str, String)> {
     all.extend(demanded_null_slots());
     all.extend(demanded_starts(entry, &shared_answers(entry)));
     all.extend(demanded_typed(entry, &answers(entry)));
+    all.extend(demanded_lending(entry));
     all
 }
 
@@ -1404,7 +1435,8 @@ impl Coverage {
             }
         }
         if library.has(Entry::RECIPE) {
-            for (kind, subject) in recipe_coverage::demanded() {
+            let lending = demanded_lending(Entry::RECIPE);
+            for (kind, subject) in recipe_coverage::demanded().into_iter().chain(lending) {
                 if !self.reached("recipe", kind, &subject) {
                     missing.push(format!("recipe: {kind} {subject}"));
                 }

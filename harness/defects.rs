@@ -1,5 +1,5 @@
 //! The names of the deliberately wrong versions of the library, which mock.rs, mock_rows.rs,
-//! mock_recipe.rs and mock_typed.rs ask for.
+//! mock_recipe.rs, mock_typed.rs and mock_lending.rs ask for.
 
 use crate::entry::{Content, Entry};
 use std::sync::OnceLock;
@@ -13,6 +13,8 @@ enum By {
     Typed,
     /// Those of the groups for what typed calls alone meet.
     TypedGroups,
+    /// Those of the groups for how much to lend.
+    Lending,
 }
 
 impl By {
@@ -22,6 +24,7 @@ impl By {
             By::Bytes => "bytes",
             By::Typed => "typed",
             By::TypedGroups => "typed-groups",
+            By::Lending => "lending",
         }
     }
 }
@@ -230,6 +233,82 @@ const TYPED_DEFECTS: &[(By, &str, &[&str])] = &[
     (By::TypedGroups, RECIPE, &["typed-9-for-over-16384-elements"]),
     (By::TypedGroups, RECIPE, &["typed-columns-cut-to-32-bits", "typed-trays-cleared-to-16384"]),
     (By::TypedGroups, RECIPE, &["typed-101-over-32768-arguments", "typed-starts-cut-to-32-bits"]),
+    (By::Lending, ANY, LENDING_DEFECTS),
+    (By::Lending, "reverse", LENGTH_DEFECTS),
+    (By::Lending, "union", LENGTH_DEFECTS),
+    (By::Lending, "resize", LENGTH_DEFECTS),
+    (By::Lending, "list-repeat", LENGTH_DEFECTS),
+    (By::Lending, "list-repeat", &["lengths-one-inner-offset-too-few"]),
+    (By::Lending, "reverse", &["lending-code-12-served", "lending-set-codes-served-by-list"]),
+    (By::Lending, "union", &["lending-list-codes-served-by-lists"]),
+    (By::Lending, "pop front", &["lending-pop-front-keeps-all"]),
+    (By::Lending, "distinct", &["lengths-of-the-input"]),
+    (By::Lending, "intersect", &["lengths-of-the-input"]),
+    (By::Lending, "slice", &["lengths-of-the-input", "lending-row-refusals-not-given"]),
+    (By::Lending, "element", &["lending-row-refusals-not-given", "lengths-bitmap-one-more"]),
+    (By::Lending, RECIPE, LENDING_DEFECTS),
+    (By::Lending, RECIPE, LIMITS_DEFECTS),
+];
+
+/// How much to lend: what is asked in whatever entry.
+const LENDING_DEFECTS: &[&str] = &[
+    "lending-one-place-fewer-accepted",
+    "lending-exact-places-refused",
+    "lending-100-after-refusals",
+    "lending-13-not-given",
+    "lending-3-not-given",
+    "lending-9-given",
+    "lengths-written-on-a-refusal",
+    "lengths-written-on-100",
+    "lengths-cleared-on-a-refusal",
+    "lengths-written-past",
+    "last-length-not-written",
+];
+
+/// The lengths of a list answer.
+const LENGTH_DEFECTS: &[&str] = &[
+    "lengths-null-row-values-counted",
+    "lengths-one-offset-too-few",
+    "lengths-no-offset-for-no-rows",
+    "lengths-bitmap-rounded-down",
+    "lengths-bitmap-one-more",
+    "lengths-row-bitmap-rounded-down",
+    "lengths-values-one-more",
+];
+
+/// The limits of a recipe.
+const LIMITS_DEFECTS: &[&str] = &[
+    "limits-null-row-values-counted",
+    "limits-resize-adds",
+    "limits-resize-takes-the-greater",
+    "limits-resize-by-the-fill",
+    "limits-by-the-carried-rows",
+    "limits-resize-over-all-rows",
+    "limits-resize-over-the-second-list",
+    "limits-null-counts-summed",
+    "limits-negative-counts-as-sizes",
+    "limits-negative-counts-as-unsigned",
+    "limits-sum-wraps-at-64-bits",
+    "limits-sum-wraps-at-32-bits",
+    "limits-union-keeps",
+    "limits-union-adds-the-first",
+    "limits-union-of-common-rows",
+    "limits-intersect-by-the-second",
+    "limits-pops-counted",
+    "limits-by-levels",
+    "limits-cap-left-out",
+    "limits-cap-one-more",
+    "limits-unwritten-trays-as-the-input",
+    "limits-of-no-steps-0",
+    "limits-last-step-in-a-tray",
+    "limits-trays-exchanged",
+    "limits-of-a-trays-last-step",
+    "limits-last-step-for-the-trays",
+    "limits-greatest-for-all",
+    "limits-15-given",
+    "limits-13-before-10",
+    "limits-7-given",
+    "limits-four-places-needed",
 ];
 
 /// Prints each wrong version with the calls and the operation whose groups must report it.

@@ -14,7 +14,7 @@ use crate::rng::Rng;
 const VALUES: [i64; 4] = [UNDER_NULL, 7, 0, i64::MAX];
 
 /// Every word of this length over the letters.
-fn words<T: Copy>(letters: &[T], length: usize) -> Vec<Vec<T>> {
+pub fn words<T: Copy>(letters: &[T], length: usize) -> Vec<Vec<T>> {
     let mut all = vec![Vec::new()];
     for _ in 0..length {
         let longer = |word: &Vec<T>| {

@@ -8,6 +8,7 @@ use crate::exhaustive::{every_argument, every_limit_length, every_sum};
 use crate::exhaustive::{short_columns, short_offsets};
 use crate::generate::*;
 use crate::large;
+use crate::lending_groups;
 use crate::model::{Operation, Role, Row, Shown};
 use crate::no_offsets;
 use crate::pairs;
@@ -26,6 +27,8 @@ pub struct Group {
     pub entry: Entry,
     /// Whether it is for what typed calls alone meet.
     pub typed: bool,
+    /// Whether it asks how much is to be lent for the calls of another group.
+    asks: bool,
     run: Run,
     /// Its part of the random calls, in shares.
     shares: u64,
@@ -78,7 +81,7 @@ fn refusals(entry: Entry) -> &'static [u32] {
 }
 
 /// The groups for what typed calls alone meet that each operation has, and those of recipes.
-const TYPED_FOR_EACH: [(&str, Run); 7] = [
+const TYPED_FOR_EACH: [(&str, Run); 8] = [
     ("typed answers of the entry, exhaustive", typed_groups::entry_answers),
     ("typed starting bits beyond 32 bits", typed_groups::far_starts),
     ("typed inputs that are one slice", typed_groups::shared_inputs),
@@ -86,20 +89,66 @@ const TYPED_FOR_EACH: [(&str, Run); 7] = [
     ("typed layouts of the same rows, over size", typed_groups::same_rows_over_sizes),
     ("typed large columns, refused", large::refused),
     ("typed large columns", large::columns),
+    ("lengths to lend, and the run", lending_groups::lengths),
 ];
 
-const TYPED_OF_RECIPES: [(&str, Run); 5] = [
+const TYPED_OF_RECIPES: [(&str, Run); 11] = [
     ("typed answers of the entry, exhaustive", typed_groups::recipe_answers),
     ("typed starting bits and columns beyond 32 bits", typed_groups::far_starts),
     ("typed inputs that are one slice", typed_groups::shared_inputs_of_recipes),
     ("typed recipes over the byte entry's sizes", typed_groups::recipes_over_sizes),
     ("typed large columns", large::recipes),
+    ("limits to lend, worked cases", lending_groups::worked_limits),
+    ("limits to lend, and the run", lending_groups::limits),
+    ("limits to lend, other levels", lending_groups::other_levels),
+    ("limits to lend, sums, exhaustive", lending_groups::sums),
+    ("limits to lend, refused, exhaustive", lending_groups::refused),
+    ("limits to lend, places, exhaustive", lending_groups::places),
+];
+
+/// The groups whose calls are asked about too, with a quarter of their random calls.
+const ASKED: [&str; 14] = [
+    "random columns",
+    "layouts of the same rows",
+    "damaged columns",
+    "order of refusals",
+    "first bad row",
+    "random bytes",
+    "boundary arguments, exhaustive",
+    "strides, exhaustive",
+    "sums, exhaustive",
+    "limit columns, exhaustive",
+    "no offsets, exhaustive",
+    "starting bits, exhaustive",
+    "short columns, exhaustive",
+    "short offsets, exhaustive",
+];
+
+const ASKED_TYPED: [(&str, Run); 2] = [
+    ("places and codes, exhaustive", typed_groups::entry_answers),
+    ("starting bits beyond 32 bits", typed_groups::far_starts),
+];
+
+const ASKED_OF_RECIPES: [&str; 12] = [
+    "random recipes",
+    "layouts of the same rows",
+    "refused steps",
+    "malformed recipes",
+    "damaged columns",
+    "order of refusals",
+    "random bytes",
+    "no offsets, exhaustive",
+    "starting bits, exhaustive",
+    "row counts and argument lengths, exhaustive",
+    "short recipes, exhaustive",
+    "codes one after another, exhaustive",
 ];
 
 pub fn all() -> Vec<Group> {
     let mut groups = Vec::new();
     let mut add = |entry: Entry, name: String, run: Run, shares: u64, typed: bool| {
-        groups.push(Group { name, entry, typed, run, shares });
+        let asks = name.contains(": asked, ");
+        groups.push(Group { name, entry, typed, asks, run, shares });
     };
     for entry in Entry::all() {
         for (name, applies, run, shares) in FOR_EACH {
@@ -110,6 +159,14 @@ pub fn all() -> Vec<Group> {
         for (name, run) in TYPED_FOR_EACH {
             add(entry, format!("{}: {name}", entry.name()), run, 0, true);
         }
+        for (name, applies, run, shares) in FOR_EACH {
+            if applies(entry) && ASKED.contains(&name) {
+                add(entry, format!("{}: asked, {name}", entry.name()), run, shares, true);
+            }
+        }
+        for (name, run) in ASKED_TYPED {
+            add(entry, format!("{}: asked, {name}", entry.name()), run, 0, true);
+        }
     }
     for (name, run, shares) in recipe_groups::ALL {
         add(Entry::RECIPE, format!("recipe: {name}"), run, shares, false);
@@ -117,6 +174,13 @@ pub fn all() -> Vec<Group> {
     for (name, run) in TYPED_OF_RECIPES {
         add(Entry::RECIPE, format!("recipe: {name}"), run, 0, true);
     }
+    for (name, run, shares) in recipe_groups::ALL {
+        if ASKED_OF_RECIPES.contains(&name) {
+            add(Entry::RECIPE, format!("recipe: asked, {name}"), run, shares, true);
+        }
+    }
+    let (name, run) = ASKED_TYPED[1];
+    add(Entry::RECIPE, format!("recipe: asked, {name}"), run, 0, true);
     for (name, entry) in CODED {
         add(entry, format!("{name}: unknown operations"), unknown_operations, 1, false);
     }
@@ -137,11 +201,18 @@ impl Group {
         self.name.strip_prefix(operation).is_some_and(|rest| rest.starts_with(": "))
     }
 
+    /// Whether it is one of those for how much to lend.
+    pub fn is_lending(&self) -> bool {
+        self.asks || self.name.contains(" to lend, ")
+    }
+
     /// Runs the group with its part of the random calls; the checker then holds its record.
     pub fn run(&self, checker: &mut Checker, seed: u64, random_calls: u64) {
-        let shares: u64 = all().iter().map(|group| group.shares).sum();
-        let calls = random_calls * self.shares / shares;
+        let made = all().into_iter().filter(|group| !group.asks);
+        let shares: u64 = made.map(|group| group.shares).sum();
+        let calls = random_calls * self.shares / shares / if self.asks { 4 } else { 1 };
         checker.start_group(&self.name);
+        checker.asks = self.asks;
         (self.run)(checker, self.entry, &mut Rng::new(seed, &self.name), calls);
     }
 }

@@ -6,6 +6,7 @@
 //!     harness --group NAME           one group alone, with its calls of the whole run
 //!     harness --operation NAME       the groups of one operation
 //!     harness --typed-groups         the groups for what typed calls alone meet
+//!     harness --lending              the groups for how much to lend
 //!     harness --bytes | --typed      the byte entries alone, or the typed ones
 //!     harness --plain                the plain Rust instead of the port
 //!     harness --decoded              the plain Rust that decodes inside instead of the port
@@ -33,6 +34,9 @@
 //! in strides.rs; the stations of a tally are in stations.rs, and bitmaps from the middle of a byte
 //! in starts.rs.
 //!
+//! How much to lend is read in lending.rs and has its groups in lending_groups.rs; beside these, the
+//! groups named "asked" ask it for the calls of other groups, without making them.
+//!
 //! Every call of these groups is made over bytes and typed. What typed calls alone meet is in
 //! typed_groups.rs and, for large columns, in large.rs.
 
@@ -48,9 +52,13 @@ mod exhaustive;
 mod generate;
 mod groups;
 mod large;
+mod lending;
+mod lending_groups;
 mod library;
 #[cfg(mock)]
 mod mock;
+#[cfg(mock)]
+mod mock_lending;
 #[cfg(mock)]
 mod mock_recipe;
 #[cfg(mock)]
@@ -95,6 +103,8 @@ struct Options {
     operation: Option<String>,
     /// Whether the groups for what typed calls alone meet are wanted alone.
     typed_groups: bool,
+    /// Whether the groups for how much to lend are.
+    lending: bool,
     library: &'static Library,
     routes: Vec<Route>,
     alone: bool,
@@ -112,13 +122,15 @@ fn parse(mut words: impl Iterator<Item = String>) -> Result<Options, String> {
     let (calls, seed) = (DEFAULT_CALLS, DEFAULT_SEED);
     let (group, operation) = (None, None);
     let (library, routes) = (&port::LIBRARY, vec![Route::Bytes, Route::Typed]);
-    let (typed_groups, alone, stop, trace, apart) = (false, false, false, false, false);
+    let (typed_groups, lending) = (false, false);
+    let (alone, stop, trace, apart) = (false, false, false, false);
     let mut options = Options {
         calls,
         seed,
         group,
         operation,
         typed_groups,
+        lending,
         library,
         routes,
         alone,
@@ -137,6 +149,7 @@ fn parse(mut words: impl Iterator<Item = String>) -> Result<Options, String> {
             "--plain" => options.library = &plain::LIBRARY,
             "--decoded" => options.library = &decoded::LIBRARY,
             "--typed-groups" => options.typed_groups = true,
+            "--lending" => options.lending = true,
             "--bytes" => options.routes = vec![Route::Bytes],
             "--typed" => options.routes = vec![Route::Typed],
             "--alone" => options.alone = true,
@@ -152,7 +165,7 @@ fn parse(mut words: impl Iterator<Item = String>) -> Result<Options, String> {
 impl Options {
     /// Whether only some groups are to be run, or one way of making calls.
     fn is_part(&self) -> bool {
-        let one_way = self.typed_groups || self.routes.len() == 1;
+        let one_way = self.typed_groups || self.lending || self.routes.len() == 1;
         self.group.is_some() || self.operation.is_some() || one_way
     }
 
@@ -170,6 +183,7 @@ impl Options {
         self.group.as_ref().is_none_or(|name| *name == group.name)
             && self.operation.as_ref().is_none_or(|name| group.is_of(name))
             && (group.typed || !self.typed_groups)
+            && (group.is_lending() || !self.lending)
     }
 }
 

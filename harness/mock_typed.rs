@@ -3,12 +3,14 @@
 
 use crate::defects::{defect, is};
 use crate::mock::{answer_after, Answer, Shape, ANY_VALUE, ELEMENT, LIST_REPEAT, UNION};
+use crate::mock_lending::LENDING;
 use crate::mock_recipe::recipe_after;
 use crate::numbers::{bytes_of, bytes_of_mut};
 use crate::plain;
 use crate::typed::{List, OuterRoom, Recipe, Room, Typed, Values};
 
-pub const TYPED: Typed = Typed { list, lists, any_value, element, list_repeat, recipe };
+pub const TYPED: Typed =
+    Typed { list, lists, any_value, element, list_repeat, recipe, lending: LENDING };
 
 /// The plain Rust, where no wrong version is wanted.
 fn plain() -> Option<Typed> {

@@ -684,7 +684,8 @@ fn list_of_lists_form(rows: &[Option<Vec<Row>>]) -> ResultForm {
     }
 }
 
-fn result_form(made: &Made) -> ResultForm {
+/// The result as it is written.
+pub fn result_form(made: &Made) -> ResultForm {
     match made {
         Made::Lists(rows) => list_form(rows),
         Made::Values(values) => value_form(values),

@@ -6,7 +6,7 @@
 
 use crate::library::Library;
 use crate::numbers::bytes_of;
-use crate::typed::{List, OuterRoom, Recipe, Room, Typed, Values};
+use crate::typed::{Lending, List, OuterRoom, Recipe, Room, Typed, Values};
 use std::collections::HashSet;
 use std::hash::Hash;
 use std::ops::Range;
@@ -855,6 +855,22 @@ fn write_rows<O: Offset, V: Value>(call: &Call<O, V>, room: Lists<O, V>) -> Resu
     }
 }
 
+/// How many elements the rows of a list operation have, whose columns are not refused.
+fn count_elements<O: Offset, V: Value>(call: &Call<O, V>) -> Result<usize, u32> {
+    macro_rules! by_code {
+        ($($code:ident)+) => {
+            match call.code {
+                $($code => call.elements::<$code>(),)+
+                _ => unreachable!("a code that no entry lets through"),
+            }
+        };
+    }
+    by_code! {
+        REVERSE DISTINCT POP_FRONT POP_BACK SLICE SLICE_WITHOUT_STRIDE RESIZE RESIZE_WITHOUT_FILL
+        REPLACE REMOVE UNION INTERSECT
+    }
+}
+
 fn write_rows_of<const CODE: u32, O: Offset, V: Value>(
     call: &Call<O, V>,
     room: Lists<O, V>,
@@ -895,12 +911,7 @@ fn write_values<V: Value>(
     Ok([rows as u64, bits.finish()])
 }
 
-/// The first valid element of each row.
-pub fn write_any_values<O: Offset, V: Value>(
-    column: Column<O, V>,
-    out_values: &mut [V],
-    out_rows: &mut [u8],
-) -> Result<[u64; 2], u32> {
+fn check_column<O: Offset, V: Value>(column: Column<O, V>) -> Result<(), u32> {
     if column.bad_start() {
         return Err(13);
     }
@@ -910,6 +921,36 @@ pub fn write_any_values<O: Offset, V: Value>(
     if column.short_bitmap() {
         return Err(2);
     }
+    Ok(())
+}
+
+/// A list beside an argument column of one value a row.
+fn check_beside<O: Offset, V: Value>(
+    column: Column<O, V>,
+    argument: Argument<V>,
+) -> Result<(), u32> {
+    if column.bad_start() || argument.bad_start() {
+        return Err(13);
+    }
+    if column.bad_offsets() {
+        return Err(1);
+    }
+    if column.short_bitmap() || argument.short_bitmap() {
+        return Err(2);
+    }
+    if argument.values.len() != column.row_count() {
+        return Err(3);
+    }
+    Ok(())
+}
+
+/// The first valid element of each row.
+pub fn write_any_values<O: Offset, V: Value>(
+    column: Column<O, V>,
+    out_values: &mut [V],
+    out_rows: &mut [u8],
+) -> Result<[u64; 2], u32> {
+    check_column(column)?;
     let value = |at| column.row(at)?.first_valid();
     write_values(column.row_count(), value, out_values, out_rows)
 }
@@ -926,6 +967,19 @@ fn place_of(length: usize, index: i32) -> Option<usize> {
     }
 }
 
+fn check_indexes<O: Offset, V: Value>(
+    column: Column<O, V>,
+    indexes: Argument<V>,
+) -> Result<(), u32> {
+    check_beside(column, indexes)?;
+    let both_valid = |row: usize| column.is_valid(row) && indexes.is_valid(row);
+    let fits = |row: usize| i32::try_from(indexes.values[row].number()).is_ok();
+    if (0..column.row_count()).any(|row| both_valid(row) && !fits(row)) {
+        return Err(4);
+    }
+    Ok(())
+}
+
 /// The element of each row that its index names.
 pub fn write_elements<O: Offset, V: Value>(
     column: Column<O, V>,
@@ -933,24 +987,8 @@ pub fn write_elements<O: Offset, V: Value>(
     out_values: &mut [V],
     out_rows: &mut [u8],
 ) -> Result<[u64; 2], u32> {
-    if column.bad_start() || indexes.bad_start() {
-        return Err(13);
-    }
-    if column.bad_offsets() {
-        return Err(1);
-    }
-    if column.short_bitmap() || indexes.short_bitmap() {
-        return Err(2);
-    }
+    check_indexes(column, indexes)?;
     let rows = column.row_count();
-    if indexes.values.len() != rows {
-        return Err(3);
-    }
-    let both_valid = |row: usize| column.is_valid(row) && indexes.is_valid(row);
-    let fits = |row: usize| i32::try_from(indexes.values[row].number()).is_ok();
-    if (0..rows).any(|row| both_valid(row) && !fits(row)) {
-        return Err(4);
-    }
     let value = |at| {
         let row = column.row(at)?;
         let index = indexes.number(at)? as i32;
@@ -976,6 +1014,18 @@ fn repeated<O: Offset, V: Value>(column: Column<O, V>, times: Argument<V>) -> (u
     (inner_rows, elements)
 }
 
+fn check_repeated<O: Offset, V: Value>(
+    column: Column<O, V>,
+    times: Argument<V>,
+) -> Result<(u64, u64), u32> {
+    check_beside(column, times)?;
+    let (inner_rows, elements) = repeated(column, times);
+    if inner_rows > MOST_ELEMENTS || elements > MOST_ELEMENTS {
+        return Err(8);
+    }
+    Ok((inner_rows, elements))
+}
+
 /// Each list as many times as its count says, as the lists of an outer row.
 pub fn write_repeated<O: Offset, V: Value>(
     column: Column<O, V>,
@@ -983,23 +1033,8 @@ pub fn write_repeated<O: Offset, V: Value>(
     outer: Outer<O>,
     inner: Lists<O, V>,
 ) -> Result<[u64; 6], u32> {
-    if column.bad_start() || times.bad_start() {
-        return Err(13);
-    }
-    if column.bad_offsets() {
-        return Err(1);
-    }
-    if column.short_bitmap() || times.short_bitmap() {
-        return Err(2);
-    }
+    let (inner_rows, elements) = check_repeated(column, times)?;
     let rows = column.row_count();
-    if times.values.len() != rows {
-        return Err(3);
-    }
-    let (inner_rows, elements) = repeated(column, times);
-    if inner_rows > MOST_ELEMENTS || elements > MOST_ELEMENTS {
-        return Err(8);
-    }
     if !rows_fit(outer.offsets, outer.rows, rows)
         || !rows_fit(inner.offsets, inner.rows, inner_rows as usize)
         || !elements_fit(inner.values, inner.elements, elements as usize)
@@ -1396,6 +1431,16 @@ pub fn run_recipe<O: Offset, V: Value>(
     trays: [Lists<O, V>; 2],
     output: Lists<O, V>,
 ) -> Result<[u64; 4], u32> {
+    let steps = check_steps(columns, numbers, lent)?;
+    run_steps(lent, steps, trays, output)
+}
+
+/// The steps of a recipe that is not refused before them.
+fn check_steps<'a, O: Offset, V: Value>(
+    columns: usize,
+    numbers: &'a [u8],
+    lent: &RecipeColumns<O, V>,
+) -> Result<&'a [[Bytes4; 4]], u32> {
     let numbers: &[Bytes4] = numbers.as_chunks().0;
     let (steps, rest) = numbers.as_chunks();
     let malformed = |step: &[Bytes4; 4]| is_malformed_step(step, columns);
@@ -1403,7 +1448,7 @@ pub fn run_recipe<O: Offset, V: Value>(
         return Err(10);
     }
     lent.refusal(columns).map_or(Ok(()), Err)?;
-    run_steps(lent, steps, trays, output)
+    Ok(steps)
 }
 
 pub const MOST_ARGUMENTS: usize = 32768;
@@ -1489,6 +1534,7 @@ const TYPED: Typed = Typed {
     element: typed_element,
     list_repeat: typed_list_repeat,
     recipe: typed_recipe,
+    lending: LENDING,
 };
 
 /// A typed entry's only number of its own.
@@ -1516,16 +1562,20 @@ fn typed_list(
     room: Room,
     counts: &mut [u64],
 ) -> u32 {
-    let taken = match code {
-        RESIZE_WITHOUT_FILL => 1,
-        UNION | INTERSECT => return NOT_SERVED,
-        _ => match columns_taken(code) {
-            Some(taken) => taken,
-            None => return NOT_SERVED,
-        },
+    let Some(taken) = columns_taken_by_list(code) else {
+        return NOT_SERVED;
     };
     let call = Call { code, list, right: None, arguments: &arguments[..taken] };
     tell(counts, || write_lists(&call, room))
+}
+
+/// How many argument columns a code of the entry for one list takes, if that serves it.
+fn columns_taken_by_list(code: u32) -> Option<usize> {
+    match code {
+        RESIZE_WITHOUT_FILL => Some(1),
+        UNION | INTERSECT => None,
+        _ => columns_taken(code),
+    }
 }
 
 /// Distinct with a set on the heap, for the benchmark.
@@ -1601,4 +1651,103 @@ fn typed_recipe(
         elements.fill(0);
     }
     result
+}
+
+// How much to lend.
+
+const LENDING: Lending = Lending {
+    list: list_lengths,
+    lists: lists_lengths,
+    any_value: any_value_lengths,
+    element: element_lengths,
+    list_repeat: list_repeat_lengths,
+    limits: recipe_limits,
+};
+
+fn row_slots(rows: u64) -> [u64; 2] {
+    [rows + 1, rows.div_ceil(8)]
+}
+
+fn element_slots(elements: u64) -> [u64; 2] {
+    [elements, elements.div_ceil(8)]
+}
+
+fn list_slots(call: &Call<i32, i64>) -> Result<[u64; 4], u32> {
+    call.refusal().map_or(Ok(()), Err)?;
+    let [offsets, rows] = row_slots(call.list.row_count() as u64);
+    let [values, elements] = element_slots(count_elements(call)? as u64);
+    Ok([offsets, rows, values, elements])
+}
+
+fn list_lengths(code: u32, list: List, arguments: [Values; 3], lengths: &mut [u64]) -> u32 {
+    let Some(taken) = columns_taken_by_list(code) else {
+        return NOT_SERVED;
+    };
+    let call = Call { code, list, right: None, arguments: &arguments[..taken] };
+    tell(lengths, || list_slots(&call))
+}
+
+fn lists_lengths(code: u32, [list, right]: [List; 2], lengths: &mut [u64]) -> u32 {
+    if code != UNION && code != INTERSECT {
+        return NOT_SERVED;
+    }
+    tell(lengths, || list_slots(&Call { code, list, right: Some(right), arguments: &[] }))
+}
+
+fn any_value_lengths(list: List, lengths: &mut [u64]) -> u32 {
+    tell(lengths, || check_column(list).map(|()| element_slots(list.row_count() as u64)))
+}
+
+fn element_lengths(list: List, indexes: Values, lengths: &mut [u64]) -> u32 {
+    tell(lengths, || check_indexes(list, indexes).map(|()| element_slots(list.row_count() as u64)))
+}
+
+fn list_repeat_lengths(list: List, times: Values, lengths: &mut [u64]) -> u32 {
+    tell(lengths, || {
+        let (inner_rows, elements) = check_repeated(list, times)?;
+        let [offsets, rows] = row_slots(list.row_count() as u64);
+        let [inner_offsets, inner_rows] = row_slots(inner_rows);
+        let [values, elements] = element_slots(elements);
+        Ok([offsets, rows, inner_offsets, inner_rows, values, elements])
+    })
+}
+
+impl RecipeColumns<'_, i32, i64> {
+    /// Whatever the levels are, no step has more elements; each limit stops at the most.
+    fn limits(&self, steps: &[[Bytes4; 4]]) -> [u64; 3] {
+        let mut limit = elements_shown(self.list);
+        let mut limits = [0, 0, if steps.is_empty() { limit } else { 0 }];
+        for (at, step) in steps.iter().enumerate() {
+            let [code, count, ..] = step_numbers(step);
+            limit = match code {
+                RESIZE => self.resized_at_most(self.argument(count)),
+                UNION => (limit + elements_shown(self.second)).min(MOST_ELEMENTS),
+                _ => limit,
+            };
+            let written = &mut limits[if at + 1 == steps.len() { 2 } else { at % 2 }];
+            *written = limit.max(*written);
+        }
+        limits
+    }
+
+    fn resized_at_most(&self, counts: Values) -> u64 {
+        let rows = (0..self.list.row_count()).filter(|row| self.list.is_valid(*row));
+        let counts = rows.filter_map(|row| counts.number(row));
+        let sum = counts.fold(0u64, |sum, count| sum.saturating_add(count.max(0) as u64));
+        sum.min(MOST_ELEMENTS)
+    }
+}
+
+fn elements_shown(column: List) -> u64 {
+    let rows = (0..column.row_count()).filter_map(|row| column.row(row));
+    rows.map(|row| row.len() as u64).sum::<u64>().min(MOST_ELEMENTS)
+}
+
+fn recipe_limits(recipe: Recipe, limits: &mut [u64]) -> u32 {
+    let Recipe { numbers, columns, lists: [list, second], arguments, .. } = recipe;
+    tell(limits, || {
+        let lent = RecipeColumns { list, second, arguments };
+        let steps = check_steps(columns, bytes_of(numbers), &lent)?;
+        Ok(lent.limits(steps))
+    })
 }

@@ -231,7 +231,7 @@ fn damageable_lists(rng: &mut Rng) -> [Vec<Row>; 2] {
 }
 
 /// A recipe that every damage can be done to, with one argument column or more.
-fn damageable_recipe(steps: usize, rng: &mut Rng) -> Input {
+pub fn damageable_recipe(steps: usize, rng: &mut Rng) -> Input {
     let columns = rng.pick(&[1, 2, 3, 8]);
     let mut draft = Draft::over(damageable_lists(rng), columns, 1, rng);
     (0..steps).for_each(|_| draft.add_some(rng));

@@ -34,6 +34,19 @@ pub struct Typed {
     pub list_repeat: fn(List, Values, OuterRoom, Room, &mut [u64]) -> u32,
     /// The rooms are tray one, tray two and the output; the tally comes last.
     pub recipe: fn(Recipe, [Room; 3], &mut [u64], &mut [u64]) -> u32,
+    pub lending: Lending,
+}
+
+/// The entries that say how much to lend for these, and write it into the last slice. A recipe's
+/// limits name no station.
+#[derive(Clone, Copy)]
+pub struct Lending {
+    pub list: fn(u32, List, [Values; 3], &mut [u64]) -> u32,
+    pub lists: fn(u32, [List; 2], &mut [u64]) -> u32,
+    pub any_value: fn(List, &mut [u64]) -> u32,
+    pub element: fn(List, Values, &mut [u64]) -> u32,
+    pub list_repeat: fn(List, Values, &mut [u64]) -> u32,
+    pub limits: fn(Recipe, &mut [u64]) -> u32,
 }
 
 fn list<'a>(slices: &[&'a [u8]], starts: &[usize]) -> List<'a> {
@@ -55,6 +68,45 @@ fn room<'a>([offsets, rows, values, elements]: [&'a mut [u8]; 4]) -> Room<'a> {
     Lists { offsets: of_bytes_mut(offsets), rows, values: of_bytes_mut(values), elements }
 }
 
+fn three_arguments<'a>(lent: &[&'a [u8]], starts: &[usize]) -> [Values<'a>; 3] {
+    [0, 1, 2].map(|at| values(&lent[4 + 2 * at..], starts[2 + at]))
+}
+
+fn recipe<'a>(station: u32, columns: usize, lent: &[&'a [u8]], starts: &[usize]) -> Recipe<'a> {
+    Recipe {
+        station,
+        numbers: of_bytes(lent[0]),
+        columns,
+        lists: [list(&lent[1..], starts), list(&lent[5..], &starts[2..])],
+        arguments: values(&lent[9..], starts[4]),
+    }
+}
+
+impl Lending {
+    /// Asks how much to lend for a call, in the same way.
+    pub fn ask(&self, entry: Entry, lent: &[&[u8]], starts: &[usize], lengths: &mut [u8]) -> u32 {
+        let lengths = of_bytes_mut(lengths);
+        let first = |from: usize| list(&lent[from..], starts);
+        match entry {
+            Entry::List(_) => panic!("a typed list operation has argument columns"),
+            Entry::ListWith(code) => {
+                (self.list)(code, first(0), three_arguments(lent, starts), lengths)
+            }
+            Entry::Lists(code) => {
+                (self.lists)(code, [first(0), list(&lent[4..], &starts[2..])], lengths)
+            }
+            Entry::AnyValue => (self.any_value)(first(0), lengths),
+            Entry::Element => (self.element)(first(0), values(&lent[4..], starts[2]), lengths),
+            Entry::ListRepeat => {
+                (self.list_repeat)(first(0), values(&lent[4..], starts[2]), lengths)
+            }
+            Entry::Recipe { station, columns } => {
+                (self.limits)(recipe(station, columns, lent, starts), lengths)
+            }
+        }
+    }
+}
+
 impl Typed {
     /// Calls an entry with slices of bytes that are aligned for their numbers. A list operation
     /// comes with three argument columns, whatever it takes.
@@ -70,8 +122,7 @@ impl Typed {
         match entry {
             Entry::List(_) => panic!("a typed list operation has argument columns"),
             Entry::ListWith(code) => {
-                let argument = |at: usize| values(&lent[4 + 2 * at..], starts[2 + at]);
-                let arguments = [argument(0), argument(1), argument(2)];
+                let arguments = three_arguments(lent, starts);
                 (self.list)(code, list(lent, starts), arguments, room(outputs(results)), counts)
             }
             Entry::Lists(code) => {
@@ -94,13 +145,7 @@ impl Typed {
                 (self.list_repeat)(list, times, outer, room(inner), counts)
             }
             Entry::Recipe { station, columns } => {
-                let recipe = Recipe {
-                    station,
-                    numbers: of_bytes(lent[0]),
-                    columns,
-                    lists: [list(&lent[1..], starts), list(&lent[5..], &starts[2..])],
-                    arguments: values(&lent[9..], starts[4]),
-                };
+                let recipe = recipe(station, columns, lent, starts);
                 let [a, b, c, d, e, f, g, h, i, j, k, l, tally] = outputs(results);
                 let rooms = [[a, b, c, d], [e, f, g, h], [i, j, k, l]].map(room);
                 (self.recipe)(recipe, rooms, counts, of_bytes_mut(tally))

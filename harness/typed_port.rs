@@ -4,9 +4,19 @@
 //! behind them. The entries demand of their caller what the byte entries do, and that each pointer is
 //! aligned for its numbers; Rust's slices give all of it, empty ones too.
 
-use crate::typed::{List, OuterRoom, Recipe, Room, Typed, Values};
+use crate::typed::{Lending, List, OuterRoom, Recipe, Room, Typed, Values};
 
-pub const TYPED: Typed = Typed { list, lists, any_value, element, list_repeat, recipe };
+pub const TYPED: Typed =
+    Typed { list, lists, any_value, element, list_repeat, recipe, lending: LENDING };
+
+const LENDING: Lending = Lending {
+    list: list_lengths,
+    lists: lists_lengths,
+    any_value: any_value_lengths,
+    element: element_lengths,
+    list_repeat: list_repeat_lengths,
+    limits: recipe_limits,
+};
 
 #[link(name = "duthlan", kind = "static")]
 extern "C" {}
@@ -149,5 +159,102 @@ fn recipe(recipe: Recipe, rooms: [Room; 3], counts: &mut [u64], tally: &mut [u64
         one.offsets, one.rows, one.values, one.elements,
         two.offsets, two.rows, two.values, two.elements,
         out.offsets, out.rows, out.values, out.elements, counts, tally,
+    )
+}
+
+// How much to lend.
+
+entry!(
+    duthlan_typed_list_lengths (op)
+    [offsets: i32; rows: u8, rows_start; values: i64; elements: u8, elements_start;
+     first: i64; first_bits: u8, first_start; second: i64; second_bits: u8, second_start;
+     third: i64; third_bits: u8, third_start]
+    [lengths: u64]
+);
+
+entry!(
+    duthlan_typed_lists_lengths (op)
+    [l_offsets: i32; l_rows: u8, l_rows_start; l_values: i64; l_elements: u8, l_elements_start;
+     r_offsets: i32; r_rows: u8, r_rows_start; r_values: i64; r_elements: u8, r_elements_start]
+    [lengths: u64]
+);
+
+entry!(
+    duthlan_typed_any_value_lengths ()
+    [offsets: i32; rows: u8, rows_start; values: i64; elements: u8, elements_start]
+    [lengths: u64]
+);
+
+entry!(
+    duthlan_typed_element_lengths ()
+    [offsets: i32; rows: u8, rows_start; values: i64; elements: u8, elements_start;
+     indexes: i64; index_bits: u8, index_start]
+    [lengths: u64]
+);
+
+entry!(
+    duthlan_typed_list_repeat_lengths ()
+    [offsets: i32; rows: u8, rows_start; values: i64; elements: u8, elements_start;
+     times: i64; times_bits: u8, times_start]
+    [lengths: u64]
+);
+
+entry!(
+    duthlan_typed_recipe_limits ()
+    [numbers: u32, columns;
+     offsets: i32; rows: u8, rows_start; values: i64; elements: u8, elements_start;
+     second_offsets: i32; second_rows: u8, second_rows_start;
+     second_values: i64; second_elements: u8, second_elements_start;
+     arguments: i64; argument_bits: u8, argument_start]
+    [limits: u64]
+);
+
+#[rustfmt::skip]
+fn list_lengths(op: u32, l: List, [x, y, z]: [Values; 3], lengths: &mut [u64]) -> u32 {
+    duthlan_typed_list_lengths(
+        op, l.offsets, l.rows, l.rows_start, l.values, l.elements, l.elements_start,
+        x.values, x.bits, x.start, y.values, y.bits, y.start, z.values, z.bits, z.start, lengths,
+    )
+}
+
+#[rustfmt::skip]
+fn lists_lengths(op: u32, [l, r]: [List; 2], lengths: &mut [u64]) -> u32 {
+    duthlan_typed_lists_lengths(
+        op, l.offsets, l.rows, l.rows_start, l.values, l.elements, l.elements_start,
+        r.offsets, r.rows, r.rows_start, r.values, r.elements, r.elements_start, lengths,
+    )
+}
+
+#[rustfmt::skip]
+fn any_value_lengths(l: List, lengths: &mut [u64]) -> u32 {
+    duthlan_typed_any_value_lengths(
+        l.offsets, l.rows, l.rows_start, l.values, l.elements, l.elements_start, lengths,
+    )
+}
+
+#[rustfmt::skip]
+fn element_lengths(l: List, x: Values, lengths: &mut [u64]) -> u32 {
+    duthlan_typed_element_lengths(
+        l.offsets, l.rows, l.rows_start, l.values, l.elements, l.elements_start,
+        x.values, x.bits, x.start, lengths,
+    )
+}
+
+#[rustfmt::skip]
+fn list_repeat_lengths(l: List, x: Values, lengths: &mut [u64]) -> u32 {
+    duthlan_typed_list_repeat_lengths(
+        l.offsets, l.rows, l.rows_start, l.values, l.elements, l.elements_start,
+        x.values, x.bits, x.start, lengths,
+    )
+}
+
+#[rustfmt::skip]
+fn recipe_limits(recipe: Recipe, limits: &mut [u64]) -> u32 {
+    let Recipe { numbers, columns, lists: [l, r], arguments: x, .. } = recipe;
+    duthlan_typed_recipe_limits(
+        numbers, columns,
+        l.offsets, l.rows, l.rows_start, l.values, l.elements, l.elements_start,
+        r.offsets, r.rows, r.rows_start, r.values, r.elements, r.elements_start,
+        x.values, x.bits, x.start, limits,
     )
 }

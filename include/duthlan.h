@@ -16,7 +16,8 @@
  *
  * A call is accepted, returns 0 and writes its counts; or it is refused, returns the refusal's number and changes no output and
  * no count. Nothing is allocated and no pointer is kept. What a caller must see to: each pointer is good for its length, and no
- * output overlaps another buffer of the same call; inputs may overlap each other. A pointer with a length of 0 may be NULL. */
+ * output overlaps another buffer of the same call; inputs may overlap each other. A pointer with a length of 0 may be NULL.
+ * How long the outputs must be can be asked first: duthlan_reverse_lengths for this call, and so for every other. */
 #ifndef DUTHLAN_H
 #define DUTHLAN_H
 
@@ -143,7 +144,7 @@ enum duthlan_number {
     DUTHLAN_MALFORMED_RECIPE = 10,  /* The recipe is malformed. */
     DUTHLAN_BAD_STARTING_BIT = 13,  /* A starting bit is over 7, also beside a bitmap of no bytes. */
     DUTHLAN_NO_SUCH_STATION = 15,   /* The station is over 15. */
-    DUTHLAN_BAD_CALL = 100          /* A raw entry got a code that it does not serve, or too few places for counts or tally. */
+    DUTHLAN_BAD_CALL = 100          /* A raw entry got a code that it does not serve, or too few places for what it tells. */
 };
 
 /* ---- The operations -------------------------------------------------------------------------------------------------------
@@ -224,6 +225,116 @@ static inline uint32_t duthlan_recipe(
 #define DUTHLAN_STEP_UNION 9, 0, 0, 0
 #define DUTHLAN_STEP_INTERSECT 10, 0, 0, 0
 
+/* ---- How much to lend -----------------------------------------------------------------------------------------------------
+ * Each operation can be asked first how long its outputs must be. The question takes what the operation takes, but no output; it
+ * returns 0 and writes the lengths, or returns the refusal that the operation would give before 9, and keeps the lengths as they
+ * were. Outputs at least so long in every buffer are never refused by 9, and one that is shorter always is. To ask first and lend
+ * then, in a single block whose values come first, as they are the widest:
+ *
+ *     duthlan_lengths need = {0, 0, 0, 0};
+ *     uint32_t number = duthlan_distinct_lengths(&list, &need);
+ *     if (number == DUTHLAN_ACCEPTED) {
+ *         int64_t *block = malloc(8 * need.values + 4 * need.offsets + need.row_bytes + need.element_bytes);
+ *         if (!block) abort();
+ *         int32_t *out_offsets = (int32_t *)(block + need.values);
+ *         uint8_t *out_rows = (uint8_t *)(out_offsets + need.offsets), *out_elements = out_rows + need.row_bytes;
+ *         const duthlan_out out = {out_offsets, need.offsets, out_rows, need.row_bytes,
+ *                                  block, need.values, out_elements, need.element_bytes};
+ *         number = duthlan_distinct(&list, &out, &counts);       // accepted: there is room
+ *         free(block);
+ *     }
+ *
+ * `lengths` and `limits` may be NULL where only the number is wanted; an argument may be NULL where the operation's may. */
+
+/* How long the buffers of a duthlan_out must be. */
+typedef struct duthlan_lengths {
+    uint64_t offsets;
+    uint64_t row_bytes;
+    uint64_t values;
+    uint64_t element_bytes;
+} duthlan_lengths;
+
+/* How long the buffers of a duthlan_value_out must be. */
+typedef struct duthlan_value_lengths {
+    uint64_t values;
+    uint64_t row_bytes;
+} duthlan_value_lengths;
+
+/* How long the buffers of a duthlan_repeat_out must be. */
+typedef struct duthlan_repeat_lengths {
+    uint64_t offsets;
+    uint64_t row_bytes;
+    uint64_t inner_offsets;
+    uint64_t inner_row_bytes;
+    uint64_t values;
+    uint64_t element_bytes;
+} duthlan_repeat_lengths;
+
+/* The most elements that a recipe may put into tray one, tray two and the output; 0 for a tray that no step writes. */
+typedef struct duthlan_limits {
+    uint64_t one;
+    uint64_t two;
+    uint64_t output;
+} duthlan_limits;
+
+/* Tells how much duthlan_reverse needs. */
+static inline uint32_t duthlan_reverse_lengths(const duthlan_list *list, duthlan_lengths *lengths);
+
+/* Tells how much duthlan_distinct needs. */
+static inline uint32_t duthlan_distinct_lengths(const duthlan_list *list, duthlan_lengths *lengths);
+
+/* Tells how much duthlan_pop_front needs. */
+static inline uint32_t duthlan_pop_front_lengths(const duthlan_list *list, duthlan_lengths *lengths);
+
+/* Tells how much duthlan_pop_back needs. */
+static inline uint32_t duthlan_pop_back_lengths(const duthlan_list *list, duthlan_lengths *lengths);
+
+/* Tells how much duthlan_slice needs. */
+static inline uint32_t duthlan_slice_lengths(
+    const duthlan_list *list, const duthlan_values *from, const duthlan_values *to, const duthlan_values *stride,
+    duthlan_lengths *lengths);
+
+/* Tells how much duthlan_resize needs. */
+static inline uint32_t duthlan_resize_lengths(
+    const duthlan_list *list, const duthlan_values *count, const duthlan_values *fill, duthlan_lengths *lengths);
+
+/* Tells how much duthlan_replace needs. */
+static inline uint32_t duthlan_replace_lengths(
+    const duthlan_list *list, const duthlan_values *from, const duthlan_values *to, const duthlan_values *limit,
+    duthlan_lengths *lengths);
+
+/* Tells how much duthlan_remove needs. */
+static inline uint32_t duthlan_remove_lengths(
+    const duthlan_list *list, const duthlan_values *element, const duthlan_values *limit, duthlan_lengths *lengths);
+
+/* Tells how much duthlan_union needs. */
+static inline uint32_t duthlan_union_lengths(const duthlan_list *left, const duthlan_list *right, duthlan_lengths *lengths);
+
+/* Tells how much duthlan_intersect needs. */
+static inline uint32_t duthlan_intersect_lengths(const duthlan_list *left, const duthlan_list *right, duthlan_lengths *lengths);
+
+/* Tells how much duthlan_any_value needs. */
+static inline uint32_t duthlan_any_value_lengths(const duthlan_list *list, duthlan_value_lengths *lengths);
+
+/* Tells how much duthlan_element needs. */
+static inline uint32_t duthlan_element_lengths(
+    const duthlan_list *list, const duthlan_values *index, duthlan_value_lengths *lengths);
+
+/* Tells how much duthlan_list_repeat needs. */
+static inline uint32_t duthlan_list_repeat_lengths(
+    const duthlan_list *list, const duthlan_values *times, duthlan_repeat_lengths *lengths);
+
+/* Tells how many elements at most a recipe makes in each tray and in the output; it runs nothing and names no station. Refused,
+ * as the run would be, by 10, 13, 1, 2 and 3; a run may still be refused for its rows, but never by 9 where each tray that a step
+ * writes, and the output, has so many values, an offset more than the list has rows, and bitmaps of DUTHLAN_BITMAP_BYTES of its
+ * rows and values. A limit is at most 2147483647. */
+static inline uint32_t duthlan_recipe_limits(
+    const uint32_t *numbers, size_t number_count,
+    const duthlan_list *list, const duthlan_list *second, const duthlan_values *arguments, size_t columns,
+    duthlan_limits *limits);
+
+/* ---- What came back ------------------------------------------------------------------------------------------------------- */
+
 /* Says in words what a call returned. */
 static inline const char *duthlan_refusal(uint32_t number);
 
@@ -235,7 +346,7 @@ static inline int duthlan_is_valid(duthlan_bits bits, size_t i);
 
 /* ---- The entries of the archive -------------------------------------------------------------------------------------------
  * Each buffer is a pointer, which must not be NULL, and its length in numbers; the functions above fill these lists of
- * parameters. The counts are written in the order of the structs above. */
+ * parameters. Counts, lengths and limits are written in the order of the structs above. */
 
 /* Runs an operation on one list by its code: 0 to 8 as in a recipe's steps, and 11 for resize without fill. */
 uint32_t duthlan_typed_list(
@@ -303,6 +414,58 @@ uint32_t duthlan_typed_recipe(
     int32_t *out_offsets, size_t out_offset_count, uint8_t *out_rows, size_t out_row_bytes,
     int64_t *out_values, size_t out_value_count, uint8_t *out_elements, size_t out_element_bytes,
     uint64_t *counts, size_t count_places, uint64_t *tally, size_t tally_places);
+
+/* Tells the lengths for duthlan_typed_list, four: offsets, row bytes, values, element bytes. */
+uint32_t duthlan_typed_list_lengths(
+    uint32_t op,
+    const int32_t *offsets, size_t offset_count, const uint8_t *rows, size_t row_bytes, size_t rows_start,
+    const int64_t *values, size_t value_count, const uint8_t *elements, size_t element_bytes, size_t elements_start,
+    const int64_t *first, size_t first_count, const uint8_t *first_bits, size_t first_bytes, size_t first_start,
+    const int64_t *second, size_t second_count, const uint8_t *second_bits, size_t second_bytes, size_t second_start,
+    const int64_t *third, size_t third_count, const uint8_t *third_bits, size_t third_bytes, size_t third_start,
+    uint64_t *lengths, size_t length_places);
+
+/* Tells the same four lengths for duthlan_typed_lists. */
+uint32_t duthlan_typed_lists_lengths(
+    uint32_t op,
+    const int32_t *l_offsets, size_t l_offset_count, const uint8_t *l_rows, size_t l_row_bytes, size_t l_rows_start,
+    const int64_t *l_values, size_t l_value_count, const uint8_t *l_elements, size_t l_element_bytes, size_t l_elements_start,
+    const int32_t *r_offsets, size_t r_offset_count, const uint8_t *r_rows, size_t r_row_bytes, size_t r_rows_start,
+    const int64_t *r_values, size_t r_value_count, const uint8_t *r_elements, size_t r_element_bytes, size_t r_elements_start,
+    uint64_t *lengths, size_t length_places);
+
+/* Tells the lengths for duthlan_typed_any_value, two: values, row bytes. */
+uint32_t duthlan_typed_any_value_lengths(
+    const int32_t *offsets, size_t offset_count, const uint8_t *rows, size_t row_bytes, size_t rows_start,
+    const int64_t *values, size_t value_count, const uint8_t *elements, size_t element_bytes, size_t elements_start,
+    uint64_t *lengths, size_t length_places);
+
+/* Tells the same two lengths for duthlan_typed_element. */
+uint32_t duthlan_typed_element_lengths(
+    const int32_t *offsets, size_t offset_count, const uint8_t *rows, size_t row_bytes, size_t rows_start,
+    const int64_t *values, size_t value_count, const uint8_t *elements, size_t element_bytes, size_t elements_start,
+    const int64_t *indexes, size_t index_count, const uint8_t *index_bits, size_t index_bytes, size_t index_start,
+    uint64_t *lengths, size_t length_places);
+
+/* Tells the lengths for duthlan_typed_list_repeat, six: offsets, row bytes, the inner two, values, element bytes. */
+uint32_t duthlan_typed_list_repeat_lengths(
+    const int32_t *offsets, size_t offset_count, const uint8_t *rows, size_t row_bytes, size_t rows_start,
+    const int64_t *values, size_t value_count, const uint8_t *elements, size_t element_bytes, size_t elements_start,
+    const int64_t *times, size_t times_count, const uint8_t *times_bits, size_t times_bytes, size_t times_start,
+    uint64_t *lengths, size_t length_places);
+
+/* Tells the limits for duthlan_typed_recipe, three: the elements in tray one, tray two and the output. */
+uint32_t duthlan_typed_recipe_limits(
+    const uint32_t *numbers, size_t number_count, size_t columns,
+    const int32_t *offsets, size_t offset_count, const uint8_t *rows, size_t row_bytes, size_t rows_start,
+    const int64_t *values, size_t value_count, const uint8_t *elements, size_t element_bytes, size_t elements_start,
+    const int32_t *second_offsets, size_t second_offset_count,
+    const uint8_t *second_rows, size_t second_row_bytes, size_t second_rows_start,
+    const int64_t *second_values, size_t second_value_count,
+    const uint8_t *second_elements, size_t second_element_bytes, size_t second_elements_start,
+    const int64_t *arguments, size_t argument_count,
+    const uint8_t *argument_bits, size_t argument_bytes, size_t argument_start,
+    uint64_t *limits, size_t limit_places);
 
 /* ---- How the functions above call the entries ----------------------------------------------------------------------------- */
 
@@ -516,6 +679,138 @@ static inline uint32_t duthlan_recipe(
     return duthlan_told_(number, told, counts);
 }
 
+static inline uint32_t duthlan_told_lengths_(uint32_t number, const uint64_t told[4], duthlan_lengths *lengths) {
+    if (number == 0 && lengths) {
+        lengths->offsets = told[0];
+        lengths->row_bytes = told[1];
+        lengths->values = told[2];
+        lengths->element_bytes = told[3];
+    }
+    return number;
+}
+
+static inline uint32_t duthlan_told_value_lengths_(uint32_t number, const uint64_t told[2], duthlan_value_lengths *lengths) {
+    if (number == 0 && lengths) {
+        lengths->values = told[0];
+        lengths->row_bytes = told[1];
+    }
+    return number;
+}
+
+static inline uint32_t duthlan_one_list_lengths_(
+    uint32_t op, const duthlan_list *list,
+    const duthlan_values *first, const duthlan_values *second, const duthlan_values *third, duthlan_lengths *lengths) {
+    const duthlan_values none = {0, 0, {0, 0, 0}};
+    uint64_t told[4] = {0, 0, 0, 0};
+    if (!first) first = &none;
+    if (!second) second = &none;
+    if (!third) third = &none;
+    return duthlan_told_lengths_(
+        duthlan_typed_list_lengths(
+            op, DUTHLAN_LIST_(list), DUTHLAN_VALUES_(first), DUTHLAN_VALUES_(second), DUTHLAN_VALUES_(third), told, 4),
+        told, lengths);
+}
+
+static inline uint32_t duthlan_two_lists_lengths_(
+    uint32_t op, const duthlan_list *left, const duthlan_list *right, duthlan_lengths *lengths) {
+    uint64_t told[4] = {0, 0, 0, 0};
+    return duthlan_told_lengths_(
+        duthlan_typed_lists_lengths(op, DUTHLAN_LIST_(left), DUTHLAN_LIST_(right), told, 4), told, lengths);
+}
+
+static inline uint32_t duthlan_reverse_lengths(const duthlan_list *list, duthlan_lengths *lengths) {
+    return duthlan_one_list_lengths_(0, list, 0, 0, 0, lengths);
+}
+
+static inline uint32_t duthlan_distinct_lengths(const duthlan_list *list, duthlan_lengths *lengths) {
+    return duthlan_one_list_lengths_(1, list, 0, 0, 0, lengths);
+}
+
+static inline uint32_t duthlan_pop_front_lengths(const duthlan_list *list, duthlan_lengths *lengths) {
+    return duthlan_one_list_lengths_(2, list, 0, 0, 0, lengths);
+}
+
+static inline uint32_t duthlan_pop_back_lengths(const duthlan_list *list, duthlan_lengths *lengths) {
+    return duthlan_one_list_lengths_(3, list, 0, 0, 0, lengths);
+}
+
+static inline uint32_t duthlan_slice_lengths(
+    const duthlan_list *list, const duthlan_values *from, const duthlan_values *to, const duthlan_values *stride,
+    duthlan_lengths *lengths) {
+    return duthlan_one_list_lengths_(stride ? 4 : 5, list, from, to, stride, lengths);
+}
+
+static inline uint32_t duthlan_resize_lengths(
+    const duthlan_list *list, const duthlan_values *count, const duthlan_values *fill, duthlan_lengths *lengths) {
+    return duthlan_one_list_lengths_(fill ? 6 : 11, list, count, fill, 0, lengths);
+}
+
+static inline uint32_t duthlan_replace_lengths(
+    const duthlan_list *list, const duthlan_values *from, const duthlan_values *to, const duthlan_values *limit,
+    duthlan_lengths *lengths) {
+    return duthlan_one_list_lengths_(7, list, from, to, limit, lengths);
+}
+
+static inline uint32_t duthlan_remove_lengths(
+    const duthlan_list *list, const duthlan_values *element, const duthlan_values *limit, duthlan_lengths *lengths) {
+    return duthlan_one_list_lengths_(8, list, element, limit, 0, lengths);
+}
+
+static inline uint32_t duthlan_union_lengths(const duthlan_list *left, const duthlan_list *right, duthlan_lengths *lengths) {
+    return duthlan_two_lists_lengths_(9, left, right, lengths);
+}
+
+static inline uint32_t duthlan_intersect_lengths(const duthlan_list *left, const duthlan_list *right, duthlan_lengths *lengths) {
+    return duthlan_two_lists_lengths_(10, left, right, lengths);
+}
+
+static inline uint32_t duthlan_any_value_lengths(const duthlan_list *list, duthlan_value_lengths *lengths) {
+    uint64_t told[2] = {0, 0};
+    return duthlan_told_value_lengths_(duthlan_typed_any_value_lengths(DUTHLAN_LIST_(list), told, 2), told, lengths);
+}
+
+static inline uint32_t duthlan_element_lengths(
+    const duthlan_list *list, const duthlan_values *index, duthlan_value_lengths *lengths) {
+    uint64_t told[2] = {0, 0};
+    return duthlan_told_value_lengths_(
+        duthlan_typed_element_lengths(DUTHLAN_LIST_(list), DUTHLAN_VALUES_(index), told, 2), told, lengths);
+}
+
+static inline uint32_t duthlan_list_repeat_lengths(
+    const duthlan_list *list, const duthlan_values *times, duthlan_repeat_lengths *lengths) {
+    uint64_t told[6] = {0, 0, 0, 0, 0, 0};
+    uint32_t number = duthlan_typed_list_repeat_lengths(DUTHLAN_LIST_(list), DUTHLAN_VALUES_(times), told, 6);
+    if (number == 0 && lengths) {
+        lengths->offsets = told[0];
+        lengths->row_bytes = told[1];
+        lengths->inner_offsets = told[2];
+        lengths->inner_row_bytes = told[3];
+        lengths->values = told[4];
+        lengths->element_bytes = told[5];
+    }
+    return number;
+}
+
+static inline uint32_t duthlan_recipe_limits(
+    const uint32_t *numbers, size_t number_count,
+    const duthlan_list *list, const duthlan_list *second, const duthlan_values *arguments, size_t columns,
+    duthlan_limits *limits) {
+    const duthlan_values none = {0, 0, {0, 0, 0}};
+    uint64_t told[3] = {0, 0, 0};
+    uint32_t number;
+    if (!second) second = list;
+    if (!arguments) arguments = &none;
+    number = duthlan_typed_recipe_limits(
+        DUTHLAN_INPUT_(u32, numbers, number_count), columns,
+        DUTHLAN_LIST_(list), DUTHLAN_LIST_(second), DUTHLAN_VALUES_(arguments), told, 3);
+    if (number == 0 && limits) {
+        limits->one = told[0];
+        limits->two = told[1];
+        limits->output = told[2];
+    }
+    return number;
+}
+
 #undef DUTHLAN_INPUT_
 #undef DUTHLAN_OUTPUT_
 #undef DUTHLAN_BITS_
@@ -539,7 +834,7 @@ static inline const char *duthlan_refusal(uint32_t number) {
     case DUTHLAN_MALFORMED_RECIPE: return "a malformed recipe";
     case DUTHLAN_BAD_STARTING_BIT: return "a starting bit over 7";
     case DUTHLAN_NO_SUCH_STATION: return "a station over 15";
-    case DUTHLAN_BAD_CALL: return "an unknown code, or too few places for the counts or the tally";
+    case DUTHLAN_BAD_CALL: return "an unknown code, or too few places for what is told";
     default: return "a number that has no name here";
     }
 }

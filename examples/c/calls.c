@@ -110,6 +110,17 @@ static const duthlan_values null_one = {ones, 4, {bits_1, 1, 1}};
 static const duthlan_values null_two = {twos, 4, {bits_4, 1, 4}};
 static const duthlan_values null_last = {lasts, 4, {bits_6, 2, 6}};
 
+/* Columns of four rows that are refused: by 1, by 2 and by 13. */
+static const int32_t falling[] = {0, 2, 1, 1, 1};
+static const uint8_t one_byte[] = {255};
+static const duthlan_list bad_offsets = {falling, 5, {0, 0, 0}, in_values, 8, {0, 0, 0}};
+static const duthlan_list short_bitmap = {in_offsets, 5, {one_byte, 1, 5}, in_values, 8, {0, 0, 0}};
+static const duthlan_list bad_start = {in_offsets, 5, {0, 0, 8}, in_values, 8, {0, 0, 0}};
+
+/* Argument columns of four values that some operations refuse. */
+static const int64_t zeros[] = {0, 0, 0, 0}, wide[] = {2147483648, 1, 1, 1}, many[] = {2147483647, 1, 1, 1};
+static const duthlan_values plain_zero = {zeros, 4, {0, 0, 0}}, wides = {wide, 4, {0, 0, 0}}, manys = {many, 4, {0, 0, 0}};
+
 static void operations(void) {
     static const int64_t five[] = {5, 5, 5, 5};
     static const int64_t three[] = {3, 3, 3, 3};
@@ -148,14 +159,7 @@ static void operations(void) {
 
 /* Each refusal, and that outputs and counts keep their content. */
 static void refusals(void) {
-    static const int32_t falling[] = {0, 2, 1};
-    static const int64_t two[] = {1, 2}, wide[] = {2147483648, 1, 1, 1}, many[] = {2147483647, 1, 1, 1}, zeros[] = {0, 0, 0, 0};
-    static const uint8_t byte[] = {255};
-    const duthlan_list bad_offsets = {falling, 3, {0, 0, 0}, two, 2, {0, 0, 0}};
-    const duthlan_list short_bitmap = {in_offsets, 5, {byte, 1, 5}, in_values, 8, {0, 0, 0}};
-    const duthlan_list bad_start = {in_offsets, 5, {0, 0, 8}, in_values, 8, {0, 0, 0}};
-    const duthlan_values pair = {two, 2, {0, 0, 0}}, zero = {zeros, 4, {0, 0, 0}};
-    const duthlan_values wides = {wide, 4, {0, 0, 0}}, manys = {many, 4, {0, 0, 0}};
+    const duthlan_values pair = {ones, 2, {0, 0, 0}};
     const duthlan_out one_short = {offsets, ROOM, rows, ROOM, values, 5, elements, ROOM};
     memset(offsets, 85, sizeof offsets);
     memset(rows, 85, sizeof rows);
@@ -166,7 +170,7 @@ static void refusals(void) {
     check("2", duthlan_reverse(&short_bitmap, &out, &counts) == DUTHLAN_SHORT_BITMAP);
     check("3", duthlan_remove(&list, &pair, &plain_one, &out, &counts) == DUTHLAN_ROW_COUNTS_DIFFER);
     check("4", duthlan_slice(&list, &wides, &plain_one, 0, &out, &counts) == DUTHLAN_WIDE_INDEX);
-    check("5", duthlan_slice(&list, &plain_one, &plain_one, &zero, &out, &counts) == DUTHLAN_ZERO_STRIDE);
+    check("5", duthlan_slice(&list, &plain_one, &plain_one, &plain_zero, &out, &counts) == DUTHLAN_ZERO_STRIDE);
     check("6", duthlan_slice(&list, &plain_one, &plain_one, &wides, &out, &counts) == DUTHLAN_WIDE_STRIDE);
     check("7", duthlan_resize(&list, &plain_last, 0, &out, &counts) == DUTHLAN_NEGATIVE_COUNT);
     check("8", duthlan_resize(&list, &manys, 0, &out, &counts) == DUTHLAN_TOO_MANY);
@@ -204,6 +208,262 @@ static void lengths(void) {
     }
 }
 
+/* ---- How much to lend ----------------------------------------------------------------------------------------------------- */
+
+/* What the operations are lent to try them: a list, its right side, and three argument columns. */
+typedef struct lent {
+    const duthlan_list *list, *right;
+    const duthlan_values *a, *b, *c;
+} lent;
+
+enum { LIST_OPERATIONS = 12 };
+
+static uint32_t ask(int operation, const lent *in, duthlan_lengths *need) {
+    switch (operation) {
+    case 0: return duthlan_reverse_lengths(in->list, need);
+    case 1: return duthlan_distinct_lengths(in->list, need);
+    case 2: return duthlan_pop_front_lengths(in->list, need);
+    case 3: return duthlan_pop_back_lengths(in->list, need);
+    case 4: return duthlan_slice_lengths(in->list, in->a, in->b, in->c, need);
+    case 5: return duthlan_slice_lengths(in->list, in->a, in->b, 0, need);
+    case 6: return duthlan_resize_lengths(in->list, in->a, in->b, need);
+    case 7: return duthlan_resize_lengths(in->list, in->a, 0, need);
+    case 8: return duthlan_replace_lengths(in->list, in->a, in->b, in->c, need);
+    case 9: return duthlan_remove_lengths(in->list, in->a, in->c, need);
+    case 10: return duthlan_union_lengths(in->list, in->right, need);
+    default: return duthlan_intersect_lengths(in->list, in->right, need);
+    }
+}
+
+static uint32_t run(int operation, const lent *in, const duthlan_out *to, duthlan_counts *told) {
+    switch (operation) {
+    case 0: return duthlan_reverse(in->list, to, told);
+    case 1: return duthlan_distinct(in->list, to, told);
+    case 2: return duthlan_pop_front(in->list, to, told);
+    case 3: return duthlan_pop_back(in->list, to, told);
+    case 4: return duthlan_slice(in->list, in->a, in->b, in->c, to, told);
+    case 5: return duthlan_slice(in->list, in->a, in->b, 0, to, told);
+    case 6: return duthlan_resize(in->list, in->a, in->b, to, told);
+    case 7: return duthlan_resize(in->list, in->a, 0, to, told);
+    case 8: return duthlan_replace(in->list, in->a, in->b, in->c, to, told);
+    case 9: return duthlan_remove(in->list, in->a, in->c, to, told);
+    case 10: return duthlan_union(in->list, in->right, to, told);
+    default: return duthlan_intersect(in->list, in->right, to, told);
+    }
+}
+
+/* A length that a call is lent: just enough, or one less. */
+static size_t lend(uint64_t need, int one_less) { return (size_t)(one_less ? need - 1 : need); }
+
+/* Whether all these numbers still are what memset with 85 made of them. */
+static int kept(const void *told, size_t bytes) {
+    const uint8_t *byte = (const uint8_t *)told;
+    while (bytes > 0 && byte[bytes - 1] == 85) bytes--;
+    return bytes == 0;
+}
+
+static uint32_t numbers_seen; /* A bit for each number that a question returned. */
+
+/* Asks each list operation, lends just as much, and one less in each buffer in turn; a refusal is the operation's own. */
+static void asked_lists(const lent *in) {
+    int operation, less;
+    for (operation = 0; operation < LIST_OPERATIONS; operation++) {
+        duthlan_lengths need;
+        const uint32_t wanted = run(operation, in, &out, &counts);
+        uint32_t number;
+        memset(&need, 85, sizeof need);
+        number = ask(operation, in, &need);
+        numbers_seen |= 1u << (number & 31);
+        check("asked, no lengths wanted", ask(operation, in, 0) == number);
+        if (number != DUTHLAN_ACCEPTED) {
+            check("asked, a refusal", number == wanted && number != DUTHLAN_SHORT_OUTPUT && kept(&need, sizeof need));
+            continue;
+        }
+        check("asked, lengths", wanted == DUTHLAN_ACCEPTED && need.offsets == counts.rows + 1 && need.values == counts.elements &&
+                                    need.row_bytes == DUTHLAN_BITMAP_BYTES(counts.rows) &&
+                                    need.element_bytes == DUTHLAN_BITMAP_BYTES(counts.elements));
+        for (less = -1; less < 4; less++) {
+            const uint64_t length = less == 0 ? need.offsets : less == 1 ? need.row_bytes : less == 2 ? need.values : need.element_bytes;
+            const int shorter = less >= 0 && length > 0;
+            const duthlan_out tight = {offsets, lend(need.offsets, less == 0), rows, lend(need.row_bytes, shorter && less == 1),
+                                       values, lend(need.values, shorter && less == 2), elements, lend(need.element_bytes, shorter && less == 3)};
+            check("asked and lent", run(operation, in, &tight, 0) == (shorter ? DUTHLAN_SHORT_OUTPUT : DUTHLAN_ACCEPTED));
+        }
+    }
+}
+
+/* The same of any-value (0) and element (1). */
+static void asked_values(const lent *in) {
+    int operation, less;
+    for (operation = 0; operation < 2; operation++) {
+        duthlan_value_lengths need;
+        const uint32_t wanted = operation ? duthlan_element(in->list, in->a, &value_out, &value_counts)
+                                          : duthlan_any_value(in->list, &value_out, &value_counts);
+        uint32_t number;
+        memset(&need, 85, sizeof need);
+        number = operation ? duthlan_element_lengths(in->list, in->a, &need) : duthlan_any_value_lengths(in->list, &need);
+        check("asked, no value lengths wanted",
+              (operation ? duthlan_element_lengths(in->list, in->a, 0) : duthlan_any_value_lengths(in->list, 0)) == number);
+        if (number != DUTHLAN_ACCEPTED) {
+            check("asked for values, a refusal", number == wanted && number != DUTHLAN_SHORT_OUTPUT && kept(&need, sizeof need));
+            continue;
+        }
+        check("asked, value lengths", wanted == DUTHLAN_ACCEPTED && need.values == value_counts.rows &&
+                                          need.row_bytes == DUTHLAN_BITMAP_BYTES(value_counts.rows));
+        for (less = -1; less < 2; less++) {
+            const int shorter = less >= 0 && need.values > 0;
+            const duthlan_value_out tight = {values, lend(need.values, shorter && less == 0), rows, lend(need.row_bytes, shorter && less == 1)};
+            check("asked and lent values", (operation ? duthlan_element(in->list, in->a, &tight, 0) : duthlan_any_value(in->list, &tight, 0)) ==
+                                               (shorter ? DUTHLAN_SHORT_OUTPUT : DUTHLAN_ACCEPTED));
+        }
+    }
+}
+
+/* The same of list-repeat. */
+static void asked_repeat(const lent *in) {
+    duthlan_repeat_counts told = {0, 0, 0, 0, 0, 0};
+    duthlan_repeat_lengths need;
+    const uint32_t wanted = duthlan_list_repeat(in->list, in->a, &repeat_out, &told);
+    uint32_t number;
+    int less;
+    memset(&need, 85, sizeof need);
+    number = duthlan_list_repeat_lengths(in->list, in->a, &need);
+    check("asked, no repeat lengths wanted", duthlan_list_repeat_lengths(in->list, in->a, 0) == number);
+    if (number != DUTHLAN_ACCEPTED) {
+        check("asked for list repeat, a refusal", number == wanted && number != DUTHLAN_SHORT_OUTPUT && kept(&need, sizeof need));
+        return;
+    }
+    check("asked, repeat lengths", wanted == DUTHLAN_ACCEPTED && need.offsets == told.rows + 1 && need.inner_offsets == told.inner_rows + 1 &&
+                                       need.row_bytes == DUTHLAN_BITMAP_BYTES(told.rows) && need.values == told.elements &&
+                                       need.inner_row_bytes == DUTHLAN_BITMAP_BYTES(told.inner_rows) &&
+                                       need.element_bytes == DUTHLAN_BITMAP_BYTES(told.elements));
+    for (less = -1; less < 6; less++) {
+        const uint64_t lengths_of[] = {need.offsets, need.row_bytes, need.inner_offsets, need.inner_row_bytes, need.values, need.element_bytes};
+        const int shorter = less >= 0 && lengths_of[less] > 0;
+        const duthlan_repeat_out tight = {offsets, lend(need.offsets, less == 0), rows, lend(need.row_bytes, shorter && less == 1),
+                                          inner_offsets, lend(need.inner_offsets, less == 2),
+                                          inner_rows, lend(need.inner_row_bytes, shorter && less == 3),
+                                          values, lend(need.values, shorter && less == 4),
+                                          elements, lend(need.element_bytes, shorter && less == 5)};
+        check("asked and lent for list repeat",
+              duthlan_list_repeat(in->list, in->a, &tight, 0) == (shorter ? DUTHLAN_SHORT_OUTPUT : DUTHLAN_ACCEPTED));
+    }
+}
+
+static void asking(void) {
+    static const int32_t one_row[] = {0, 2};
+    static const int64_t most[] = {2147483647, 0, 0, 0};
+    const duthlan_list one = {one_row, 2, {0, 0, 0}, in_values, 2, {0, 0, 0}}, no_rows = {0, 0, {0, 0, 0}, 0, 0, {0, 0, 0}};
+    const duthlan_values mosts = {most, 4, {0, 0, 0}}, late = {ones, 4, {0, 0, 8}}, none = {0, 0, {0, 0, 0}};
+    const lent tried[] = {
+        {&list, &other, &plain_one, &plain_last, &plain_one}, {&shifted, &other, &null_two, &null_last, &null_one},
+        {&other, &shifted, &plain_one, &null_two, &plain_one}, {&no_rows, &no_rows, &none, &none, &none},
+        {&one, &one, &none, &none, &none}, {&list, &one, &plain_one, &plain_one, &none},
+        {&list, &list, &wides, &plain_one, &plain_one}, {&list, &list, &plain_one, &plain_one, &plain_zero},
+        {&list, &list, &plain_one, &plain_one, &wides}, {&list, &list, &plain_last, &plain_last, &plain_one},
+        {&list, &list, &manys, &plain_one, &plain_one}, {&list, &list, &late, &late, &late},
+        {&bad_offsets, &list, &plain_one, &plain_one, &plain_one}, {&list, &bad_offsets, &plain_one, &plain_one, &plain_one},
+        {&short_bitmap, &list, &plain_one, &plain_one, &plain_one}, {&list, &short_bitmap, &plain_one, &plain_one, &plain_one},
+        {&bad_start, &list, &plain_one, &plain_one, &plain_one}, {&list, &bad_start, &plain_one, &plain_one, &plain_one}};
+    duthlan_lengths need = {0, 0, 0, 0};
+    duthlan_value_lengths value_need = {0, 0};
+    duthlan_repeat_lengths repeat_need = {0, 0, 0, 0, 0, 0};
+    size_t i;
+    for (i = 0; i < sizeof tried / sizeof *tried; i++) {
+        asked_lists(&tried[i]);
+        asked_values(&tried[i]);
+        asked_repeat(&tried[i]);
+    }
+    check("asked, every number", numbers_seen == (1u << 0 | 0x1feu | 1u << 13));
+    memset(offsets, 85, sizeof offsets);
+    memset(values, 85, sizeof values);
+    check("reverse's lengths", duthlan_reverse_lengths(&shifted, &need) == DUTHLAN_ACCEPTED && need.offsets == 5 && need.row_bytes == 1 &&
+                                   need.values == 6 && need.element_bytes == 1);
+    check("union's lengths", duthlan_union_lengths(&shifted, &other, &need) == DUTHLAN_ACCEPTED && need.values == 7);
+    check("element's lengths", duthlan_element_lengths(&list, &null_last, &value_need) == DUTHLAN_ACCEPTED &&
+                                   value_need.values == 4 && value_need.row_bytes == 1);
+    check("list repeat's lengths", duthlan_list_repeat_lengths(&list, &null_two, &repeat_need) == DUTHLAN_ACCEPTED &&
+                                       repeat_need.offsets == 5 && repeat_need.row_bytes == 1 && repeat_need.inner_offsets == 7 &&
+                                       repeat_need.inner_row_bytes == 1 && repeat_need.values == 12 && repeat_need.element_bytes == 2);
+    check("asked, the most elements", duthlan_resize_lengths(&list, &mosts, 0, &need) == DUTHLAN_ACCEPTED && need.values == 2147483647 &&
+                                          need.element_bytes == 268435456 &&
+                                          duthlan_resize(&list, &mosts, 0, &out, 0) == DUTHLAN_SHORT_OUTPUT);
+    check("asked, nothing written", kept(offsets, sizeof offsets) && kept(values, sizeof values));
+}
+
+/* Recipes that are lent just their limits. */
+static void asked_recipes(void) {
+    enum { MOST = 64 };
+    static const uint32_t steps[][4] = {
+        {DUTHLAN_STEP_REVERSE}, {DUTHLAN_STEP_DISTINCT}, {DUTHLAN_STEP_POP_FRONT}, {DUTHLAN_STEP_POP_BACK},
+        {DUTHLAN_STEP_SLICE(0, 2, 0)}, {DUTHLAN_STEP_SLICE_WITHOUT_STRIDE(0, 2)}, {DUTHLAN_STEP_RESIZE(1, 0)},
+        {DUTHLAN_STEP_REPLACE(0, 1, 0)}, {DUTHLAN_STEP_REMOVE(1, 0)}, {DUTHLAN_STEP_UNION}, {DUTHLAN_STEP_INTERSECT}};
+    static const int64_t columns[] = {1, 1, 1, 1, 4, 9, 5, 2, -1, -1, -1, -1};
+    static const int64_t three_counts[] = {3, 4, -1}, most[] = {2147483647, 0, 2147483647, 0};
+    static const int32_t three_rows[] = {0, 2, 3, 3}; /* the second is null */
+    static int32_t tray_offsets[2][5];
+    static uint8_t tray_rows[2][1], tray_elements[2][MOST / 8], last_elements[MOST / 8];
+    static int64_t tray_values[2][MOST], last_values[MOST];
+    const duthlan_list three = {three_rows, 4, {row_bits, 1, 0}, in_values, 3, {0, 0, 0}};
+    const duthlan_values arguments = {columns, 12, {0, 0, 0}}, threes = {three_counts, 3, {0, 0, 0}}, mosts = {most, 4, {0, 0, 0}};
+    static const uint32_t resize[] = {DUTHLAN_STEP_RESIZE(0, 0)}, slice[] = {DUTHLAN_STEP_SLICE_WITHOUT_STRIDE(0, 0)};
+    static const uint32_t unions[] = {DUTHLAN_STEP_UNION, DUTHLAN_STEP_UNION, DUTHLAN_STEP_UNION, DUTHLAN_STEP_DISTINCT};
+    const struct {
+        uint32_t number;
+        const duthlan_list *first, *second;
+        size_t number_count, column_count;
+    } refused[] = {{DUTHLAN_MALFORMED_RECIPE, &bad_start, &bad_start, 3, 3}, {DUTHLAN_BAD_STARTING_BIT, &bad_start, &bad_offsets, 4, 3},
+                   {DUTHLAN_BAD_STARTING_BIT, &bad_offsets, &bad_start, 4, 3}, {DUTHLAN_BAD_OFFSETS, &bad_offsets, &list, 4, 3},
+                   {DUTHLAN_BAD_OFFSETS, &list, &bad_offsets, 4, 3}, {DUTHLAN_SHORT_BITMAP, &short_bitmap, &list, 4, 3},
+                   {DUTHLAN_SHORT_BITMAP, &list, &short_bitmap, 4, 3}, {DUTHLAN_ROW_COUNTS_DIFFER, &list, &three, 4, 3},
+                   {DUTHLAN_ROW_COUNTS_DIFFER, &list, &list, 4, 2}};
+    duthlan_limits limit = {9, 9, 9};
+    size_t count, code, i;
+    int is_right = 1;
+    for (count = 0, code = 1; count < 4; count++, code *= 11) {
+        size_t recipe;
+        for (recipe = 0; recipe < code; recipe++) {
+            uint32_t numbers[12];
+            size_t left = recipe;
+            for (i = 0; i < count; i++, left /= 11) memcpy(numbers + 4 * i, steps[left % 11], sizeof steps[0]);
+            is_right &= duthlan_recipe_limits(numbers, 4 * count, &shifted, &other, &arguments, 3, &limit) == DUTHLAN_ACCEPTED;
+            is_right &= limit.one <= MOST && limit.two <= MOST && limit.output <= MOST;
+            if (is_right) {
+                const duthlan_out one = {tray_offsets[0], 5, tray_rows[0], 1, tray_values[0], (size_t)limit.one,
+                                         tray_elements[0], (size_t)DUTHLAN_BITMAP_BYTES(limit.one)};
+                const duthlan_out two = {tray_offsets[1], 5, tray_rows[1], 1, tray_values[1], (size_t)limit.two,
+                                         tray_elements[1], (size_t)DUTHLAN_BITMAP_BYTES(limit.two)};
+                const duthlan_out last = {offsets, 5, rows, 1, last_values, (size_t)limit.output,
+                                          last_elements, (size_t)DUTHLAN_BITMAP_BYTES(limit.output)};
+                is_right &= duthlan_recipe(0, numbers, 4 * count, &shifted, &other, &arguments, 3, count > 1 ? &one : 0,
+                                           count > 2 ? &two : 0, &last, 0, 0) == DUTHLAN_ACCEPTED;
+            }
+        }
+    }
+    check("recipes lent their limits", is_right);
+    check("limits of no steps", duthlan_recipe_limits(0, 0, &shifted, 0, 0, 0, &limit) == DUTHLAN_ACCEPTED && limit.one == 0 &&
+                                    limit.two == 0 && limit.output == 6);
+    check("limits of resize", duthlan_recipe_limits(resize, 4, &three, 0, &threes, 1, &limit) == DUTHLAN_ACCEPTED && limit.one == 0 &&
+                                  limit.two == 0 && limit.output == 3);
+    check("limits of unions", duthlan_recipe_limits(unions, 16, &shifted, &list, 0, 0, &limit) == DUTHLAN_ACCEPTED && limit.one == 24 &&
+                                  limit.two == 18 && limit.output == 24);
+    check("a limit stops", duthlan_recipe_limits(resize, 4, &shifted, 0, &mosts, 1, &limit) == DUTHLAN_ACCEPTED && limit.output == 2147483647 &&
+                               duthlan_recipe(0, resize, 4, &shifted, 0, &mosts, 1, 0, 0, &out, 0, 0) == DUTHLAN_TOO_MANY);
+    check("limits, a bad row", duthlan_recipe_limits(slice, 4, &shifted, 0, &wides, 1, &limit) == DUTHLAN_ACCEPTED && limit.output == 6 &&
+                                   duthlan_recipe(0, slice, 4, &shifted, 0, &wides, 1, 0, 0, &out, 0, 0) == DUTHLAN_WIDE_INDEX);
+    for (i = 0; i < sizeof refused / sizeof *refused; i++) {
+        const uint32_t number = duthlan_recipe(0, steps[0], refused[i].number_count, refused[i].first, refused[i].second,
+                                               &arguments, refused[i].column_count, 0, 0, &out, 0, 0);
+        memset(&limit, 85, sizeof limit);
+        check("limits, a refusal", number == refused[i].number && kept(&limit, sizeof limit) &&
+                                       duthlan_recipe_limits(steps[0], refused[i].number_count, refused[i].first, refused[i].second,
+                                                             &arguments, refused[i].column_count, &limit) == number &&
+                                       kept(&limit, sizeof limit));
+        check("limits that are not wanted", duthlan_recipe_limits(steps[0], refused[i].number_count, refused[i].first, refused[i].second,
+                                                                  &arguments, refused[i].column_count, 0) == number);
+    }
+}
+
 static void sentences(void) {
     static const uint32_t named[] = {0, 1, 2, 3, 4, 5, 6, 7, 8, 9, 10, 13, 15, 100};
     const char *unnamed = duthlan_refusal(99);
@@ -214,7 +474,7 @@ static void sentences(void) {
     check("the sentence of 5", strcmp(duthlan_refusal(5), "a stride of 0 where both bounds fall in the row") == 0);
 }
 
-/* What only a raw entry can say: 100, for a code that it does not serve or too few places for counts or tally. */
+/* What only a raw entry can say: 100, for a code that it does not serve or too few places for what it tells. */
 static void raw(void) {
     uint64_t told[4] = {5, 5, 5, 5}, tally[32] = {0};
     const int32_t zero = 0;
@@ -237,6 +497,42 @@ static void raw(void) {
     check("100, a tally", recipe == DUTHLAN_BAD_CALL && told[0] == 5 && tally[0] == 0 && tally[16] == 0);
 }
 
+/* The same of the entries that tell lengths; whatever is refused keeps them. */
+static void raw_lengths(void) {
+#define NO_ROWS(offset) &offset, 1, &bits, 0, 0, &none, 0, &bits, 0, 0
+#define NO_VALUES &none, 0, &bits, 0, 0
+    static const uint32_t reverse[] = {DUTHLAN_STEP_REVERSE};
+    uint64_t told[7];
+    const int32_t zero = 0, below = -1;
+    const int64_t none = 0;
+    const uint8_t bits = 0;
+    memset(told, 85, sizeof told);
+    check("100, a code for lengths", duthlan_typed_list_lengths(9, NO_ROWS(zero), NO_VALUES, NO_VALUES, NO_VALUES, told, 7) == DUTHLAN_BAD_CALL &&
+                                         duthlan_typed_lists_lengths(0, NO_ROWS(zero), NO_ROWS(zero), told, 7) == DUTHLAN_BAD_CALL);
+    check("100, lengths", duthlan_typed_list_lengths(0, NO_ROWS(zero), NO_VALUES, NO_VALUES, NO_VALUES, told, 3) == DUTHLAN_BAD_CALL &&
+                              duthlan_typed_lists_lengths(9, NO_ROWS(zero), NO_ROWS(zero), told, 3) == DUTHLAN_BAD_CALL &&
+                              duthlan_typed_any_value_lengths(NO_ROWS(zero), told, 1) == DUTHLAN_BAD_CALL &&
+                              duthlan_typed_element_lengths(NO_ROWS(zero), NO_VALUES, told, 1) == DUTHLAN_BAD_CALL &&
+                              duthlan_typed_list_repeat_lengths(NO_ROWS(zero), NO_VALUES, told, 5) == DUTHLAN_BAD_CALL &&
+                              duthlan_typed_recipe_limits(reverse, 4, 0, NO_ROWS(zero), NO_ROWS(zero), NO_VALUES, told, 2) == DUTHLAN_BAD_CALL);
+    check("1, lengths", duthlan_typed_list_lengths(0, NO_ROWS(below), NO_VALUES, NO_VALUES, NO_VALUES, told, 7) == DUTHLAN_BAD_OFFSETS &&
+                            duthlan_typed_lists_lengths(9, NO_ROWS(zero), NO_ROWS(below), told, 7) == DUTHLAN_BAD_OFFSETS &&
+                            duthlan_typed_any_value_lengths(NO_ROWS(below), told, 7) == DUTHLAN_BAD_OFFSETS &&
+                            duthlan_typed_element_lengths(NO_ROWS(below), NO_VALUES, told, 7) == DUTHLAN_BAD_OFFSETS &&
+                            duthlan_typed_list_repeat_lengths(NO_ROWS(below), NO_VALUES, told, 7) == DUTHLAN_BAD_OFFSETS &&
+                            duthlan_typed_recipe_limits(reverse, 4, 0, NO_ROWS(zero), NO_ROWS(below), NO_VALUES, told, 7) == DUTHLAN_BAD_OFFSETS);
+    check("kept lengths", kept(told, sizeof told));
+    check("past the lengths", duthlan_typed_any_value_lengths(NO_ROWS(zero), told, 7) == DUTHLAN_ACCEPTED && kept(told + 2, 5 * sizeof *told) &&
+                                  duthlan_typed_recipe_limits(reverse, 4, 0, NO_ROWS(zero), NO_ROWS(zero), NO_VALUES, told, 7) == DUTHLAN_ACCEPTED &&
+                                  kept(told + 3, 4 * sizeof *told) &&
+                                  duthlan_typed_list_lengths(0, NO_ROWS(zero), NO_VALUES, NO_VALUES, NO_VALUES, told, 7) == DUTHLAN_ACCEPTED &&
+                                  kept(told + 4, 3 * sizeof *told) &&
+                                  duthlan_typed_list_repeat_lengths(NO_ROWS(zero), NO_VALUES, told, 7) == DUTHLAN_ACCEPTED &&
+                                  kept(told + 6, sizeof *told) && told[0] == 1 && told[2] == 1 && told[5] == 0);
+#undef NO_ROWS
+#undef NO_VALUES
+}
+
 /* Pointers of NULL beside lengths of 0, and counts that are not wanted. */
 static void nothing(void) {
     const duthlan_list no_rows = {0, 0, {0, 0, 0}, 0, 0, {0, 0, 0}};
@@ -245,6 +541,10 @@ static void nothing(void) {
     const duthlan_out one_slot = {offsets, 1, 0, 0, 0, 0, 0, 0};
     const duthlan_value_out no_value_room = {0, 0, 0, 0};
     const duthlan_repeat_out two_slots = {offsets, 1, 0, 0, inner_offsets, 1, 0, 0, 0, 0, 0, 0};
+    duthlan_lengths need = {9, 9, 9, 9};
+    duthlan_value_lengths value_need = {9, 9};
+    duthlan_repeat_lengths repeat_need = {9, 9, 9, 9, 9, 9};
+    duthlan_limits limit = {9, 9, 9};
     check("a pointer for NULL", duthlan_in_u8(0, 0) && duthlan_in_u32(0, 0) && duthlan_in_i32(0, 0) && duthlan_in_i64(0, 0) &&
                                     duthlan_out_u8(0, 0) && duthlan_out_i32(0, 0) && duthlan_out_i64(0, 0));
     offsets[0] = 9;
@@ -256,6 +556,15 @@ static void nothing(void) {
     check("no rows, element", duthlan_element(&no_rows, &no_values, &no_value_room, 0) == DUTHLAN_ACCEPTED);
     check("no rows, list repeat", duthlan_list_repeat(&no_rows, &no_values, &two_slots, 0) == DUTHLAN_ACCEPTED);
     check("no rows, recipe", duthlan_recipe(0, 0, 0, &no_rows, 0, 0, 0, 0, 0, &one_slot, 0, 0) == DUTHLAN_ACCEPTED);
+    check("no rows, lengths", duthlan_slice_lengths(&no_rows, &no_values, &no_values, &no_values, &need) == DUTHLAN_ACCEPTED &&
+                                  need.offsets == 1 && need.row_bytes == 0 && need.values == 0 && need.element_bytes == 0);
+    check("no rows, lengths of two lists", duthlan_intersect_lengths(&no_rows, &no_rows, &need) == DUTHLAN_ACCEPTED && need.offsets == 1);
+    check("no rows, lengths of values", duthlan_any_value_lengths(&no_rows, &value_need) == DUTHLAN_ACCEPTED && value_need.values == 0 &&
+                                            duthlan_element_lengths(&no_rows, &no_values, &value_need) == DUTHLAN_ACCEPTED &&
+                                            value_need.row_bytes == 0);
+    check("no rows, lengths of list repeat", duthlan_list_repeat_lengths(&no_rows, &no_values, &repeat_need) == DUTHLAN_ACCEPTED &&
+                                                 repeat_need.offsets == 1 && repeat_need.inner_offsets == 1 && repeat_need.values == 0);
+    check("no rows, limits", duthlan_recipe_limits(0, 0, &no_rows, 0, 0, 0, &limit) == DUTHLAN_ACCEPTED && limit.output == 0);
 }
 
 static void recipes(void) {
@@ -307,8 +616,11 @@ int main(void) {
     nothing();
     recipes();
     lengths();
+    asking();
+    asked_recipes();
     sentences();
     raw();
+    raw_lengths();
     printf("%d passed, %d failed\n", passed, failed);
     return failed != 0;
 }

@@ -31,7 +31,10 @@
 //!   length and content. What cannot be used gets a [`Refusal`], and a refused call changes no output.
 //! - A result goes into a [`ListOut`], [`ValueOut`] or [`RepeatOut`]: mutable slices, which can overlap no
 //!   other slice of the call. `written` reads it back, and gives a column to lend on.
-//! - A [`Recipe`] chains list operations through two trays; [`run_recipe`] runs it.
+//! - How long those slices must be can be asked first: [`reverse_lengths`] for [`reverse`], and so for
+//!   every operation. Slices of the lengths told are never refused by 9.
+//! - A [`Recipe`] chains list operations through two trays; [`run_recipe`] runs it, and
+//!   [`recipe_limits`] tells how many elements the trays and the output must hold.
 //! - With the feature `std`, which is on by default, [`owned`] has columns in vectors, built from rows
 //!   and read back as rows. Without it the crate is `no_std` and has no heap.
 //!
@@ -46,6 +49,7 @@
 extern crate std;
 
 mod columns;
+mod lengths;
 mod operations;
 mod outputs;
 #[cfg(feature = "std")]
@@ -56,6 +60,12 @@ mod recipe;
 mod refusal;
 
 pub use columns::{Bits, Elements, List, NestedList, OuterRows, Rows, Values};
+pub use lengths::{
+    any_value_lengths, distinct_lengths, element_lengths, intersect_lengths, list_repeat_lengths,
+    pop_back_lengths, pop_front_lengths, recipe_limits, remove_lengths, replace_lengths,
+    resize_lengths, reverse_lengths, slice_lengths, union_lengths, ListLengths, RecipeLimits,
+    RepeatLengths, ValueLengths,
+};
 pub use operations::{
     any_value, distinct, element, intersect, list_repeat, pop_back, pop_front, remove, replace,
     resize, reverse, slice, union,

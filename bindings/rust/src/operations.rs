@@ -14,10 +14,10 @@ pub(crate) const REPLACE: u32 = 7;
 pub(crate) const REMOVE: u32 = 8;
 pub(crate) const UNION: u32 = 9;
 pub(crate) const INTERSECT: u32 = 10;
-const RESIZE_WITHOUT_FILL: u32 = 11;
+pub(crate) const RESIZE_WITHOUT_FILL: u32 = 11;
 
 /// The argument columns of an operation that takes fewer than three.
-const NONE: Values<'static> = Values { values: &[], valid: crate::Bits::ALL };
+pub(crate) const NONE: Values<'static> = Values { values: &[], valid: crate::Bits::ALL };
 
 /// Turns each row round.
 ///

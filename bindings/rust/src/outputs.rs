@@ -31,8 +31,9 @@ fn list<'a>((offsets, rows): (&'a [i32], Bits<'a>), elements: Values<'a>) -> Lis
 /// Room for a list column, as an output or as a tray of a recipe.
 ///
 /// A result takes rows + 1 offsets, a bit a row, its elements and a bit an element; less room is
-/// refused by 9. It begins at offset 0, its bitmaps start at bit 0 and have spare bits 0, null rows
-/// are empty, and null elements hold [`i64::MIN`]. What lies past the result keeps its content.
+/// refused by 9, and [`ListLengths`](crate::ListLengths) says how to ask first. It begins at offset 0,
+/// its bitmaps start at bit 0 and have spare bits 0, null rows are empty, and null elements hold
+/// [`i64::MIN`]. What lies past the result keeps its content.
 ///
 /// The slices are `&mut`, so none of them can overlap another slice of the call:
 ///

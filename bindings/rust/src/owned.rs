@@ -1,7 +1,8 @@
 //! Columns and room for results in vectors, for programs that have a heap.
 
 use crate::{
-    bitmap_bytes, Bits, List, ListOut, NestedList, Refusal, RepeatOut, Rows, ValueOut, Values,
+    bitmap_bytes, Bits, List, ListLengths, ListOut, NestedList, Refusal, RepeatLengths, RepeatOut,
+    Rows, ValueLengths, ValueOut, Values,
 };
 use std::vec;
 use std::vec::Vec;
@@ -99,6 +100,27 @@ impl ListBuf {
         }
     }
 
+    /// Room of just these lengths, as an operation told them.
+    ///
+    /// ```
+    /// use duthlan::owned::ListBuf;
+    /// use duthlan::{resize, resize_lengths, Values};
+    /// let column = ListBuf::from_rows(&[Some(vec![Some(5)]), None])?;
+    /// let count = Values::from(&[3, 3]);
+    /// let mut room = ListBuf::for_lengths(resize_lengths(column.list(), count, None)?);
+    /// resize(column.list(), count, None, &mut room.out())?;
+    /// assert_eq!(room.list().to_rows()?, [Some(vec![Some(5), None, None]), None]);
+    /// # Ok::<(), duthlan::Refusal>(())
+    /// ```
+    pub fn for_lengths(lengths: ListLengths) -> ListBuf {
+        ListBuf {
+            offsets: vec![0; lengths.offsets],
+            rows: vec![0; lengths.row_bytes],
+            values: vec![0; lengths.values],
+            elements: vec![0; lengths.element_bytes],
+        }
+    }
+
     /// The column, to lend to a call.
     pub fn list(&self) -> List<'_> {
         List {
@@ -153,6 +175,11 @@ impl ValuesBuf {
         ValuesBuf { values: vec![0; rows], valid: vec![0; bitmap_bytes(rows)] }
     }
 
+    /// Room of just these lengths, as an operation told them.
+    pub fn for_lengths(lengths: ValueLengths) -> ValuesBuf {
+        ValuesBuf { values: vec![0; lengths.values], valid: vec![0; lengths.row_bytes] }
+    }
+
     /// The column, to lend to a call.
     pub fn values(&self) -> Values<'_> {
         Values { values: &self.values, valid: Bits::from(&self.valid[..]) }
@@ -182,6 +209,20 @@ impl RepeatBuf {
             offsets: vec![0; rows + 1],
             rows: vec![0; bitmap_bytes(rows)],
             inner: ListBuf::with_room(inner_rows, elements),
+        }
+    }
+
+    /// Room of just these lengths, as [`list_repeat_lengths`](crate::list_repeat_lengths) told them.
+    pub fn for_lengths(lengths: RepeatLengths) -> RepeatBuf {
+        RepeatBuf {
+            offsets: vec![0; lengths.offsets],
+            rows: vec![0; lengths.row_bytes],
+            inner: ListBuf {
+                offsets: vec![0; lengths.inner_offsets],
+                rows: vec![0; lengths.inner_row_bytes],
+                values: vec![0; lengths.values],
+                elements: vec![0; lengths.element_bytes],
+            },
         }
     }
 

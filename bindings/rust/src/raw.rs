@@ -6,8 +6,8 @@
 //! keeps no pointer.
 
 use crate::{
-    List, ListCounts, ListOut, RecipeInputs, Refusal, RepeatCounts, RepeatOut, Trays, ValueCounts,
-    ValueOut, Values,
+    List, ListCounts, ListLengths, ListOut, RecipeInputs, RecipeLimits, Refusal, RepeatCounts,
+    RepeatLengths, RepeatOut, Trays, ValueCounts, ValueLengths, ValueOut, Values,
 };
 
 // Each declaration has a column, or a tray, to a line: offsets, row bitmap, values, element bitmap.
@@ -58,6 +58,42 @@ extern "C" {
         out_offsets: *mut i32, _: usize, out_rows: *mut u8, _: usize, out_values: *mut i64, _: usize, out_elements: *mut u8, _: usize,
         counts: *mut u64, _: usize, tally: *mut u64, _: usize,
     ) -> u32;
+    // How much to lend for each of these: they take the same, but no outputs, and lengths in place of counts.
+    fn duthlan_typed_list_lengths(
+        op: u32,
+        offsets: *const i32, _: usize, rows: *const u8, _: usize, rows_start: usize, values: *const i64, _: usize, elements: *const u8, _: usize, elements_start: usize,
+        first: *const i64, _: usize, first_bits: *const u8, _: usize, first_start: usize,
+        second: *const i64, _: usize, second_bits: *const u8, _: usize, second_start: usize,
+        third: *const i64, _: usize, third_bits: *const u8, _: usize, third_start: usize,
+        lengths: *mut u64, _: usize,
+    ) -> u32;
+    fn duthlan_typed_lists_lengths(
+        op: u32,
+        l_offsets: *const i32, _: usize, l_rows: *const u8, _: usize, l_rows_start: usize, l_values: *const i64, _: usize, l_elements: *const u8, _: usize, l_elements_start: usize,
+        r_offsets: *const i32, _: usize, r_rows: *const u8, _: usize, r_rows_start: usize, r_values: *const i64, _: usize, r_elements: *const u8, _: usize, r_elements_start: usize,
+        lengths: *mut u64, _: usize,
+    ) -> u32;
+    fn duthlan_typed_any_value_lengths(
+        offsets: *const i32, _: usize, rows: *const u8, _: usize, rows_start: usize, values: *const i64, _: usize, elements: *const u8, _: usize, elements_start: usize,
+        lengths: *mut u64, _: usize,
+    ) -> u32;
+    fn duthlan_typed_element_lengths(
+        offsets: *const i32, _: usize, rows: *const u8, _: usize, rows_start: usize, values: *const i64, _: usize, elements: *const u8, _: usize, elements_start: usize,
+        indexes: *const i64, _: usize, index_bits: *const u8, _: usize, index_start: usize,
+        lengths: *mut u64, _: usize,
+    ) -> u32;
+    fn duthlan_typed_list_repeat_lengths(
+        offsets: *const i32, _: usize, rows: *const u8, _: usize, rows_start: usize, values: *const i64, _: usize, elements: *const u8, _: usize, elements_start: usize,
+        times: *const i64, _: usize, times_bits: *const u8, _: usize, times_start: usize,
+        lengths: *mut u64, _: usize,
+    ) -> u32;
+    fn duthlan_typed_recipe_limits(
+        numbers: *const u32, _: usize, columns: usize,
+        offsets: *const i32, _: usize, rows: *const u8, _: usize, rows_start: usize, values: *const i64, _: usize, elements: *const u8, _: usize, elements_start: usize,
+        second_offsets: *const i32, _: usize, second_rows: *const u8, _: usize, second_rows_start: usize, second_values: *const i64, _: usize, second_elements: *const u8, _: usize, second_elements_start: usize,
+        arguments: *const i64, _: usize, argument_bits: *const u8, _: usize, argument_start: usize,
+        limits: *mut u64, _: usize,
+    ) -> u32;
 }
 
 /// The counts of an accepted call, or the refusal.
@@ -74,6 +110,21 @@ fn list_counts([rows, elements, null_rows, null_elements]: [u64; 4]) -> ListCoun
 
 fn value_counts([rows, null_rows]: [u64; 2]) -> ValueCounts {
     ValueCounts { rows, null_rows }
+}
+
+/// The lengths that an entry told, or the refusal. All of them fit: they are at most 2147483648, or one
+/// more than the rows lent.
+fn told_lengths<const N: usize>(number: u32, lengths: [u64; N]) -> Result<[usize; N], Refusal> {
+    let lengths = told(number, lengths)?;
+    Ok(lengths.map(|length| usize::try_from(length).unwrap_or(usize::MAX)))
+}
+
+fn list_room([offsets, row_bytes, values, element_bytes]: [usize; 4]) -> ListLengths {
+    ListLengths { offsets, row_bytes, values, element_bytes }
+}
+
+fn value_room([values, row_bytes]: [usize; 2]) -> ValueLengths {
+    ValueLengths { values, row_bytes }
 }
 
 // SAFETY, of every block below: each pointer stands before the length of the slice that it comes from, a
@@ -187,4 +238,99 @@ pub fn recipe(
         )
     };
     told(number, counts).map(list_counts)
+}
+
+#[rustfmt::skip]
+pub fn list_lengths(op: u32, list: List, [first, second, third]: [Values; 3]) -> Result<ListLengths, Refusal> {
+    let mut lengths = [0; 4];
+    let number = unsafe {
+        duthlan_typed_list_lengths(
+            op,
+            list.offsets.as_ptr(), list.offsets.len(), list.rows.bytes.as_ptr(), list.rows.bytes.len(), list.rows.start,
+            list.values.as_ptr(), list.values.len(), list.elements.bytes.as_ptr(), list.elements.bytes.len(), list.elements.start,
+            first.values.as_ptr(), first.values.len(), first.valid.bytes.as_ptr(), first.valid.bytes.len(), first.valid.start,
+            second.values.as_ptr(), second.values.len(), second.valid.bytes.as_ptr(), second.valid.bytes.len(), second.valid.start,
+            third.values.as_ptr(), third.values.len(), third.valid.bytes.as_ptr(), third.valid.bytes.len(), third.valid.start,
+            lengths.as_mut_ptr(), lengths.len(),
+        )
+    };
+    told_lengths(number, lengths).map(list_room)
+}
+
+#[rustfmt::skip]
+pub fn lists_lengths(op: u32, left: List, right: List) -> Result<ListLengths, Refusal> {
+    let mut lengths = [0; 4];
+    let number = unsafe {
+        duthlan_typed_lists_lengths(
+            op,
+            left.offsets.as_ptr(), left.offsets.len(), left.rows.bytes.as_ptr(), left.rows.bytes.len(), left.rows.start,
+            left.values.as_ptr(), left.values.len(), left.elements.bytes.as_ptr(), left.elements.bytes.len(), left.elements.start,
+            right.offsets.as_ptr(), right.offsets.len(), right.rows.bytes.as_ptr(), right.rows.bytes.len(), right.rows.start,
+            right.values.as_ptr(), right.values.len(), right.elements.bytes.as_ptr(), right.elements.bytes.len(), right.elements.start,
+            lengths.as_mut_ptr(), lengths.len(),
+        )
+    };
+    told_lengths(number, lengths).map(list_room)
+}
+
+#[rustfmt::skip]
+pub fn any_value_lengths(list: List) -> Result<ValueLengths, Refusal> {
+    let mut lengths = [0; 2];
+    let number = unsafe {
+        duthlan_typed_any_value_lengths(
+            list.offsets.as_ptr(), list.offsets.len(), list.rows.bytes.as_ptr(), list.rows.bytes.len(), list.rows.start,
+            list.values.as_ptr(), list.values.len(), list.elements.bytes.as_ptr(), list.elements.bytes.len(), list.elements.start,
+            lengths.as_mut_ptr(), lengths.len(),
+        )
+    };
+    told_lengths(number, lengths).map(value_room)
+}
+
+#[rustfmt::skip]
+pub fn element_lengths(list: List, index: Values) -> Result<ValueLengths, Refusal> {
+    let mut lengths = [0; 2];
+    let number = unsafe {
+        duthlan_typed_element_lengths(
+            list.offsets.as_ptr(), list.offsets.len(), list.rows.bytes.as_ptr(), list.rows.bytes.len(), list.rows.start,
+            list.values.as_ptr(), list.values.len(), list.elements.bytes.as_ptr(), list.elements.bytes.len(), list.elements.start,
+            index.values.as_ptr(), index.values.len(), index.valid.bytes.as_ptr(), index.valid.bytes.len(), index.valid.start,
+            lengths.as_mut_ptr(), lengths.len(),
+        )
+    };
+    told_lengths(number, lengths).map(value_room)
+}
+
+#[rustfmt::skip]
+pub fn list_repeat_lengths(list: List, times: Values) -> Result<RepeatLengths, Refusal> {
+    let mut lengths = [0; 6];
+    let number = unsafe {
+        duthlan_typed_list_repeat_lengths(
+            list.offsets.as_ptr(), list.offsets.len(), list.rows.bytes.as_ptr(), list.rows.bytes.len(), list.rows.start,
+            list.values.as_ptr(), list.values.len(), list.elements.bytes.as_ptr(), list.elements.bytes.len(), list.elements.start,
+            times.values.as_ptr(), times.values.len(), times.valid.bytes.as_ptr(), times.valid.bytes.len(), times.valid.start,
+            lengths.as_mut_ptr(), lengths.len(),
+        )
+    };
+    let [offsets, row_bytes, inner_offsets, inner_row_bytes, values, element_bytes] = told_lengths(number, lengths)?;
+    Ok(RepeatLengths { offsets, row_bytes, inner_offsets, inner_row_bytes, values, element_bytes })
+}
+
+#[rustfmt::skip]
+pub fn recipe_limits(
+    numbers: &[u32], RecipeInputs { list, second, columns, arguments }: RecipeInputs,
+) -> Result<RecipeLimits, Refusal> {
+    let mut limits = [0; 3];
+    let number = unsafe {
+        duthlan_typed_recipe_limits(
+            numbers.as_ptr(), numbers.len(), columns,
+            list.offsets.as_ptr(), list.offsets.len(), list.rows.bytes.as_ptr(), list.rows.bytes.len(), list.rows.start,
+            list.values.as_ptr(), list.values.len(), list.elements.bytes.as_ptr(), list.elements.bytes.len(), list.elements.start,
+            second.offsets.as_ptr(), second.offsets.len(), second.rows.bytes.as_ptr(), second.rows.bytes.len(), second.rows.start,
+            second.values.as_ptr(), second.values.len(), second.elements.bytes.as_ptr(), second.elements.bytes.len(), second.elements.start,
+            arguments.values.as_ptr(), arguments.values.len(), arguments.valid.bytes.as_ptr(), arguments.valid.bytes.len(), arguments.valid.start,
+            limits.as_mut_ptr(), limits.len(),
+        )
+    };
+    let [one, two, output] = told_lengths(number, limits)?;
+    Ok(RecipeLimits { one, two, output })
 }

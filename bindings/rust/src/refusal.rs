@@ -54,8 +54,8 @@ impl Refusal {
             13 => Refusal::BadStartingBit,
             15 => Refusal::NoSuchStation,
             // 100, a fault of the call itself, cannot come from here: the crate passes only codes
-            // that the entries serve, and all places for counts and tally. An archive that gives it
-            // all the same is another version's, and the call has changed no output.
+            // that the entries serve, and all places for counts, lengths and tally. An archive that
+            // gives it all the same is another version's, and the call has changed no output.
             other => Refusal::Other(other),
         }
     }

@@ -1,12 +1,16 @@
-//! The crate over the archive: each function and each refusal, what is kept and what is cleared, and
-//! the reading of columns in Rust beside that of the archive.
+//! The crate over the archive: each function and each refusal, what is kept and what is cleared, how
+//! much to lend, and the reading of columns in Rust beside that of the archive.
 #![cfg(feature = "std")]
 
 use duthlan::owned::{ListBuf, RepeatBuf, Row, ValuesBuf};
 use duthlan::{
-    any_value, distinct, element, intersect, list_repeat, pop_back, pop_front, remove, replace,
-    resize, reverse, run_recipe, slice, union, Bits, List, ListCounts, ListOut, Recipe,
-    RecipeInputs, Refusal, Tally, Trays, ValueCounts, Values,
+    any_value, any_value_lengths, bitmap_bytes, distinct, distinct_lengths, element,
+    element_lengths, intersect, intersect_lengths, list_repeat, list_repeat_lengths, pop_back,
+    pop_back_lengths, pop_front, pop_front_lengths, recipe_limits, remove, remove_lengths, replace,
+    replace_lengths, resize, resize_lengths, reverse, reverse_lengths, run_recipe, slice,
+    slice_lengths, union, union_lengths, Bits, List, ListCounts, ListLengths, ListOut, Recipe,
+    RecipeInputs, RecipeLimits, Refusal, RepeatLengths, Tally, Trays, ValueCounts, ValueLengths,
+    ValueOut, Values,
 };
 
 /// Rows in the notation of the examples, `-` for a null element and `null` for a null row.
@@ -423,6 +427,394 @@ fn shown_agrees_with_the_archive() {
         }
     }
     assert!(tried[0] > 1000 && tried[1] > 1000, "{tried:?}");
+}
+
+/// What the operations are lent to try how much they need.
+#[derive(Clone, Copy)]
+struct Lent<'a> {
+    list: List<'a>,
+    right: List<'a>,
+    a: Values<'a>,
+    b: Values<'a>,
+    c: Values<'a>,
+}
+
+type Asks = fn(Lent) -> Result<ListLengths, Refusal>;
+type Runs = fn(Lent, &mut ListOut) -> Result<ListCounts, Refusal>;
+
+/// Each list operation, the question first.
+const LIST_OPERATIONS: [(Asks, Runs); 12] = [
+    (|l| reverse_lengths(l.list), |l, out| reverse(l.list, out)),
+    (|l| distinct_lengths(l.list), |l, out| distinct(l.list, out)),
+    (|l| pop_front_lengths(l.list), |l, out| pop_front(l.list, out)),
+    (|l| pop_back_lengths(l.list), |l, out| pop_back(l.list, out)),
+    (
+        |l| slice_lengths(l.list, l.a, l.b, Some(l.c)),
+        |l, out| slice(l.list, l.a, l.b, Some(l.c), out),
+    ),
+    (|l| slice_lengths(l.list, l.a, l.b, None), |l, out| slice(l.list, l.a, l.b, None, out)),
+    (|l| resize_lengths(l.list, l.a, Some(l.b)), |l, out| resize(l.list, l.a, Some(l.b), out)),
+    (|l| resize_lengths(l.list, l.a, None), |l, out| resize(l.list, l.a, None, out)),
+    (|l| replace_lengths(l.list, l.a, l.b, l.c), |l, out| replace(l.list, l.a, l.b, l.c, out)),
+    (|l| remove_lengths(l.list, l.a, l.c), |l, out| remove(l.list, l.a, l.c, out)),
+    (|l| union_lengths(l.list, l.right), |l, out| union(l.list, l.right, out)),
+    (|l| intersect_lengths(l.list, l.right), |l, out| intersect(l.list, l.right, out)),
+];
+
+/// Calls `call` with each of the lengths one less in turn, where it is not 0.
+fn one_less<const N: usize>(lengths: [usize; N], mut call: impl FnMut([usize; N])) {
+    for i in (0..N).filter(|&i| lengths[i] > 0) {
+        let mut less = lengths;
+        less[i] -= 1;
+        call(less);
+    }
+}
+
+/// Asks each list operation, lends just as much, and one less in each slice in turn. Gives the
+/// answers; a refusal is the operation's own.
+fn ask_for_lists(lent: Lent) -> Vec<Result<ListLengths, Refusal>> {
+    let ask_one = |&(ask, run): &(Asks, Runs)| {
+        let mut room = ListBuf::with_room(8, 30);
+        let wanted = run(lent, &mut room.out());
+        let asked = ask(lent);
+        assert_eq!(
+            asked,
+            wanted.map(|counts| {
+                let (rows, values) = (counts.rows as usize, counts.elements as usize);
+                ListLengths {
+                    offsets: rows + 1,
+                    row_bytes: bitmap_bytes(rows),
+                    values,
+                    element_bytes: bitmap_bytes(values),
+                }
+            })
+        );
+        if let Ok(need) = asked {
+            let mut tight = ListBuf::for_lengths(need);
+            assert_eq!(run(lent, &mut tight.out()), wanted);
+            assert_eq!(
+                tight.list().to_rows(),
+                room.out().written(&wanted.expect("accepted")).to_rows()
+            );
+            let lengths = [need.offsets, need.row_bytes, need.values, need.element_bytes];
+            one_less(lengths, |[offsets, row_bytes, values, element_bytes]| {
+                let less = ListLengths { offsets, row_bytes, values, element_bytes };
+                let mut room = ListBuf::for_lengths(less);
+                assert_eq!(run(lent, &mut room.out()), Err(Refusal::ShortOutput));
+            });
+        }
+        asked
+    };
+    LIST_OPERATIONS.iter().map(ask_one).collect()
+}
+
+/// The same of any-value and element.
+fn ask_for_values(lent: Lent) {
+    type Asks = fn(Lent) -> Result<ValueLengths, Refusal>;
+    type Runs = fn(Lent, &mut ValueOut) -> Result<ValueCounts, Refusal>;
+    let operations: [(Asks, Runs); 2] = [
+        (|l| any_value_lengths(l.list), |l, out| any_value(l.list, out)),
+        (|l| element_lengths(l.list, l.a), |l, out| element(l.list, l.a, out)),
+    ];
+    for (ask, run) in operations {
+        let wanted = run(lent, &mut ValuesBuf::with_room(8).out());
+        let asked = ask(lent);
+        let rows = wanted.map(|counts| counts.rows as usize);
+        assert_eq!(
+            asked,
+            rows.map(|rows| ValueLengths { values: rows, row_bytes: bitmap_bytes(rows) })
+        );
+        if let Ok(need) = asked {
+            assert_eq!(run(lent, &mut ValuesBuf::for_lengths(need).out()), wanted);
+            one_less([need.values, need.row_bytes], |[values, row_bytes]| {
+                let mut room = ValuesBuf::for_lengths(ValueLengths { values, row_bytes });
+                assert_eq!(run(lent, &mut room.out()), Err(Refusal::ShortOutput));
+            });
+        }
+    }
+}
+
+/// The same of list-repeat.
+fn ask_for_list_repeat(Lent { list, a: times, .. }: Lent) {
+    let wanted = list_repeat(list, times, &mut RepeatBuf::with_room(8, 30, 30).out());
+    let asked = list_repeat_lengths(list, times);
+    assert_eq!(
+        asked,
+        wanted.map(|counts| {
+            let (rows, inner_rows) = (counts.rows as usize, counts.inner_rows as usize);
+            RepeatLengths {
+                offsets: rows + 1,
+                row_bytes: bitmap_bytes(rows),
+                inner_offsets: inner_rows + 1,
+                inner_row_bytes: bitmap_bytes(inner_rows),
+                values: counts.elements as usize,
+                element_bytes: bitmap_bytes(counts.elements as usize),
+            }
+        })
+    );
+    if let Ok(need) = asked {
+        assert_eq!(list_repeat(list, times, &mut RepeatBuf::for_lengths(need).out()), wanted);
+        let inner = [need.inner_offsets, need.inner_row_bytes, need.values, need.element_bytes];
+        let [a, b, c, d] = inner;
+        one_less([need.offsets, need.row_bytes, a, b, c, d], |lengths| {
+            let [offsets, row_bytes, inner_offsets, inner_row_bytes, values, element_bytes] =
+                lengths;
+            let mut room = RepeatBuf::for_lengths(RepeatLengths {
+                offsets,
+                row_bytes,
+                inner_offsets,
+                inner_row_bytes,
+                values,
+                element_bytes,
+            });
+            assert_eq!(list_repeat(list, times, &mut room.out()), Err(Refusal::ShortOutput));
+        });
+    }
+}
+
+#[test]
+fn just_the_lengths_asked_are_enough() {
+    let left = rows("[12,-3,-] null [] [7,7,9]");
+    let right = rows("[1,12,-] [2,9,1] null []");
+    let (one, two) = (Some(1), Some(2));
+    let (a, a_bits) = shifted(&[two, one, one, None], 5);
+    let (b, b_bits) = shifted(&[Some(-1), one, None, one], 2);
+    let (c, c_bits) = shifted(&[one, None, one, one], 7);
+    for starts in [[0, 0], [1, 3], [7, 6]] {
+        let (left, right) = (Layout::new(&left, starts), Layout::new(&right, [starts[1], 4]));
+        let lent = Lent {
+            list: left.list(),
+            right: right.list(),
+            a: Values { values: &a, valid: Bits { bytes: &a_bits, start: 5 } },
+            b: Values { values: &b, valid: Bits { bytes: &b_bits, start: 2 } },
+            c: Values { values: &c, valid: Bits { bytes: &c_bits, start: 7 } },
+        };
+        for lent in [
+            lent,
+            Lent { list: lent.right, right: lent.list, ..lent },
+            Lent { a: Values::from(&[1; 4]), b: Values::from(&[3; 4]), ..lent },
+        ] {
+            assert!(ask_for_lists(lent).iter().all(Result::is_ok));
+            ask_for_values(lent);
+            ask_for_list_repeat(lent);
+        }
+    }
+    let nothing = Lent {
+        list: List::default(),
+        right: List::default(),
+        a: Values::default(),
+        b: Values::default(),
+        c: Values::default(),
+    };
+    let no_rows = ListLengths { offsets: 1, row_bytes: 0, values: 0, element_bytes: 0 };
+    assert!(ask_for_lists(nothing).iter().all(|asked| *asked == Ok(no_rows)));
+    ask_for_values(nothing);
+    ask_for_list_repeat(nothing);
+}
+
+#[test]
+fn lengths_of_more_than_can_be_lent() {
+    let list = column("[5] null []");
+    let most = Values::from(&[2147483647, 2147483647, 0]);
+    let need = resize_lengths(list.list(), most, None).expect("accepted");
+    assert_eq!((need.values, need.element_bytes), (2147483647, 268435456));
+    let most = Values::from(&[0, 0, 2147483646]);
+    let need = list_repeat_lengths(list.list(), most).expect("accepted");
+    assert_eq!((need.inner_offsets, need.inner_row_bytes), (2147483647, 268435456));
+    assert_eq!((need.offsets, need.values, need.element_bytes), (4, 0, 0));
+}
+
+#[test]
+fn asking_is_refused_as_calling_is() {
+    let good = column("[7,8] null [] [1]");
+    let one = Values::from(&[1; 4]);
+    let lent = Lent { list: good.list(), right: good.list(), a: one, b: one, c: one };
+    let bytes = [255];
+    let bad_offsets = List { offsets: &[0, 2, 1, 3, 3], ..good.list() };
+    let short_bitmap = List { rows: Bits { bytes: &bytes, start: 5 }, ..good.list() };
+    let bad_start = List { elements: Bits { bytes: &[], start: 8 }, ..good.list() };
+    let (wide, many) = ([2147483648, 1, 1, 1], [2147483647, 1, 1, 1]);
+    let (wide, many) = (Values::from(&wide), Values::from(&many));
+    let mut refused = std::collections::BTreeSet::new();
+    for lent in [
+        Lent { list: bad_offsets, ..lent },
+        Lent { right: bad_offsets, ..lent },
+        Lent { list: short_bitmap, ..lent },
+        Lent { right: short_bitmap, ..lent },
+        Lent { list: bad_start, right: bad_offsets, ..lent },
+        Lent { list: bad_offsets, right: bad_start, ..lent },
+        Lent { right: List::default(), a: Values::default(), ..lent },
+        Lent { a: Values { valid: Bits { bytes: &bytes, start: 6 }, ..one }, ..lent },
+        Lent { a: Values { valid: Bits { bytes: &[], start: 8 }, ..one }, ..lent },
+        Lent { a: wide, ..lent },
+        Lent { c: wide, ..lent },
+        Lent { c: Values::from(&[0; 4]), ..lent },
+        Lent { a: Values::from(&[-1; 4]), ..lent },
+        Lent { a: many, ..lent },
+    ] {
+        refused.extend(
+            ask_for_lists(lent).iter().filter_map(|asked| asked.err()).map(Refusal::number),
+        );
+        ask_for_values(lent);
+        ask_for_list_repeat(lent);
+    }
+    assert!(refused.into_iter().eq([1, 2, 3, 4, 5, 6, 7, 8, 13]));
+    assert_eq!(list_repeat_lengths(lent.list, wide), Err(Refusal::TooMany));
+    assert_eq!(element_lengths(lent.list, wide), Err(Refusal::WideIndex));
+}
+
+/// Asks for a recipe's limits, and runs it on trays and an output that hold just as much.
+fn run_within_limits(
+    recipe: &Recipe,
+    inputs: RecipeInputs,
+) -> (RecipeLimits, Result<Vec<Row>, Refusal>) {
+    let limits = recipe_limits(recipe, inputs).expect("accepted");
+    let rows = inputs.list.row_count();
+    let [mut one, mut two, mut room] =
+        [limits.one, limits.two, limits.output].map(|elements| ListBuf::with_room(rows, elements));
+    let mut trays = Trays::default();
+    if recipe.numbers().len() > 4 {
+        trays.one = one.out();
+    }
+    if recipe.numbers().len() > 8 {
+        trays.two = two.out();
+    }
+    let mut out = room.out();
+    let answer = run_recipe(0, recipe, inputs, &mut trays, &mut out, &mut Tally::default());
+    (limits, answer.map(|counts| out.written(&counts).to_rows().expect("a column")))
+}
+
+#[test]
+fn a_recipe_lent_its_limits_is_never_refused_by_9() {
+    type Adds = fn(Recipe) -> Recipe;
+    let steps: [Adds; 11] = [
+        |recipe| recipe.reverse(),
+        |recipe| recipe.distinct(),
+        |recipe| recipe.pop_front(),
+        |recipe| recipe.pop_back(),
+        |recipe| recipe.slice(0, 2, 0),
+        |recipe| recipe.slice_without_stride(0, 1),
+        |recipe| recipe.resize(1, 2),
+        |recipe| recipe.replace(2, 1, 0),
+        |recipe| recipe.remove(1, 0),
+        |recipe| recipe.union(),
+        |recipe| recipe.intersect(),
+    ];
+    let (first, second) = (rows("[4,-3,-] null [] [7,7,9]"), rows("[4] [1,2] [-,5,6] null"));
+    let (one, last) = (Some(1), Some(-1));
+    let fair = [one, one, one, one, Some(4), Some(3), Some(2), None, last, last, last, last];
+    let bad =
+        [one, Some(0), None, one, Some(2), last, None, Some(2147483648), last, None, one, last];
+    let mut seen = [0; 2];
+    for (cells, lists) in
+        [(fair, [&first, &second]), (fair, [&second, &first]), (bad, [&first, &second])]
+    {
+        let (numbers, bits) = shifted(&cells, 3);
+        let [list, second] = lists.map(|rows| Layout::new(rows, [2, 7]));
+        let inputs = RecipeInputs {
+            list: list.list(),
+            second: second.list(),
+            columns: 3,
+            arguments: Values { values: &numbers, valid: Bits { bytes: &bits, start: 3 } },
+        };
+        for (count, recipes) in [(0, 1), (1, 11), (2, 121), (3, 1331)] {
+            for code in 0..recipes {
+                let mut left = code;
+                let recipe = (0..count).fold(Recipe::new(), |recipe, _| {
+                    let step = steps[left % 11];
+                    left /= 11;
+                    step(recipe)
+                });
+                // A count of 2147483648 makes a limit of 2147483647, which is not lent here.
+                let limits = recipe_limits(recipe, inputs).expect("accepted");
+                if limits.one.max(limits.two).max(limits.output) == 2147483647 {
+                    continue;
+                }
+                let (_, answer) = run_within_limits(&recipe, inputs);
+                let roomy = run(0, recipe, inputs, &mut Tally::default());
+                assert_ne!(answer, Err(Refusal::ShortOutput), "{recipe:?}");
+                if roomy != Err(Refusal::ShortOutput) {
+                    assert_eq!(answer, roomy, "{recipe:?}");
+                }
+                seen[usize::from(answer.is_err())] += 1;
+            }
+        }
+    }
+    assert!(seen[0] > 3000 && seen[1] > 100, "{seen:?}");
+}
+
+#[test]
+fn limits_come_from_lengths_validity_and_arguments() {
+    let limits = |one, two, output| RecipeLimits { one, two, output };
+    let step = Recipe::new();
+    let list = column("[1,2] null []");
+    let inputs = RecipeInputs {
+        list: list.list(),
+        second: list.list(),
+        columns: 1,
+        arguments: Values::from(&[3, 4, -1]),
+    };
+    assert_eq!(recipe_limits(step.resize(0, 0), inputs), Ok(limits(0, 0, 3)));
+    let seven = column("[7]");
+    let three = RecipeInputs { arguments: Values::from(&[3]), ..inputs };
+    let three = RecipeInputs { list: seven.list(), second: seven.list(), ..three };
+    let (told, made) = run_within_limits(&step.resize(0, 0), three);
+    assert_eq!((told, made), (limits(0, 0, 3), Ok(rows("[7,3,3]"))));
+    let most = RecipeInputs { arguments: Values::from(&[2147483647, 0, 2147483647]), ..inputs };
+    let limit = 2147483647;
+    assert_eq!(recipe_limits(step.resize(0, 0).union(), most), Ok(limits(limit, 0, limit)));
+
+    // Each tray has the greatest limit of its steps, though union drops levels that come again.
+    let plain = RecipeInputs { list: list.list(), second: list.list(), ..RecipeInputs::default() };
+    assert_eq!(recipe_limits(step, plain), Ok(limits(0, 0, 2)));
+    assert_eq!(recipe_limits(step.union(), plain), Ok(limits(0, 0, 4)));
+    assert_eq!(recipe_limits(step.union().union(), plain), Ok(limits(4, 0, 6)));
+    let unions = step.union().union().union().distinct().union();
+    assert_eq!(recipe_limits(unions, plain), Ok(limits(8, 8, 10)));
+    assert_eq!(run_within_limits(&unions, plain).1, Ok(rows("[1,2] null []")));
+}
+
+#[test]
+fn limits_are_refused_as_the_run_is() {
+    let good = column("[7,8] null [] [1]");
+    let bytes = [255];
+    let bad_offsets = List { offsets: &[0, 2, 1, 3, 3], ..good.list() };
+    let short_bitmap = List { rows: Bits { bytes: &bytes, start: 5 }, ..good.list() };
+    let bad_start = List { elements: Bits { bytes: &[], start: 8 }, ..good.list() };
+    let one = Values::from(&[1; 4]);
+    let inputs =
+        RecipeInputs { list: good.list(), second: good.list(), columns: 1, arguments: one };
+    let refused = |recipe: &[u32], inputs| {
+        let mut tally = Tally::default();
+        let refusal = recipe_limits(recipe, inputs).expect_err("refused");
+        assert_eq!(run(0, recipe, inputs, &mut tally), Err(refusal));
+        refusal.number()
+    };
+    let reverse = Recipe::new().reverse();
+    let reverse = reverse.numbers();
+    assert_eq!(refused(&[0; 3], RecipeInputs { list: bad_start, ..inputs }), 10);
+    assert_eq!(refused(&[0; 132], inputs), 10);
+    assert_eq!(refused(&[6, 0, 1, 0], inputs), 10);
+    for other in [bad_offsets, short_bitmap, List::default()] {
+        assert_eq!(refused(reverse, RecipeInputs { list: bad_start, second: other, ..inputs }), 13);
+        assert_eq!(refused(reverse, RecipeInputs { list: other, second: bad_start, ..inputs }), 13);
+    }
+    let late = Values { valid: Bits { bytes: &[], start: 8 }, ..one };
+    assert_eq!(refused(reverse, RecipeInputs { arguments: late, ..inputs }), 13);
+    assert_eq!(refused(reverse, RecipeInputs { list: bad_offsets, ..inputs }), 1);
+    assert_eq!(refused(reverse, RecipeInputs { second: bad_offsets, ..inputs }), 1);
+    assert_eq!(refused(reverse, RecipeInputs { list: short_bitmap, ..inputs }), 2);
+    assert_eq!(refused(reverse, RecipeInputs { second: short_bitmap, ..inputs }), 2);
+    let short = Values { valid: Bits { bytes: &bytes, start: 5 }, ..one };
+    assert_eq!(refused(reverse, RecipeInputs { arguments: short, ..inputs }), 2);
+    assert_eq!(refused(reverse, RecipeInputs { second: List::default(), ..inputs }), 3);
+    assert_eq!(refused(reverse, RecipeInputs { columns: 2, ..inputs }), 3);
+
+    // What the run refuses for its rows is not tested here.
+    let wide = RecipeInputs { arguments: Values::from(&[2147483648, 1, 1, 1]), ..inputs };
+    let recipe = Recipe::new().slice_without_stride(0, 0);
+    assert_eq!(run(0, recipe, wide, &mut Tally::default()), Err(Refusal::WideIndex));
+    assert_eq!(recipe_limits(recipe, wide), Ok(RecipeLimits { one: 0, two: 0, output: 3 }));
 }
 
 #[test]

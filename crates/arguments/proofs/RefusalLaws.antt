@@ -3,18 +3,16 @@ use Prim.Native.Nat.{ℕ}
 use mathlib.Core.Path.{_≡_, refl, sym, ap, _∙_}
 use mathlib.Core.Bool.{Bool, true, false, not, _&&_, _||_}
 use mathlib.Core.List.{List, [], _∷_}
-use native.Mathlib.Omega.{arith}
 use lib.Dec.{ltb, eqb}
 use lib.ListN.{length}
 use Rattle.model.specs.Basics.{pick, any}
-use Rattle.model.specs.Column.{Row, Column, Arguments, rowsOf, shownBy, rowCount, refusal13ᵃ, refusal2ᵃ}
-use Rattle.model.specs.Form.{Room}
-use Rattle.model.specs.Limits.{narrow}
-use Rattle.model.specs.Outcome.{Outcome, refused, gate, columnsRefusal, afterThree, listShown, listOutcome}
-use Rattle.model.specs.Refusals.{unequal, differsLent, wrongLimit}
+use Rattle.model.specs.Column.{Column, Arguments, rowsOf, shownBy, rowCount, refusal13ᵃ, refusal2ᵃ}
+use Rattle.model.specs.Outcome.{columnsRefusal, earlyRefusal}
+use Rattle.model.specs.Refusals.{orElse, unequal, differsLent, wrongLimit}
 use Rattle.model.specs.Rows.{onCall, onLent, lentOf, listsIn, argumentsIn}
 use Rattle.model.proofs.ColumnLaws.{length-rows, length-shown}
-use Rattle.model.proofs.OutcomeLaws.{gate-shut, thirteen-of-arguments, lists-next, arguments-next}
+use Rattle.model.proofs.EarlyLaws.{or-first}
+use Rattle.model.proofs.OutcomeLaws.{thirteen-of-arguments, lists-next, arguments-next}
 use Rattle.ops.specs.Ops.{callOf, takesOf, secondLimit, thirdLimit, table}
 use Rattle.ops.specs.declared.ListOp.{ListOp}
 use Rattle.ops.specs.declared.ListOp.the-variants as L
@@ -28,7 +26,7 @@ or-right : (a b d : Bool) → a || (b || d) ≡ (a || b) || d
 or-right true b d = refl
 or-right false b d = refl
 
-lists-are : {C A : Type 0} (op : ListOp) (c : C) (x y z : A) → listsIn (callOf op c x y z) ≡ c ∷ []
+pub lists-are : {C A : Type 0} (op : ListOp) (c : C) (x y z : A) → listsIn (callOf op c x y z) ≡ c ∷ []
 unfolding listsIn callOf
 lists-are (L.Plain u) c x y z = refl
 lists-are L.Slice c x y z = refl
@@ -38,7 +36,7 @@ lists-are L.ResizeWith c x y z = refl
 lists-are L.Replace c x y z = refl
 lists-are L.Remove c x y z = refl
 
-call-shown : (op : ListOp) (c : Column) (x y z : Arguments) → onCall rowsOf shownBy (callOf op c x y z) ≡ callOf op (rowsOf c) (shownBy x) (shownBy y) (shownBy z)
+pub call-shown : (op : ListOp) (c : Column) (x y z : Arguments) → onCall rowsOf shownBy (callOf op c x y z) ≡ callOf op (rowsOf c) (shownBy x) (shownBy y) (shownBy z)
 unfolding onCall callOf onLent
 call-shown (L.Plain u) c x y z = refl
 call-shown L.Slice c x y z = refl
@@ -85,48 +83,28 @@ wrongs-are L.Replace c x y z = rw (length-rows c, length-shown x, length-shown y
 wrongs-are L.Remove c x y z = rw (length-rows c, length-shown x, length-shown y) (sym (or-false (not (eqb (length (x .values)) (rowCount (c .offsets))) || (not (eqb (length (y .values)) 1) && not (eqb (length (y .values)) (rowCount (c .offsets)))))))
 
 -- 2 of the arguments, then 3
-module _ {A : Type 0} (o : Outcome A) where
-  then-two : (t u : Bool) (j : ℕ) → j ≡ pick t 2 (pick u 3 0) → (j ≡ 0 → ⊥) → gate (pick t 2 0) (gate (pick u 3 0) o) ≡ refused j
-  unfolding gate
-  then-two true u j d h = ap refused (sym d)
-  then-two false true j d h = ap refused (sym d)
-  then-two false false j d h = absurd (h d)
+then-three : (t u : Bool) → pick t 2 (pick u 3 0) ≡ orElse (pick t 2 0) (pick u 3 0)
+then-three true u = refl
+then-three false u = refl
 
-  goes-on : (t u : Bool) → _≡_ {A = ℕ} (pick t 2 (pick u 3 0)) 0 → gate (pick t 2 0) (gate (pick u 3 0) o) ≡ o
-  unfolding gate
-  goes-on true u d = let n : ⊥ = omega arith in absurd n
-  goes-on false true d = let n : ⊥ = omega arith in absurd n
-  goes-on false false d = refl
-
-module _ (op : ListOp) (c : Column) (x y z : Arguments) (l : Room) where
-  abbrev after : Outcome (List Row)
-  after = afterThree narrow (callOf op (rowsOf c) (shownBy x) (shownBy y) (shownBy z)) l
-
+module _ (op : ListOp) (c : Column) (x y z : Arguments) where
   abbrev taken : List Arguments
   taken = argumentsIn (callOf op c x y z)
 
-  abbrev rest : Outcome (List Row)
-  rest = gate (pick (wrongs op (rowCount (c .offsets)) x y z) 3 0) after
+  early-is : earlyRefusal (callOf op c x y z) ≡ orElse (columnsRefusal (c ∷ []) taken) (pick (wrongs op (rowCount (c .offsets)) x y z) 3 0)
+  unfolding earlyRefusal
+  early-is = rw (lists-are op c x y z, call-shown op c x y z, wrongs-are op c x y z)
 
-  outcome-is : listOutcome narrow (callOf op c x y z) l ≡ gate (columnsRefusal (c ∷ []) taken) rest
-  unfolding listOutcome listShown
-  outcome-is = rw (lists-are op c x y z, call-shown op c x y z, wrongs-are op c x y z)
-
-  pub call-starts : startOver op (x .bits .start) (y .bits .start) (z .bits .start) ≡ true → listOutcome narrow (callOf op c x y z) l ≡ refused 13
-  unfolding gate
-  call-starts h = outcome-is ∙ rw (thirteen-of-arguments (c ∷ []) taken (overs-are op c x y z ∙ h))
+  pub call-starts : startOver op (x .bits .start) (y .bits .start) (z .bits .start) ≡ true → 13 ≡ earlyRefusal (callOf op c x y z)
+  call-starts h = rw (early-is, thirteen-of-arguments (c ∷ []) taken (overs-are op c x y z ∙ h))
 
   module _ (s : startOver op (x .bits .start) (y .bits .start) (z .bits .start) ≡ false) where
-    pub call-early : (k : ℕ) → k ≡ columnsRefusal (c ∷ []) [] → (k ≡ 0 → ⊥) → listOutcome narrow (callOf op c x y z) l ≡ refused k
-    call-early k e h = outcome-is ∙ rw (lists-next (c ∷ []) taken (overs-are op c x y z ∙ s) k e h) (gate-shut k rest h)
+    pub call-early : (k : ℕ) → k ≡ columnsRefusal (c ∷ []) [] → (k ≡ 0 → ⊥) → k ≡ earlyRefusal (callOf op c x y z)
+    call-early k e h = rw (early-is, lists-next (c ∷ []) taken (overs-are op c x y z ∙ s) k e h) (sym (or-first k _ h))
 
     number-is : columnsRefusal (c ∷ []) [] ≡ 0 → columnsRefusal (c ∷ []) taken ≡ pick (shorts op x y z) 2 0
     number-is e = arguments-next (c ∷ []) taken (overs-are op c x y z ∙ s) (columnsRefusal (c ∷ []) []) refl e ∙ rw (shorts-are op c x y z)
 
-    pub call-arguments : columnsRefusal (c ∷ []) [] ≡ 0 → (j : ℕ) → j ≡ argumentsRefusal op (rowCount (c .offsets)) x y z → (j ≡ 0 → ⊥) → listOutcome narrow (callOf op c x y z) l ≡ refused j
+    pub call-arguments : columnsRefusal (c ∷ []) [] ≡ 0 → (j : ℕ) → j ≡ argumentsRefusal op (rowCount (c .offsets)) x y z → j ≡ earlyRefusal (callOf op c x y z)
     unfolding argumentsRefusal
-    call-arguments e j d h = outcome-is ∙ rw (number-is e) (then-two after (shorts op x y z) (wrongs op (rowCount (c .offsets)) x y z) j d h)
-
-    pub call-goes : columnsRefusal (c ∷ []) [] ≡ 0 → argumentsRefusal op (rowCount (c .offsets)) x y z ≡ 0 → listOutcome narrow (callOf op c x y z) l ≡ after
-    unfolding argumentsRefusal
-    call-goes e d = outcome-is ∙ rw (number-is e) (goes-on after (shorts op x y z) (wrongs op (rowCount (c .offsets)) x y z) d)
+    call-arguments e j d = d ∙ rw (early-is, number-is e) (then-three (shorts op x y z) (wrongs op (rowCount (c .offsets)) x y z))

@@ -1,9 +1,15 @@
 // The refusals that every operation starts with, and the last one. An inner crate: its callers meet what it asks.
 use column::offsets;
+use model::ListLengths;
+use model::ValueLengths;
+ghost use Prim.Native.Nat.{_<_};
+ghost use Rattle.model.specs.Asked.{askedList, askedValues};
 ghost use Rattle.model.specs.Contract.{room, valueRoom};
 ghost use Rattle.model.specs.Form.{fitsIn, fitsValues};
 ghost use Rattle.model.specs.Inner.{lentFrom};
-ghost use Rattle.model.specs.Outcome.{columnsRefusal};
+ghost use Rattle.model.specs.Lengths.{roomFor, valueRoomFor};
+ghost use Rattle.model.specs.Limits.{largest};
+ghost use Rattle.model.specs.Outcome.{columnsRefusal, made};
 ghost use lib.Dec.{ltb};
 ghost use mathlib.Core.Bool.{_||_};
 ghost use mathlib.Core.List.{[], _∷_};
@@ -69,4 +75,27 @@ pub fn has_value_room(n: usize, lv: usize, lr: usize) -> bool
         return false;
     }
     bitmap::bytes_for(n) <= lr
+}
+
+// The lengths of the result form of n rows and m elements.
+pub fn lengths_for(n: usize, m: usize) -> ListLengths
+    requires { ⌜ n < largest ⌝ }
+    ensures { λ a. ⌜ askedList a ≡ made (roomFor n m) ⌝ }
+{
+    ListLengths::Of {
+        offsets: n + 1,
+        rows: bitmap::bytes_for(n),
+        values: m,
+        elements: bitmap::bytes_for(m),
+    }
+}
+
+// Those of n values.
+pub fn value_lengths_for(n: usize) -> ValueLengths
+    ensures { λ a. ⌜ askedValues a ≡ made (valueRoomFor n) ⌝ }
+{
+    ValueLengths::Of {
+        values: n,
+        rows: bitmap::bytes_for(n),
+    }
 }

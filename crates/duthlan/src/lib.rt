@@ -2,6 +2,10 @@
 // call is accepted, with its counts at the front of `counts`; the operation's own number where it is refused; and 100, the entries' only
 // number of their own, before all else, for an operation code that the entry does not serve or a `counts` (of a recipe, also a `tally`)
 // with too few places. Whatever is refused changes no place of the outputs and the counts. Each bitmap is followed by its starting bit.
+// Beside each stands how much to lend for it (`.._lengths`, and `.._limits` of a recipe): the refusal that the call would give before 9, or
+// the lengths of its output slices, in their order, at the front of `lengths`; nothing else is written.
+pub mod lengths;
+
 use codes::Operation;
 use codes::operation_of;
 use entry_codes::Taking;

@@ -3,6 +3,7 @@ use mathlib.Core.Path.{_≡_}
 use Prim.Native.Nat.{ℕ}
 use borrow.Author.Tests.{ne-eqb}
 use Rattle.model.specs.Basics.{absent, given}
+use Rattle.model.specs.Lengths.{listLengths}
 use Rattle.model.specs.Limits.{narrow}
 use Rattle.model.specs.Column.{Column, Arguments}
 use Rattle.model.specs.Rows.{unary, setOp, onLent}
@@ -18,7 +19,7 @@ use Rattle.entry_codes.specs.declared.Plain.{Plain}
 use Rattle.entry_codes.specs.declared.Plain.the-variants as P
 use Rattle.entry_codes.specs.declared.Taking.{Taking}
 use Rattle.entry_codes.specs.declared.Taking.the-variants as T
-use Rattle.entry_codes.specs.Calls.{plainLent, takingLent, plainOf, plainIn, unaryOf, unaryCall, setIn, setOf, setCall, takingOf, takingIn, withOf, withCall, oneIn, oneOf, oneCall}
+use Rattle.entry_codes.specs.Calls.{plainLent, takingLent, plainOf, plainIn, unaryOf, unaryCall, setIn, setOf, setCall, takingOf, takingIn, withOf, withCall, oneIn, oneOf, oneCall, oneLengths, setLengths}
 
 -- r is what the code found: the operation, or none
 module _ (op : ℕ) {r : Plain} (c : Column) (e : plainLent r ≡ unaryOf op) where
@@ -48,6 +49,14 @@ module _ (op : ℕ) {r : Taking} (c : Column) (x y z : Arguments) (e : takingLen
   unfolding oneCall onLent takingLent
   list-code h = rw (← e, h)
 
+  pub no-list-lengths : r ≡ T.None → oneLengths op c x y z ≡ absent
+  unfolding oneLengths onLent takingLent
+  no-list-lengths h = rw (← e, h)
+
+  pub list-lengths : {k : ListOp} → r ≡ T.Of k → oneLengths op c x y z ≡ given (listLengths narrow (callOf k c x y z))
+  unfolding oneLengths onLent takingLent
+  list-lengths h = rw (← e, h)
+
 module _ (op : ℕ) {r : Operation} (c d : Column) (e : r ≡ operationOf op) where
   pub one-code : {k : ListOp} → r ≡ S.One k → setCall op c d ≡ absent
   unfolding setCall onLent setOf setIn
@@ -60,6 +69,18 @@ module _ (op : ℕ) {r : Operation} (c d : Column) (e : r ≡ operationOf op) wh
   pub set-code : {k : SetOp} → r ≡ S.Two k → setCall op c d ≡ given (listOutcome narrow (setOp k c d))
   unfolding setCall onLent setOf setIn
   set-code h = rw (← e, h)
+
+  pub one-lengths : {k : ListOp} → r ≡ S.One k → setLengths op c d ≡ absent
+  unfolding setLengths onLent setOf setIn
+  one-lengths h = rw (← e, h)
+
+  pub no-set-lengths : r ≡ S.None → setLengths op c d ≡ absent
+  unfolding setLengths onLent setOf setIn
+  no-set-lengths h = rw (← e, h)
+
+  pub set-lengths : {k : SetOp} → r ≡ S.Two k → setLengths op c d ≡ given (listLengths narrow (setOp k c d))
+  unfolding setLengths onLent setOf setIn
+  set-lengths h = rw (← e, h)
 
 -- ---- the code's own mapping; o is what the table names
 

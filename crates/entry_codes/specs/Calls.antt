@@ -6,6 +6,7 @@ use Rattle.model.specs.Basics.{pick, Lent, absent, given}
 use Rattle.model.specs.Limits.{narrow}
 use Rattle.model.specs.Column.{Row, Column, Arguments}
 use Rattle.model.specs.Form.{Room}
+use Rattle.model.specs.Lengths.{listLengths}
 use Rattle.model.specs.Rows.{unary, setOp, onLent}
 use Rattle.model.specs.Outcome.{Outcome, listOutcome}
 use Rattle.model.specs.declared.Unary.{Unary}
@@ -67,6 +68,9 @@ setOf op = setIn (operationOf op)
 unfoldable pub setCall : ℕ → Column → Column → Lent (Room → Outcome (List Row))
 setCall op c d = onLent (λ k. listOutcome narrow (setOp k c d)) (setOf op)
 
+unfoldable pub setLengths : ℕ → Column → Column → Lent (Outcome Room)
+setLengths op c d = onLent (λ k. listLengths narrow (setOp k c d)) (setOf op)
+
 -- ---- one list, with argument columns or without
 
 unfoldable pub oneIn : Operation → Lent ListOp
@@ -81,6 +85,10 @@ oneOf op = pick (eqb op 11) (given L.Resize) (oneIn (operationOf op))
 -- an operation by its code, of a list and of three argument columns, of which it looks at those that it takes
 unfoldable pub oneCall : ℕ → Column → Arguments → Arguments → Arguments → Lent (Room → Outcome (List Row))
 oneCall op c x y z = onLent (λ k. listOutcome narrow (callOf k c x y z)) (oneOf op)
+
+-- how much to lend for it
+unfoldable pub oneLengths : ℕ → Column → Arguments → Arguments → Arguments → Lent (Outcome Room)
+oneLengths op c x y z = onLent (λ k. listLengths narrow (callOf k c x y z)) (oneOf op)
 
 -- ---- one list, with argument columns
 

@@ -13,12 +13,14 @@ use Rattle.model.specs.Basics.{pick, tab}
 use Rattle.model.specs.Bitmap.{validAt}
 use Rattle.model.specs.Column.{Elem, Row, nullRow, listRow, Column, Arguments, elemAt, offsetAt, lengthAt, rowAt, rowsOf, shownBy, rowCount, count}
 use Rattle.model.specs.Form.{Room, elemsOf, flat}
+use Rattle.model.specs.Lengths.{roomFor, listLengths}
 use Rattle.model.specs.Limits.{narrow, largest}
-use Rattle.model.specs.Outcome.{Outcome, refused, made, gate, fitted, afterThree}
+use Rattle.model.specs.Outcome.{Outcome, refused, made, gate, fitted, afterThree, earlyRefusal, listOutcome}
 use Rattle.model.specs.Refusals.{RowCount, uncounted, counted, rowCountOf, Sum, stopped, sum, plus, andThen, sumOf, sumRefusal, resizeRefusal, orElse, firstOf, refusalOf, sumsRefusal, rowsRefusal}
-use Rattle.model.specs.Rows.{ListCall, Made, madeOf, atRow, rowOf, argumentOf, rowsIn, rowByRow, rowMade, rowsMade}
+use Rattle.model.specs.Rows.{ListCall, onCall, Made, madeOf, atRow, rowOf, argumentOf, rowsIn, rowByRow, rowMade, rowsMade}
 use Rattle.model.proofs.ColumnLaws.{length-rows, row-at}
-use Rattle.model.proofs.OutcomeLaws.{gate-shut}
+use Rattle.model.proofs.EarlyLaws.{early-outcome, early-lengths}
+use Rattle.model.proofs.OutcomeLaws.{gate-open, gate-shut}
 use Rattle.model.proofs.TabLaws.{length-tab, map-tab, tab-ext}
 use Rattle.column.specs.Put.{RoomInˡ}
 use Rattle.fills.proofs.ResizeLaws.{length-resized}
@@ -37,6 +39,7 @@ use Rattle.arguments.specs.Taken.{takenAt, opAt, Serves, Served}
 use Rattle.list_walk.specs.Made.{madeFrom, madeAt, rowMadeAt, refusalAt, callRows, opRefusal, rowsMeasure, callMeasure}
 use Rattle.sums.specs.Sums.{measureOf, countIf, countAt, lastTest, resizeMeasure}
 use Rattle.sums.specs.declared.Measure.the-variants as M
+use Rattle.arguments.proofs.RefusalLaws.{call-shown}
 use Rattle.arguments.proofs.TakenLaws.{taken-own, at-row}
 use Rattle.sums.proofs.SumLaws.{stays}
 use Rattle.list_walk.proofs.RowLaws.{refusal-made, op-le}
@@ -274,3 +277,24 @@ pub after-three : (op : ListOp) (c : Column) (x y z : Arguments) (l : Room) → 
     → afterThree narrow (callOf op (rowsOf c) (shownBy x) (shownBy y) (shownBy z)) l ≡ gate (rowsRefusal narrow (callOf op (rowsOf c) (shownBy x) (shownBy y) (shownBy z))) (fitted (callRows op c x y z) l)
 unfolding afterThree
 after-three op c x y z l s = rw (rows-made op c x y z s)
+
+-- ---- a call that is refused early, or goes on; k is what the code found
+
+module _ (op : ListOp) (c : Column) (x y z : Arguments) (k : ℕ) (e : k ≡ earlyRefusal (callOf op c x y z)) where
+  abbrev shownCall : ListCall (List Row) (List Elem)
+  shownCall = callOf op (rowsOf c) (shownBy x) (shownBy y) (shownBy z)
+
+  pub run-early : (l : Room) → (k ≡ 0 → ⊥) → listOutcome narrow (callOf op c x y z) l ≡ refused k
+  run-early l h = early-outcome narrow (callOf op c x y z) l ∙ rw (← e) (gate-shut k (afterThree narrow (onCall rowsOf shownBy (callOf op c x y z)) l) h)
+
+  pub run-goes : (l : Room) → k ≡ 0 → listOutcome narrow (callOf op c x y z) l ≡ afterThree narrow shownCall l
+  run-goes l h = early-outcome narrow (callOf op c x y z) l ∙ gate-open (earlyRefusal (callOf op c x y z)) (afterThree narrow (onCall rowsOf shownBy (callOf op c x y z)) l) (sym e ∙ h) ∙ rw (call-shown op c x y z)
+
+  pub lengths-early : (k ≡ 0 → ⊥) → refused k ≡ listLengths narrow (callOf op c x y z)
+  lengths-early h = sym (early-lengths narrow (callOf op c x y z) ∙ rw (← e) (gate-shut k _ h))
+
+  pub lengths-go : k ≡ 0 → Served op (rowCount (c .offsets)) x y z → listLengths narrow (callOf op c x y z) ≡ gate (rowsRefusal narrow shownCall) (made (roomFor (rowCount (c .offsets)) (length (flat (callRows op c x y z)))))
+  lengths-go h s =
+      early-lengths narrow (callOf op c x y z)
+      ∙ gate-open (earlyRefusal (callOf op c x y z)) _ (sym e ∙ h)
+      ∙ rw (call-shown op c x y z, rows-made op c x y z s, length-call op c x y z)

@@ -13,7 +13,8 @@ use Rattle.ops.specs.Ops.{isResize, opMade}
 use Rattle.ops.specs.declared.ListOp.{ListOp}
 use Rattle.ops.specs.declared.RowOp.{RowOp}
 use Rattle.ops.specs.declared.RowOp.the-variants as R
-use Rattle.arguments.specs.Taken.{opAt}
+use Rattle.arguments.specs.Taken.{Served, opAt}
+use Rattle.column.specs.Put.{Readable}
 use Rattle.sums.specs.Sums.{measureOf, resizeMeasure}
 use Rattle.sums.specs.declared.Measure.{Measure}
 
@@ -50,3 +51,8 @@ rowsMeasure op c x y z = measureOf (gate (firstOf (tab (refusalAt op c x y z) 0 
 
 unfoldable pub callMeasure : ListOp → Column → Arguments → Arguments → Arguments → Measure
 callMeasure op c x y z = pick (isResize op) (resizeMeasure (c .rows) x (rowCount (c .offsets))) (rowsMeasure op c x y z)
+
+-- refusals 13, 1, 2 and 3 have passed: the list can be read, and so can the argument columns that are taken
+pub record Begun (op : ListOp) (c : Column) (x y z : Arguments) : Type 0 where
+  pub column : Readable c
+  pub arguments : Served op (rowCount (c .offsets)) x y z

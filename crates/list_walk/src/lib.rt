@@ -5,20 +5,23 @@ mod totals;
 use arguments::taken;
 use column::offsets;
 use model::ListAnswer;
+use model::ListLengths;
 use ops::ListOp;
 use ops::RowOp;
 use sums::Measure;
 ghost use Prim.Native.Nat.{_<_, _≤_};
-ghost use Rattle.list_walk.specs.Made.{callRows};
+ghost use Rattle.list_walk.specs.Made.{Begun, callRows};
 ghost use Rattle.arguments.specs.Taken.{Served};
 ghost use Rattle.column.specs.Outputs.{Fills, ReadableElems, RoomForRow, RoomIn, WritesRow};
 ghost use Rattle.column.specs.Put.{Readable};
+ghost use Rattle.model.specs.Asked.{askedList};
 ghost use Rattle.model.specs.Column.{rowCount, rowsOf, shownBy};
 ghost use Rattle.model.specs.Contract.{ListAnswers};
 ghost use Rattle.model.specs.Form.{flat};
 ghost use Rattle.model.specs.Inner.{nowColumn, nowArguments, nowElems, lentArgumentsFrom, lentElems, lentFrom};
+ghost use Rattle.model.specs.Lengths.{listLengths};
 ghost use Rattle.model.specs.Limits.{narrow};
-ghost use Rattle.model.specs.Outcome.{afterThree, fitted, listOutcome};
+ghost use Rattle.model.specs.Outcome.{afterThree, earlyRefusal, fitted, listOutcome};
 ghost use Rattle.model.specs.Rows.{rowMade};
 ghost use Rattle.ops.specs.Ops.{callOf, opMade};
 ghost use Rattle.row_ops.specs.Doable.{Doable};
@@ -178,6 +181,68 @@ pub fn after_three(
     }
 }
 
+// Refusals 13, 1, 2 and 3 of an operation on one list; 0 where none applies, and its columns can be read.
+#[rattlefmt::skip]
+fn early(
+    op: ListOp,
+    offsets: &[i32], rows: &[u8], rstart: usize, values: &[i64], elements: &[u8], estart: usize,
+    xs: &[i64], xbits: &[u8], xstart: usize,
+    ys: &[i64], ybits: &[u8], ystart: usize,
+    zs: &[i64], zbits: &[u8], zstart: usize,
+) -> u8
+    ensures { λ k. ⌜ k ≡ earlyRefusal (callOf op (lentFrom offsets rows rstart values elements estart) (lentArgumentsFrom xs xbits xstart) (lentArgumentsFrom ys ybits ystart) (lentArgumentsFrom zs zbits zstart)) ⌝ }
+    ensures { λ k. ⌜ (k ≡ 0 → Begun op (lentFrom offsets rows rstart values elements estart) (lentArgumentsFrom xs xbits xstart) (lentArgumentsFrom ys ybits ystart) (lentArgumentsFrom zs zbits zstart)) ⌝ }
+{
+    if taken::is_start_over(op, xstart, ystart, zstart) {
+        return 13;
+    }
+    let k = checks::list_refusal(offsets, rows, rstart, values, elements, estart);
+    if k != 0 {
+        return k;
+    }
+    taken::arguments_refusal(
+        op,
+        offsets::row_count(offsets),
+        xs, xbits, xstart,
+        ys, ybits, ystart,
+        zs, zbits, zstart,
+    )
+}
+
+// The lengths of the slices that the operation needs, or its refusal: the first walk of the run, and nothing is written.
+#[rattlefmt::skip]
+pub fn lengths(
+    op: ListOp,
+    offsets: &[i32], rows: &[u8], rstart: usize, values: &[i64], elements: &[u8], estart: usize,
+    xs: &[i64], xbits: &[u8], xstart: usize,
+    ys: &[i64], ybits: &[u8], ystart: usize,
+    zs: &[i64], zbits: &[u8], zstart: usize,
+) -> ListLengths
+    ensures { λ a. ⌜ askedList a ≡ listLengths narrow (callOf op (lentFrom offsets rows rstart values elements estart) (lentArgumentsFrom xs xbits xstart) (lentArgumentsFrom ys ybits ystart) (lentArgumentsFrom zs zbits zstart)) ⌝ }
+{
+    let k = early(
+        op,
+        offsets, rows, rstart, values, elements, estart,
+        xs, xbits, xstart,
+        ys, ybits, ystart,
+        zs, zbits, zstart,
+    );
+    if k != 0 {
+        return ListLengths::Refused(k);
+    }
+    let total = totals::total(
+        op,
+        offsets, rows, rstart, values, elements, estart,
+        xs, xbits, xstart,
+        ys, ybits, ystart,
+        zs, zbits, zstart,
+    );
+    match total {
+        Measure::Refused(j) => ListLengths::Refused(j),
+        Measure::Sum(m) => checks::lengths_for(offsets::row_count(offsets), m),
+    }
+}
+
 // Checks the columns and the outputs, and writes what the operation makes.
 #[rattlefmt::skip]
 pub fn run(
@@ -190,22 +255,15 @@ pub fn run(
 ) -> ListAnswer
     ensures { λ k. ⌜ ListAnswers (listOutcome narrow (callOf op (lentFrom offsets rows rstart values elements estart) (lentArgumentsFrom xs xbits xstart) (lentArgumentsFrom ys ybits ystart) (lentArgumentsFrom zs zbits zstart))) k «out_offsets» «out_rows» «out_values» «out_elements» ⌝ }
 {
-    if taken::is_start_over(op, xstart, ystart, zstart) {
-        return ListAnswer::Refused(13);
-    }
-    let k = checks::list_refusal(offsets, rows, rstart, values, elements, estart);
-    if k != 0 {
-        return ListAnswer::Refused(k);
-    }
-    let j = taken::arguments_refusal(
+    let k = early(
         op,
-        offsets::row_count(offsets),
+        offsets, rows, rstart, values, elements, estart,
         xs, xbits, xstart,
         ys, ybits, ystart,
         zs, zbits, zstart,
     );
-    if j != 0 {
-        return ListAnswer::Refused(j);
+    if k != 0 {
+        return ListAnswer::Refused(k);
     }
     after_three(
         op,

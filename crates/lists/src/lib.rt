@@ -1,4 +1,6 @@
 // The operations, under the names and in the files of the Rust that they come from. No public function asks anything of its caller.
+// Beside each, under its name with _lengths, is what tells the lengths of the slices to lend for it: it refuses as the operation does
+// before 9, and writes nothing.
 pub mod extract;
 mod plain;
 pub mod remove;

@@ -1,10 +1,14 @@
 // List-repeat: each list as many times as its count says.
 // After repeat.rs of datafusion-functions-nested 55.2.0, Apache License 2.0, Apache Software Foundation; changed, see NOTICE.
 use model::RepeatAnswer;
+use model::RepeatLengths;
+ghost use Rattle.model.specs.Asked.{askedRepeat};
 ghost use Rattle.model.specs.Contract.{RepeatAnswers};
 ghost use Rattle.model.specs.Inner.{lentArgumentsFrom, lentFrom};
+ghost use Rattle.model.specs.Lengths.{repeatLengths};
 ghost use Rattle.model.specs.Limits.{narrow};
 ghost use Rattle.model.specs.Outcome.{repeatOutcome};
+ghost use mathlib.Core.Path.{_≡_};
 
 #[rattlefmt::skip]
 pub fn general_list_repeat(
@@ -22,5 +26,18 @@ pub fn general_list_repeat(
         out_offsets, out_rows,
         inner_offsets, inner_rows,
         out_values, out_elements,
+    )
+}
+
+#[rattlefmt::skip]
+pub fn general_list_repeat_lengths(
+    offsets: &[i32], rows: &[u8], rows_start: usize, values: &[i64], elements: &[u8], elements_start: usize,
+    count_array: &[i64], count_bits: &[u8], count_start: usize,
+) -> RepeatLengths
+    ensures { λ a. ⌜ askedRepeat a ≡ repeatLengths narrow (lentFrom offsets rows «rows_start» values elements «elements_start») (lentArgumentsFrom «count_array» «count_bits» «count_start») ⌝ }
+{
+    repeat_walk::lengths(
+        offsets, rows, rows_start, values, elements, elements_start,
+        count_array, count_bits, count_start,
     )
 }

@@ -9,7 +9,8 @@ use Rattle.model.specs.Column.{Column, Arguments, rowsOf, shownBy, Equal
 use Rattle.model.specs.Rows.{ListCall, onLent, onCall}
 use Rattle.model.specs.Outcome.{listOutcome, anyValueOutcome, elementOutcome, repeatOutcome}
 use Rattle.model.specs.Recipe.{recipeShown, recipeOutcome}
-use Rattle.model.specs.Call.{Call, list, anyValue, element, listRepeat, recipe, End, shown, listsOf, argumentsOf, end, endShown, Formed, SameLent, sameAbsent, sameGiven, SameCall, sameUnary, sameSetOp, sameSlice, sameResize, sameReplace, sameRemove, Alike, alikeList, alikeAnyValue, alikeElement, alikeListRepeat, alikeRecipe}
+use Rattle.model.specs.Lengths.{listLengths, anyValueLengths, elementLengths, repeatLengths, recipeLimits, recipeLimitsShown}
+use Rattle.model.specs.Call.{Call, list, anyValue, element, listRepeat, recipe, measureList, measureAnyValue, measureElement, measureRepeat, limitRecipe, End, shown, listsOf, argumentsOf, end, endShown, Formed, SameLent, sameAbsent, sameGiven, SameCall, sameUnary, sameSetOp, sameSlice, sameResize, sameReplace, sameRemove, Alike, alikeList, alikeAnyValue, alikeElement, alikeListRepeat, alikeRecipe, alikeMeasureList, alikeMeasureAnyValue, alikeMeasureElement, alikeMeasureRepeat, alikeLimitRecipe}
 use Rattle.model.specs.Run.{Run}
 use Rattle.model.proofs.ColumnLaws.{same-rows, same-arguments, no-units}
 use Rattle.model.proofs.OutcomeLaws.{formed-columns, gate-open}
@@ -37,15 +38,25 @@ same-shown (alikeAnyValue l e) = cc (same-rows e)
 same-shown (alikeElement l e f) = cc (same-rows e, same-arguments f)
 same-shown (alikeListRepeat l e f) = cc (same-rows e, same-arguments f)
 same-shown (alikeRecipe s p a b o t e f g) = cc (same-rows e, same-rows f, same-arguments g)
+same-shown (alikeMeasureList s) = cc (same-call s)
+same-shown (alikeMeasureAnyValue e) = cc (same-rows e)
+same-shown (alikeMeasureElement e f) = cc (same-rows e, same-arguments f)
+same-shown (alikeMeasureRepeat e f) = cc (same-rows e, same-arguments f)
+same-shown (alikeLimitRecipe p e f g) = cc (same-rows e, same-rows f, same-arguments g)
 
 -- a call on well-formed columns ends in what they show
 from-shown : (L : Limits) (q : Call Column Arguments) → Formed q → end L q ≡ endShown L (shown q)
-unfolding end endShown shown listsOf argumentsOf listOutcome anyValueOutcome elementOutcome repeatOutcome recipeOutcome recipeShown
+unfolding end endShown shown listsOf argumentsOf listOutcome anyValueOutcome elementOutcome repeatOutcome recipeOutcome recipeShown listLengths anyValueLengths elementLengths repeatLengths recipeLimits recipeLimitsShown
 from-shown L (list q l) f = rw (gate-open _ _ (formed-columns (f .lists) (f .arguments)))
 from-shown L (anyValue c l) f = rw (gate-open _ _ (formed-columns (f .lists) (f .arguments)))
 from-shown L (element c a l) f = rw (gate-open _ _ (formed-columns (f .lists) (f .arguments)))
 from-shown L (listRepeat c a l) f = rw (gate-open _ _ (formed-columns (f .lists) (f .arguments)))
 from-shown L (recipe s p c d e a b o t) f = rw (gate-open _ _ (formed-columns (f .lists) (f .arguments)))
+from-shown L (measureList q) f = rw (gate-open _ _ (formed-columns (f .lists) (f .arguments)))
+from-shown L (measureAnyValue c) f = rw (gate-open _ _ (formed-columns (f .lists) (f .arguments)))
+from-shown L (measureElement c a) f = rw (gate-open _ _ (formed-columns (f .lists) (f .arguments)))
+from-shown L (measureRepeat c a) f = rw (gate-open _ _ (formed-columns (f .lists) (f .arguments)))
+from-shown L (limitRecipe p c d e) f = rw (gate-open _ _ (formed-columns (f .lists) (f .arguments)))
 
 -- what demand 3 says of two calls that are alike, the first of which ends in e and the second in e′
 pub record Agree (L : Limits) (q q′ : Call Column Arguments) (e e′ : End) : Type 0 where

@@ -19,25 +19,25 @@ use Rattle.model.specs.declared.Unary.the-variants.{Reverse, Distinct}
 use Rattle.model.specs.declared.SetOp.the-variants.{Union, Intersect}
 
 -- a column: offsets, row bitmap, values, element bitmap; [] for a bitmap is all valid
-abbrev lists : List ℕ → List ℕ → List ℕ → List ℕ → Column
+abbrev pub lists : List ℕ → List ℕ → List ℕ → List ℕ → Column
 lists o r v e = column (map pos o) (from 0 r) (map pos v) (from 0 e)
 
 -- one row of these values
-abbrev row : ℕ → List ℕ → List ℕ → Column
+abbrev pub row : ℕ → List ℕ → List ℕ → Column
 row n v e = lists (0 ∷ n ∷ []) [] v e
 
-abbrev S : Column
+abbrev pub S : Column
 S = row 4 (10 ∷ 20 ∷ 30 ∷ 40 ∷ []) []
 
 -- an argument column of one row: a number, or a null that lies over a number, with the spare bits set
-abbrev one : ℤ → Arguments
+abbrev pub one : ℤ → Arguments
 one z = arguments (z ∷ []) (from 0 [])
 
 abbrev nullOver : ℤ → Arguments
 nullOver z = arguments (z ∷ []) (from 0 (254 ∷ []))
 
 -- −n, for n from 1 on
-abbrev minus : ℕ → ℤ
+abbrev pub minus : ℕ → ℤ
 minus n = negsuc (n - 1)
 
 abbrev room : Room

@@ -3,7 +3,14 @@ pub mod TabLaws
 pub mod ColumnLaws
 pub mod OutcomeLaws
 pub mod FormLaws
+pub mod LengthLaws
+pub mod RowLaws
+pub mod LimitLaws
+pub mod LentEnough
 pub mod RunLaws
 pub mod Agreement
 pub mod Stations
 pub mod Cases
+pub mod LendingCases
+pub mod EarlyLaws
+pub mod AskedLaws

@@ -1,5 +1,5 @@
 -- A run that meets its contract ends in what the definitions say of its call.
-use mathlib.Core.Path.{_≡_, sym}
+use mathlib.Core.Path.{_≡_, sym, ap}
 use mathlib.Core.List.{List, map}
 use Prim.Native.Nat.{ℕ, _+_}
 use native.Mathlib.Omega.{arith}
@@ -12,9 +12,9 @@ use Rattle.model.specs.Column.{Elem, Row, Column, Arguments}
 use Rattle.model.specs.Tally.{Tally, tallied}
 use Rattle.model.specs.Form.{Room, isVal, isRow, valueOf, Outer, isOuter, outerLength, inner, flat, lengthOf, over, offsetsFrom, formOffsets, formRows, formValues, formElements}
 use Rattle.model.specs.Outcome.{Outcome, refused, made}
-use Rattle.model.specs.Call.{Call, answerOf, written, End, listNumbers, listBitmaps, listEnd, valueEnd, repeatEnd, recipeEnd, end}
+use Rattle.model.specs.Call.{Call, answerOf, written, End, listNumbers, listBitmaps, listEnd, valueEnd, repeatEnd, recipeEnd, measureEnd, end}
 use Rattle.model.specs.Contract.{told, toldValue, toldRepeat, ListMeets, ValueMeets, RepeatMeets, Zeroed}
-use Rattle.model.specs.Run.{listRunEnd, valueRunEnd, repeatRunEnd, recipeRunEnd, Run, listRun, anyValueRun, elementRun, repeatRun, recipeRun}
+use Rattle.model.specs.Run.{listRunEnd, valueRunEnd, repeatRunEnd, recipeRunEnd, Run, listRun, anyValueRun, elementRun, repeatRun, recipeRun, measureListRun, measureAnyValueRun, measureElementRun, measureRepeatRun, limitRecipeRun}
 use Rattle.model.specs.declared.ListAnswer.{ListAnswer}
 use Rattle.model.specs.declared.ListAnswer.the-variants as L
 use Rattle.model.specs.declared.RepeatAnswer.{RepeatAnswer}
@@ -98,3 +98,8 @@ run-ends L (anyValueRun h) = value-run _ _ h
 run-ends L (elementRun h) = value-run _ _ h
 run-ends L (repeatRun h) = repeat-run _ _ h
 run-ends L (recipeRun h y z q) = recipe-run _ _ _ _ _ _ _ h y z q
+run-ends L (measureListRun h) = ap measureEnd (h .answer)
+run-ends L (measureAnyValueRun h) = ap measureEnd (h .answer)
+run-ends L (measureElementRun h) = ap measureEnd (h .answer)
+run-ends L (measureRepeatRun h) = ap measureEnd (h .answer)
+run-ends L (limitRecipeRun h) = ap measureEnd (h .answer)

@@ -19,7 +19,7 @@ use Rattle.model.specs.Form.{Room}
 use Rattle.model.specs.Outcome.{Outcome, refused, made, gate}
 use Rattle.model.specs.Recipe.{Recipe, recipeOutcome, stationed}
 use Rattle.model.specs.Tally.{Tally, Sixteen, oneMore, countedAt, Move, finishedAt, refusedAt, nobody, moved, named, outcomeAt, moveOf, tallied, Names, movedAll, Below, While, noMore, still, total, asFinished, asRefused, Grown}
-use Rattle.model.specs.Call.{Call, list, anyValue, element, listRepeat, recipe, End, refusal, answerOf, written, listNumbers, listBitmaps, recipeEnd, end, tallyTaken, moveIn, Chain, listCounts, namesStation, accepted, finishedBy, refusedBy}
+use Rattle.model.specs.Call.{Call, list, anyValue, element, listRepeat, recipe, measureList, measureAnyValue, measureElement, measureRepeat, limitRecipe, End, refusal, answerOf, written, listNumbers, listBitmaps, recipeEnd, end, tallyTaken, moveIn, Chain, listCounts, namesStation, accepted, finishedBy, refusedBy}
 use Rattle.model.specs.Call as C
 use Rattle.model.specs.Run.{Run}
 use Rattle.model.proofs.BoolLaws.{never}
@@ -178,6 +178,11 @@ names-in L (anyValue c l) = tt
 names-in L (element c a l) = tt
 names-in L (listRepeat c a l) = tt
 names-in L (recipe s p c d e a b o t) = names-of s _
+names-in L (measureList q) = tt
+names-in L (measureAnyValue c) = tt
+names-in L (measureElement c a) = tt
+names-in L (measureRepeat c a) = tt
+names-in L (limitRecipe p c d e) = tt
 
 all-name : (L : Limits) (qs : List (Call Column Arguments)) → All Names (map (moveIn L) qs)
 all-name L [] = none
@@ -191,6 +196,11 @@ end-moves L (anyValue c l) t h = never cc
 end-moves L (element c a l) t h = never cc
 end-moves L (listRepeat c a l) t h = never cc
 end-moves L (recipe s p c d e a b o t′) t h = cc
+end-moves L (measureList q) t h = never cc
+end-moves L (measureAnyValue c) t h = never cc
+end-moves L (measureElement c a) t h = never cc
+end-moves L (measureRepeat c a) t h = never cc
+end-moves L (limitRecipe p c d e) t h = never cc
 
 chain-moves : (L : Limits) {t u : Tally} {qs : List (Call Column Arguments)} → Chain L t qs u → u ≡ movedAll (map (moveIn L) qs) t
 unfolding movedAll
@@ -212,6 +222,11 @@ module _ (L : Limits) where
   split-finished (anyValue c l) = refl
   split-finished (element c a l) = refl
   split-finished (listRepeat c a l) = refl
+  split-finished (measureList q) = refl
+  split-finished (measureAnyValue c) = refl
+  split-finished (measureElement c a) = refl
+  split-finished (measureRepeat c a) = refl
+  split-finished (limitRecipe p c d e) = refl
   split-finished (recipe s p c d e a b o t) = go (ltb 15 s) (stationed s (recipeOutcome L p c d e a b o))
     where
       go : (b : Bool) (x : Outcome (List Row)) → asFinished (pick b nobody (outcomeAt s x)) ≡ bit (not b && accepted (answerOf listCounts x))
@@ -225,6 +240,11 @@ module _ (L : Limits) where
   split-refused (anyValue c l) = refl
   split-refused (element c a l) = refl
   split-refused (listRepeat c a l) = refl
+  split-refused (measureList q) = refl
+  split-refused (measureAnyValue c) = refl
+  split-refused (measureElement c a) = refl
+  split-refused (measureRepeat c a) = refl
+  split-refused (limitRecipe p c d e) = refl
   split-refused (recipe s p c d e a b o t) = go (ltb 15 s) (stationed s (recipeOutcome L p c d e a b o))
     where
       go : (b : Bool) (x : Outcome (List Row)) → asRefused (pick b nobody (outcomeAt s x)) ≡ bit (not b && not (accepted (answerOf listCounts x)))

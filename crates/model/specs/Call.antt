@@ -15,6 +15,7 @@ use Rattle.model.specs.Rows.{ListCall, unary, setOp, slice, resize, repl
 use Rattle.model.specs.Outcome.{Outcome, refused, made, listOutcome, listShown, anyValueOutcome, anyValueShown, elementOutcome, elementShown, repeatOutcome, repeatShown}
 use Rattle.model.specs.Recipe.{Recipe, recipeOutcome, recipeShown, stationed}
 use Rattle.model.specs.Tally.{Tally, Move, nobody, moveOf, tallied}
+use Rattle.model.specs.Lengths.{TrayLimits, listLengths, listLengthsShown, anyValueLengths, anyValueLengthsShown, elementLengths, elementLengthsShown, repeatLengths, repeatLengthsShown, recipeLimits, recipeLimitsShown}
 use Rattle.model.specs.declared.Unary.{Unary}
 use Rattle.model.specs.declared.SetOp.{SetOp}
 
@@ -27,6 +28,12 @@ pub data Call (C A : Type 0) : Type 0 where
   listRepeat : C → A → RepeatRoom → Call C A
   -- station, recipe, first list, second list, argument columns, tray one, tray two, output
   recipe : ℕ → Recipe → C → C → A → Room → Room → Room → Tally → Call C A
+  -- Note 1 of document 02, how much to lend: what a list operation, any-value, element and list-repeat need, and a recipe's limits
+  measureList : ListCall C A → Call C A
+  measureAnyValue : C → Call C A
+  measureElement : C → A → Call C A
+  measureRepeat : C → A → Call C A
+  limitRecipe : Recipe → C → C → A → Call C A
 
 -- what is shown of a call
 unfoldable pub shown : Call Column Arguments → Call (List Row) (List Elem)
@@ -35,6 +42,11 @@ shown (anyValue c l) = anyValue (rowsOf c) l
 shown (element c a l) = element (rowsOf c) (shownBy a) l
 shown (listRepeat c a l) = listRepeat (rowsOf c) (shownBy a) l
 shown (recipe s p c d e a b o t) = recipe s p (rowsOf c) (rowsOf d) (shownBy e) a b o t
+shown (measureList q) = measureList (onCall rowsOf shownBy q)
+shown (measureAnyValue c) = measureAnyValue (rowsOf c)
+shown (measureElement c a) = measureElement (rowsOf c) (shownBy a)
+shown (measureRepeat c a) = measureRepeat (rowsOf c) (shownBy a)
+shown (limitRecipe p c d e) = limitRecipe p (rowsOf c) (rowsOf d) (shownBy e)
 
 unfoldable pub listsOf : {C A : Type 0} → Call C A → List C
 listsOf (list q l) = listsIn q
@@ -42,6 +54,11 @@ listsOf (anyValue c l) = c ∷ []
 listsOf (element c a l) = c ∷ []
 listsOf (listRepeat c a l) = c ∷ []
 listsOf (recipe s p c d e a b o t) = c ∷ d ∷ []
+listsOf (measureList q) = listsIn q
+listsOf (measureAnyValue c) = c ∷ []
+listsOf (measureElement c a) = c ∷ []
+listsOf (measureRepeat c a) = c ∷ []
+listsOf (limitRecipe p c d e) = c ∷ d ∷ []
 
 unfoldable pub argumentsOf : {C A : Type 0} → Call C A → List A
 argumentsOf (list q l) = argumentsIn q
@@ -49,6 +66,11 @@ argumentsOf (anyValue c l) = []
 argumentsOf (element c a l) = a ∷ []
 argumentsOf (listRepeat c a l) = a ∷ []
 argumentsOf (recipe s p c d e a b o t) = e ∷ []
+argumentsOf (measureList q) = argumentsIn q
+argumentsOf (measureAnyValue c) = []
+argumentsOf (measureElement c a) = a ∷ []
+argumentsOf (measureRepeat c a) = a ∷ []
+argumentsOf (limitRecipe p c d e) = e ∷ []
 
 -- an answer: the number of a refusal, or all counts
 pub data Answer : Type 0 where
@@ -67,6 +89,19 @@ valueCounts es = length es ∷ nullElems es ∷ []
 abbrev pub repeatCounts : List Outer → List ℕ
 repeatCounts os =
     length os ∷ length (flat (inner os)) ∷ nulls (map isOuter os) ∷ nullElems (flat (inner os)) ∷ length (inner os) ∷ nullRows (inner os) ∷ []
+
+-- a measure's counts are the lengths that are needed, slice by slice, and a recipe's limits those of tray one, tray two and the output
+abbrev pub roomCounts : Room → List ℕ
+roomCounts l = l .offsets ∷ l .rows ∷ l .values ∷ l .elements ∷ []
+
+abbrev pub valueRoomCounts : ValueRoom → List ℕ
+valueRoomCounts l = l .values ∷ l .rows ∷ []
+
+abbrev pub repeatRoomCounts : RepeatRoom → List ℕ
+repeatRoomCounts l = l .outer-offsets ∷ l .outer-rows ∷ roomCounts (l .lists)
+
+abbrev pub limitCounts : TrayLimits → List ℕ
+limitCounts m = m .one ∷ m .two ∷ m .output ∷ []
 
 -- the answer of an outcome
 unfoldable pub answerOf : {A : Type 0} → (A → List ℕ) → Outcome A → Answer
@@ -122,6 +157,10 @@ recipeEnd s x a b t =
       tally = given (tallied s x t);
     }
 
+-- "without writing a result", and limits "move no tally"
+abbrev pub measureEnd : Answer → End
+measureEnd a = operationEnd a [] []
+
 -- what a call ends in, from the columns lent: contracts name the same outcomes
 unfoldable pub end : Limits → Call Column Arguments → End
 end L (list q l) = listEnd (listOutcome L q l)
@@ -129,6 +168,11 @@ end L (anyValue c l) = valueEnd (anyValueOutcome c l)
 end L (element c a l) = valueEnd (elementOutcome L c a l)
 end L (listRepeat c a l) = repeatEnd (repeatOutcome L c a l)
 end L (recipe s p c d e a b o t) = recipeEnd s (stationed s (recipeOutcome L p c d e a b o)) a b t
+end L (measureList q) = measureEnd (answerOf roomCounts (listLengths L q))
+end L (measureAnyValue c) = measureEnd (answerOf valueRoomCounts (anyValueLengths c))
+end L (measureElement c a) = measureEnd (answerOf valueRoomCounts (elementLengths L c a))
+end L (measureRepeat c a) = measureEnd (answerOf repeatRoomCounts (repeatLengths L c a))
+end L (limitRecipe p c d e) = measureEnd (answerOf limitCounts (recipeLimits L p c d e))
 
 -- what demand 2's definitions give from what is shown alone
 unfoldable pub endShown : Limits → Call (List Row) (List Elem) → End
@@ -137,6 +181,11 @@ endShown L (anyValue ws l) = valueEnd (anyValueShown ws l)
 endShown L (element ws is l) = valueEnd (elementShown L ws is l)
 endShown L (listRepeat ws ns l) = repeatEnd (repeatShown L ws ns l)
 endShown L (recipe s p ws rs es a b o t) = recipeEnd s (stationed s (recipeShown L p ws rs es a b o)) a b t
+endShown L (measureList q) = measureEnd (answerOf roomCounts (listLengthsShown L q))
+endShown L (measureAnyValue ws) = measureEnd (answerOf valueRoomCounts (anyValueLengthsShown ws))
+endShown L (measureElement ws is) = measureEnd (answerOf valueRoomCounts (elementLengthsShown L ws is))
+endShown L (measureRepeat ws ns) = measureEnd (answerOf repeatRoomCounts (repeatLengthsShown L ws ns))
+endShown L (limitRecipe p ws rs es) = measureEnd (answerOf limitCounts (recipeLimitsShown L p ws rs es))
 
 -- "If they start from well-formed columns"
 pub record Formed (q : Call Column Arguments) : Type 0 where
@@ -165,6 +214,11 @@ pub data Alike : Call Column Arguments → Call Column Arguments → Type 0 wher
   alikeElement : {c d : Column} {a b : Arguments} (l : ValueRoom) → EqualRows c d → EqualArguments a b → Alike (element c a l) (element d b l)
   alikeListRepeat : {c d : Column} {a b : Arguments} (l : RepeatRoom) → EqualRows c d → EqualArguments a b → Alike (listRepeat c a l) (listRepeat d b l)
   alikeRecipe : {c c′ d d′ : Column} {e e′ : Arguments} (s : ℕ) (p : Recipe) (a b o : Room) (t : Tally) → EqualRows c c′ → EqualRows d d′ → EqualArguments e e′ → Alike (recipe s p c d e a b o t) (recipe s p c′ d′ e′ a b o t)
+  alikeMeasureList : {q q′ : ListCall Column Arguments} → SameCall q q′ → Alike (measureList q) (measureList q′)
+  alikeMeasureAnyValue : {c d : Column} → EqualRows c d → Alike (measureAnyValue c) (measureAnyValue d)
+  alikeMeasureElement : {c d : Column} {a b : Arguments} → EqualRows c d → EqualArguments a b → Alike (measureElement c a) (measureElement d b)
+  alikeMeasureRepeat : {c d : Column} {a b : Arguments} → EqualRows c d → EqualArguments a b → Alike (measureRepeat c a) (measureRepeat d b)
+  alikeLimitRecipe : {c c′ d d′ : Column} {e e′ : Arguments} (p : Recipe) → EqualRows c c′ → EqualRows d d′ → EqualArguments e e′ → Alike (limitRecipe p c d e) (limitRecipe p c′ d′ e′)
 
 -- the tally that a call takes
 unfoldable pub tallyTaken : {C A : Type 0} → Call C A → Lent Tally
@@ -173,6 +227,11 @@ tallyTaken (anyValue c l) = absent
 tallyTaken (element c a l) = absent
 tallyTaken (listRepeat c a l) = absent
 tallyTaken (recipe s p c d e a b o t) = given t
+tallyTaken (measureList q) = absent
+tallyTaken (measureAnyValue c) = absent
+tallyTaken (measureElement c a) = absent
+tallyTaken (measureRepeat c a) = absent
+tallyTaken (limitRecipe p c d e) = absent
 
 -- what a call does to it
 unfoldable pub moveIn : Limits → Call Column Arguments → Move
@@ -181,6 +240,11 @@ moveIn L (anyValue c l) = nobody
 moveIn L (element c a l) = nobody
 moveIn L (listRepeat c a l) = nobody
 moveIn L (recipe s p c d e a b o t) = moveOf s (stationed s (recipeOutcome L p c d e a b o))
+moveIn L (measureList q) = nobody
+moveIn L (measureAnyValue c) = nobody
+moveIn L (measureElement c a) = nobody
+moveIn L (measureRepeat c a) = nobody
+moveIn L (limitRecipe p c d e) = nobody
 
 -- does a call name one of the sixteen stations
 unfoldable pub namesStation : {C A : Type 0} → Call C A → Bool
@@ -189,6 +253,11 @@ namesStation (anyValue c l) = false
 namesStation (element c a l) = false
 namesStation (listRepeat c a l) = false
 namesStation (recipe s p c d e a b o t) = not (ltb 15 s)
+namesStation (measureList q) = false
+namesStation (measureAnyValue c) = false
+namesStation (measureElement c a) = false
+namesStation (measureRepeat c a) = false
+namesStation (limitRecipe p c d e) = false
 
 unfoldable pub accepted : Answer → Bool
 accepted (refusal k) = false

@@ -10,7 +10,8 @@ use Rattle.model.specs.Bitmap.{pack}
 use Rattle.model.specs.Column.{Elem, Row, Arguments}
 use Rattle.model.specs.Form.{Room, ValueRoom, RepeatRoom, Outer, isOuter, outerLength, inner, flat, over, offsetsFrom, formOffsets, formRows, formValues, formElements}
 use Rattle.model.specs.Outcome.{Outcome}
-use Rattle.model.specs.Call.{Answer, refusal, counts, answerOf, written, listCounts, valueCounts, repeatCounts}
+use Rattle.model.specs.Lengths.{TrayLimits}
+use Rattle.model.specs.Call.{Answer, refusal, counts, answerOf, written, listCounts, valueCounts, repeatCounts, roomCounts, valueRoomCounts, repeatRoomCounts, limitCounts}
 use Rattle.model.specs.declared.ListAnswer.{ListAnswer}
 use Rattle.model.specs.declared.ListAnswer.the-variants as L
 use Rattle.model.specs.Basics.{Lent, absent, given}
@@ -20,6 +21,14 @@ use Rattle.model.specs.declared.RepeatAnswer.{RepeatAnswer}
 use Rattle.model.specs.declared.RepeatAnswer.the-variants as R
 use Rattle.model.specs.declared.ValueAnswer.{ValueAnswer}
 use Rattle.model.specs.declared.ValueAnswer.the-variants as V′
+use Rattle.model.specs.declared.ListLengths.{ListLengths}
+use Rattle.model.specs.declared.ListLengths.the-variants as LL
+use Rattle.model.specs.declared.RecipeLimits.{RecipeLimits}
+use Rattle.model.specs.declared.RecipeLimits.the-variants as RM
+use Rattle.model.specs.declared.RepeatLengths.{RepeatLengths}
+use Rattle.model.specs.declared.RepeatLengths.the-variants as RL
+use Rattle.model.specs.declared.ValueLengths.{ValueLengths}
+use Rattle.model.specs.declared.ValueLengths.the-variants as VL
 
 -- a slice, at entry and at exit
 abbrev pub Slice : Type 0 → Type 0
@@ -37,6 +46,23 @@ toldValue (V′.Refused k) = refusal k
 unfoldable pub toldRepeat : RepeatAnswer → Answer
 toldRepeat (R.Counts rows elements nulls null-elements inner-rows null-inner) = counts (rows ∷ elements ∷ nulls ∷ null-elements ∷ inner-rows ∷ null-inner ∷ [])
 toldRepeat (R.Refused k) = refusal k
+
+-- the lengths of a measure, and a recipe's limits
+unfoldable pub toldLengths : ListLengths → Answer
+toldLengths (LL.Of offsets rows values elements) = counts (offsets ∷ rows ∷ values ∷ elements ∷ [])
+toldLengths (LL.Refused k) = refusal k
+
+unfoldable pub toldValueLengths : ValueLengths → Answer
+toldValueLengths (VL.Of values rows) = counts (values ∷ rows ∷ [])
+toldValueLengths (VL.Refused k) = refusal k
+
+unfoldable pub toldRepeatLengths : RepeatLengths → Answer
+toldRepeatLengths (RL.Of offsets rows inner-offsets inner-rows values elements) = counts (offsets ∷ rows ∷ inner-offsets ∷ inner-rows ∷ values ∷ elements ∷ [])
+toldRepeatLengths (RL.Refused k) = refusal k
+
+unfoldable pub toldLimits : RecipeLimits → Answer
+toldLimits (RM.Of one two output) = counts (one ∷ two ∷ output ∷ [])
+toldLimits (RM.Refused k) = refusal k
 
 -- an output slice after the call: "Slots past the result keep their content.", and a refused call writes none
 abbrev pub after : {A B : Type 0} → (A → List B) → Outcome A → List B → List B
@@ -115,3 +141,16 @@ pub record Zeroed (l : Room) (o : List ℤ) (r : List ℕ) (v : List ℤ) (e : L
 abbrev pub Clears : Slice ℤ → Slice ℕ → Slice ℤ → Slice ℕ → Type 0
 Clears o r v e =
     Zeroed (roomOf o r v e) (now (o .exit)) (now (r .exit)) (now (v .exit)) (now (e .exit))
+
+-- the contracts of the measures and of a recipe's limits: the answer is that of the outcome
+pub record ListMeasures (x : Outcome Room) (a : ListLengths) : Type 0 where
+  pub answer : toldLengths a ≡ answerOf roomCounts x
+
+pub record ValueMeasures (x : Outcome ValueRoom) (a : ValueLengths) : Type 0 where
+  pub answer : toldValueLengths a ≡ answerOf valueRoomCounts x
+
+pub record RepeatMeasures (x : Outcome RepeatRoom) (a : RepeatLengths) : Type 0 where
+  pub answer : toldRepeatLengths a ≡ answerOf repeatRoomCounts x
+
+pub record RecipeLimited (x : Outcome TrayLimits) (a : RecipeLimits) : Type 0 where
+  pub answer : toldLimits a ≡ answerOf limitCounts x

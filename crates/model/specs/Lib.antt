@@ -10,7 +10,9 @@ pub mod Refusals
 pub mod Outcome
 pub mod Recipe
 pub mod Tally
+pub mod Lengths
 pub mod Call
 pub mod Contract
 pub mod Inner
 pub mod Run
+pub mod Asked

@@ -9,7 +9,7 @@ use Rattle.model.specs.Limits.{Limits}
 use Rattle.model.specs.Column.{Elem, Row, Column, Arguments, rowsOf, shownBy, refusal13, refusal13ᵃ, refusal1, refusal2, refusal2ᵃ}
 use Rattle.model.specs.Form.{Room, ValueRoom, RepeatRoom, Outer, flat, fitsIn, fitsValues, fitsRepeat}
 use Rattle.model.specs.Rows.{ListCall, onCall, listsIn, argumentsIn, rowsMade, rowOf, argumentOf, anyValueOf, elementOf, repeatOf}
-use Rattle.model.specs.Refusals.{differs, unequal, firstOf, rowsRefusal, elementRefusal, repeatRefusal}
+use Rattle.model.specs.Refusals.{orElse, differs, unequal, firstOf, rowsRefusal, elementRefusal, repeatRefusal}
 
 -- the number of a refusal, or what was made
 pub data Outcome (A : Type 0) : Type 0 where
@@ -68,6 +68,10 @@ repeatShown L ws ns l = gate (pick (differs (length ws) ns) 3 0) (gate (repeatRe
 -- the operations on the columns lent: 13, 1 and 2, and then what is shown decides
 unfoldable pub listOutcome : Limits → ListCall Column Arguments → Room → Outcome (List Row)
 listOutcome L q l = gate (columnsRefusal (listsIn q) (argumentsIn q)) (listShown L (onCall rowsOf shownBy q) l)
+
+-- all that comes before a list operation's rows: 13, 1 and 2, then 3
+unfoldable pub earlyRefusal : ListCall Column Arguments → ℕ
+earlyRefusal q = orElse (columnsRefusal (listsIn q) (argumentsIn q)) (pick (unequal (onCall rowsOf shownBy q)) 3 0)
 
 unfoldable pub anyValueOutcome : Column → ValueRoom → Outcome (List Elem)
 anyValueOutcome c l = gate (columnsRefusal (c ∷ []) []) (anyValueShown (rowsOf c) l)

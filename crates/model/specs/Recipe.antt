@@ -58,8 +58,9 @@ malformed p =
 abbrev pub columnOf : List Elem → ℕ → ℕ → List Elem
 columnOf es n k = tab (λ r. getD es (k * n + r) nul) 0 n
 
--- "Codes: 0 reverse, 1 distinct, 2 pop front, 3 pop back, 4 slice .., 9 union, 10 intersect." (A code over 10 is refused before.)
-unfoldable pub codeCall : ℕ → List Row → List Row → List Elem → List Elem → List Elem → ListCall (List Row) (List Elem)
+-- "Codes: 0 reverse, 1 distinct, 2 pop front, 3 pop back, 4 slice .., 9 union, 10 intersect." (A code over 10 is refused before.) The table
+-- serves the run, on rows, and its limits, on numbers of elements.
+unfoldable pub codeCall : {C A : Type 0} → ℕ → C → C → A → A → A → ListCall C A
 codeCall code ws rs a b c =
     getD
     (unary Reverse ws

@@ -12,8 +12,9 @@ use Rattle.model.specs.Column.{Column, Arguments}
 use Rattle.model.specs.Form.{Room, ValueRoom, RepeatRoom}
 use Rattle.model.specs.Rows.{ListCall}
 use Rattle.model.specs.Outcome.{listOutcome, anyValueOutcome, elementOutcome, repeatOutcome}
-use Rattle.model.specs.Call.{Call, list, anyValue, element, listRepeat, recipe, End, refusal, counts, operationEnd}
-use Rattle.model.specs.Contract.{ListMeets, ValueMeets, RepeatMeets, Zeroed}
+use Rattle.model.specs.Call.{Call, list, anyValue, element, listRepeat, recipe, measureList, measureAnyValue, measureElement, measureRepeat, limitRecipe, End, refusal, counts, operationEnd, measureEnd}
+use Rattle.model.specs.Contract.{ListMeets, ValueMeets, RepeatMeets, Zeroed, toldLengths, toldValueLengths, toldRepeatLengths, toldLimits, ListMeasures, ValueMeasures, RepeatMeasures, RecipeLimited}
+use Rattle.model.specs.Lengths.{listLengths, anyValueLengths, elementLengths, repeatLengths, recipeLimits}
 use Rattle.model.specs.Recipe.{Recipe, recipeOutcome, stationed}
 use Rattle.model.specs.Tally.{Tally, tallied}
 use Rattle.model.specs.declared.ListAnswer.{ListAnswer}
@@ -22,6 +23,10 @@ use Rattle.model.specs.declared.RepeatAnswer.{RepeatAnswer}
 use Rattle.model.specs.declared.RepeatAnswer.the-variants as R
 use Rattle.model.specs.declared.ValueAnswer.{ValueAnswer}
 use Rattle.model.specs.declared.ValueAnswer.the-variants as V′
+use Rattle.model.specs.declared.ListLengths.{ListLengths}
+use Rattle.model.specs.declared.RecipeLimits.{RecipeLimits}
+use Rattle.model.specs.declared.RepeatLengths.{RepeatLengths}
+use Rattle.model.specs.declared.ValueLengths.{ValueLengths}
 
 -- "The written results are the slots of each output slice before those; a refused call has none.": as many slots of the offsets,
 -- row bitmap, values and element bitmap as the answer counts
@@ -65,3 +70,9 @@ pub data Run (L : Limits) : Call Column Arguments → End → Type 0 where
   recipeRun : {s : ℕ} {p : Recipe} {c d : Column} {x : Arguments} {l m n : Room} {t t′ : Tally} {a : ListAnswer} {o o′ : List ℤ} {r r′ : List ℕ} {v v′ : List ℤ} {e e′ : List ℕ} {ao : List ℤ} {ar : List ℕ} {av : List ℤ} {ae : List ℕ} {bo : List ℤ} {br : List ℕ} {bv : List ℤ} {be : List ℕ}
       → ListMeets (stationed s (recipeOutcome L p c d x l m n)) a o o′ r r′ v v′ e e′ → Zeroed l ao ar av ae → Zeroed m bo br bv be → t′ ≡ tallied s (stationed s (recipeOutcome L p c d x l m n)) t
       → Run L (recipe s p c d x l m n t) (recipeRunEnd a o′ r′ v′ e′ ao ar av ae bo br bv be t′)
+  -- a measure writes nothing: its answer is all that its run ends in
+  measureListRun : {q : ListCall Column Arguments} {a : ListLengths} → ListMeasures (listLengths L q) a → Run L (measureList q) (measureEnd (toldLengths a))
+  measureAnyValueRun : {c : Column} {a : ValueLengths} → ValueMeasures (anyValueLengths c) a → Run L (measureAnyValue c) (measureEnd (toldValueLengths a))
+  measureElementRun : {c : Column} {x : Arguments} {a : ValueLengths} → ValueMeasures (elementLengths L c x) a → Run L (measureElement c x) (measureEnd (toldValueLengths a))
+  measureRepeatRun : {c : Column} {x : Arguments} {a : RepeatLengths} → RepeatMeasures (repeatLengths L c x) a → Run L (measureRepeat c x) (measureEnd (toldRepeatLengths a))
+  limitRecipeRun : {p : Recipe} {c d : Column} {x : Arguments} {a : RecipeLimits} → RecipeLimited (recipeLimits L p c d x) a → Run L (limitRecipe p c d x) (measureEnd (toldLimits a))

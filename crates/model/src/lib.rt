@@ -49,3 +49,44 @@ pub enum RepeatAnswer {
     },
     Refused(u8),
 }
+
+// How much to lend for a list answer: the lengths of the offsets, the row bitmap, the values and the element bitmap, or the number of a refusal.
+pub enum ListLengths {
+    Of {
+        offsets: usize,
+        rows: usize,
+        values: usize,
+        elements: usize,
+    },
+    Refused(u8),
+}
+
+// How much to lend for one value a row: the lengths of the values and their bitmap, or the number of a refusal.
+pub enum ValueLengths {
+    Of { values: usize, rows: usize },
+    Refused(u8),
+}
+
+// How much to lend for list-repeat: the lengths of the outer offsets and row bitmap, the inner ones, the values and the element bitmap, or the
+// number of a refusal.
+pub enum RepeatLengths {
+    Of {
+        offsets: usize,
+        rows: usize,
+        inner_offsets: usize,
+        inner_rows: usize,
+        values: usize,
+        elements: usize,
+    },
+    Refused(u8),
+}
+
+// The most elements that a recipe brings into tray one, tray two and the output, or the number of a refusal.
+pub enum RecipeLimits {
+    Of {
+        one: usize,
+        two: usize,
+        output: usize,
+    },
+    Refused(u8),
+}

@@ -8,22 +8,24 @@ use borrow.Author.Tests.{eq-eqb, ne-eqb, ltb-false}
 use lib.Dec.{ltb}
 use lib.IntN.{ℤ, pos}
 use lib.ListN.{length, getD, replicate, length-append, length-replicate}
-use Rattle.model.specs.Basics.{pick, tab}
+use Rattle.model.specs.Basics.{pick, tab, any}
 use Rattle.model.specs.Bitmap.{Bits, validAt, shortBits}
-use Rattle.model.specs.Column.{Elem, nul, val, Row, Column, Arguments, elemAt, rowAt, rowsOf, shownBy, rowCount, offsetAt}
+use Rattle.model.specs.Column.{Elem, nul, val, Row, Column, Arguments, elemAt, rowAt, rowsOf, shownBy, rowCount, offsetAt, refusal13ᵃ, refusal2ᵃ}
 use Rattle.model.specs.Form.{isOuter, innerOf, inner, lengthOf, flat, RepeatRoom}
+use Rattle.model.specs.Lengths.{roomOfOuter, repeatLengthsShown, repeatLengths}
 use Rattle.model.specs.Limits.{narrow}
 use Rattle.model.specs.Refusals.{timesOf, repeatedBy, total, repeatRefusal}
 use Rattle.model.specs.Rows.{repeatOf, rowOf, argumentOf}
-use Rattle.model.specs.Outcome.{refused, gate, columnsRefusal, fittedRepeat, repeatsMade, repeatShown, repeatOutcome}
+use Rattle.model.specs.Outcome.{refused, made, gate, columnsRefusal, fittedRepeat, repeatsMade, repeatShown, repeatOutcome}
 use Rattle.model.proofs.TabLaws.{length-tab, tab-ext}
 use Rattle.model.proofs.ColumnLaws.{length-rows, length-shown, by-row}
-use Rattle.model.proofs.OutcomeLaws.{gate-open, beside-starts, beside-early, beside-two, beside-open}
+use Rattle.model.proofs.EarlyLaws.{or-first, gates}
+use Rattle.model.proofs.OutcomeLaws.{gate-open, gate-shut, thirteen-of-arguments, lists-next, arguments-next}
 use Rattle.column.specs.Rows.{rowFrom, lenFrom}
 use Rattle.column.proofs.RowLaws.{elems-from, flat-append}
 use Rattle.column.proofs.WalkLaws.{row-from}
 use Rattle.repeat_walk.specs.Outers.{RoomForOutersˡ}
-use Rattle.repeat_walk.specs.Repeats.{repeatAt, repeatRows}
+use Rattle.repeat_walk.specs.Repeats.{repeatAt, repeatRows, roomForOuter, earlyRepeat}
 use Rattle.repeat_sums.specs.Counts.{timesAt, repeatedAt, sums, sumsOf}
 use Rattle.repeat_sums.specs.declared.Sums.{Sums}
 use Rattle.repeat_sums.specs.declared.Sums.the-variants.{Of, TooMany}
@@ -138,28 +140,7 @@ fit-if false false t v x y e = (refl, refl, ap (λ (s : Sums). one s) e, ap (λ 
     two TooMany = 0
     two (Of a b) = b
 
-module _ (c : Column) (a : Arguments) (l : RepeatRoom) where
-  pub repeat-starts : ltb 7 (a .bits .start) ≡ true → repeatOutcome narrow c a l ≡ refused 13
-  unfolding repeatOutcome
-  repeat-starts h = beside-starts c a _ h
-
-  module _ (s : ltb 7 (a .bits .start) ≡ false) (k : ℕ) (e : k ≡ columnsRefusal (c ∷ []) []) where
-    pub repeat-early : (k ≡ 0 → ⊥) → repeatOutcome narrow c a l ≡ refused k
-    unfolding repeatOutcome
-    repeat-early h = beside-early c a _ s k e h
-
-    pub repeat-two : k ≡ 0 → shortBits (a .bits) (length (a .values)) ≡ true → repeatOutcome narrow c a l ≡ refused 2
-    unfolding repeatOutcome
-    repeat-two h t = beside-two c a _ s k e h t
-
-    pub repeat-shown : k ≡ 0 → shortBits (a .bits) (length (a .values)) ≡ false → repeatOutcome narrow c a l ≡ repeatShown narrow (rowsOf c) (shownBy a) l
-    unfolding repeatOutcome
-    repeat-shown h t = beside-open c a _ s k e h t
-
-  pub repeat-three : (length (a .values) ≡ rowCount (c .offsets) → ⊥) → repeatShown narrow (rowsOf c) (shownBy a) l ≡ refused 3
-  unfolding repeatShown gate
-  repeat-three h = rw (length-rows c, length-shown a, ne-eqb (length (a .values)) (rowCount (c .offsets)) h)
-
+module _ (c : Column) (a : Arguments) where
   abbrev found : Sums
   found = sumsOf (c .offsets) (c .rows) (a .values) (a .bits)
 
@@ -179,18 +160,6 @@ module _ (c : Column) (a : Arguments) (l : RepeatRoom) where
     unfolding repeatRefusal sumsOf
     refuses-eight = rw (times-shown, values-shown) (eight-sums (total (tab (timesAt (a .values) (a .bits)) 0 (rowCount (c .offsets)))) (total (tab (repeatedAt (c .offsets) (c .rows) (a .values) (a .bits)) 0 (rowCount (c .offsets)))))
 
-    goes : repeatShown narrow (rowsOf c) (shownBy a) l ≡ gate (eight found) (fittedRepeat (repeatRows c a) l)
-    unfolding repeatShown
-    goes = rw (length-rows c, length-shown a, eq-eqb (length (a .values)) (rowCount (c .offsets)) e, refuses-eight, made-repeats) (gate-open 0 _ refl)
-
-    pub repeat-eight : TooMany ≡ found → repeatShown narrow (rowsOf c) (shownBy a) l ≡ refused 8
-    unfolding eight gate
-    repeat-eight q = goes ∙ rw (← q)
-
-    pub repeat-goes : (t v : ℕ) → Of t v ≡ found → repeatShown narrow (rowsOf c) (shownBy a) l ≡ fittedRepeat (repeatRows c a) l
-    unfolding eight gate
-    repeat-goes t v q = goes ∙ rw (← q)
-
   -- what the sums that do not exceed 2147483647 are
   pub sums-are : (t v : ℕ) → Of t v ≡ found → (t ≡ length (inner (repeatRows c a))) × (v ≡ length (flat (inner (repeatRows c a)))) × (t ≤ narrow .outer) × (v ≤ narrow .repeated)
   unfolding sumsOf sums
@@ -199,3 +168,77 @@ module _ (c : Column) (a : Arguments) (l : RepeatRoom) where
       let U = total (tab (repeatedAt (c .offsets) (c .rows) (a .values) (a .bits)) 0 (rowCount (c .offsets))) in
       let f = fit-if (ltb (narrow .outer) T) (ltb (narrow .repeated) U) T U t v q in
       (f .2 ∙ sym (lists-are c a), f .3 ∙ sym (values-are c a), rw (f .2) (ltb-false (narrow .outer) T (f .0)), rw (f .3) (ltb-false (narrow .repeated) U (f .1)))
+
+  -- the refusals before the sums
+
+  pub early-starts : ltb 7 (a .bits .start) ≡ true → 13 ≡ earlyRepeat c a
+  unfolding earlyRepeat any refusal13ᵃ
+  early-starts h = rw (thirteen-of-arguments (c ∷ []) (a ∷ []) (rw h))
+
+  module _ (s : ltb 7 (a .bits .start) ≡ false) (k : ℕ) (e : k ≡ columnsRefusal (c ∷ []) []) where
+    not-over : any refusal13ᵃ (a ∷ []) ≡ false
+    unfolding any refusal13ᵃ
+    not-over = rw s
+
+    pub early-list : (k ≡ 0 → ⊥) → k ≡ earlyRepeat c a
+    unfolding earlyRepeat
+    early-list h = rw (lists-next (c ∷ []) (a ∷ []) not-over k e h) (sym (or-first k _ h))
+
+    pub early-two : k ≡ 0 → shortBits (a .bits) (length (a .values)) ≡ true → 2 ≡ earlyRepeat c a
+    unfolding earlyRepeat any refusal2ᵃ
+    early-two h t = rw (arguments-next (c ∷ []) (a ∷ []) not-over k e h, t)
+
+    module _ (h : k ≡ 0) (t : shortBits (a .bits) (length (a .values)) ≡ false) where
+      pub early-three : (length (a .values) ≡ rowCount (c .offsets) → ⊥) → 3 ≡ earlyRepeat c a
+      unfolding earlyRepeat any refusal2ᵃ
+      early-three q = rw (arguments-next (c ∷ []) (a ∷ []) not-over k e h, t, length-rows c, length-shown a, ne-eqb (length (a .values)) (rowCount (c .offsets)) q)
+
+      pub early-none : length (a .values) ≡ rowCount (c .offsets) → 0 ≡ earlyRepeat c a
+      unfolding earlyRepeat any refusal2ᵃ
+      early-none q = rw (arguments-next (c ∷ []) (a ∷ []) not-over k e h, t, length-rows c, length-shown a, eq-eqb (length (a .values)) (rowCount (c .offsets)) q)
+
+  -- the run and the measure both begin with them
+
+  abbrev refusal : ℕ
+  refusal = repeatRefusal narrow (rowsOf c) (shownBy a)
+
+  outcome-is : (l : RepeatRoom) → repeatOutcome narrow c a l ≡ gate (earlyRepeat c a) (gate refusal (fittedRepeat (repeatsMade (rowsOf c) (shownBy a)) l))
+  unfolding repeatOutcome repeatShown earlyRepeat
+  outcome-is l = gates _ _ _
+
+  lengths-are : repeatLengths narrow c a ≡ gate (earlyRepeat c a) (gate refusal (made (roomOfOuter (repeatsMade (rowsOf c) (shownBy a)))))
+  unfolding repeatLengths repeatLengthsShown earlyRepeat
+  lengths-are = gates _ _ _
+
+  -- a call that is refused early, or goes on; k is what the code found
+  module _ (k : ℕ) (e : k ≡ earlyRepeat c a) where
+    pub run-early : (l : RepeatRoom) → (k ≡ 0 → ⊥) → repeatOutcome narrow c a l ≡ refused k
+    run-early l h = outcome-is l ∙ rw (← e) (gate-shut k _ h)
+
+    pub lengths-early : (k ≡ 0 → ⊥) → refused k ≡ repeatLengths narrow c a
+    lengths-early h = sym (lengths-are ∙ rw (← e) (gate-shut k _ h))
+
+    module _ (h : k ≡ 0) (q : length (a .values) ≡ rowCount (c .offsets)) where
+      run-goes : (l : RepeatRoom) → repeatOutcome narrow c a l ≡ gate (eight found) (fittedRepeat (repeatRows c a) l)
+      run-goes l = outcome-is l ∙ gate-open (earlyRepeat c a) _ (sym e ∙ h) ∙ rw (refuses-eight q, made-repeats q)
+
+      lengths-go : repeatLengths narrow c a ≡ gate (eight found) (made (roomOfOuter (repeatRows c a)))
+      lengths-go = lengths-are ∙ gate-open (earlyRepeat c a) _ (sym e ∙ h) ∙ rw (refuses-eight q, made-repeats q)
+
+      module _ (f : TooMany ≡ found) where
+        pub run-eight : (l : RepeatRoom) → repeatOutcome narrow c a l ≡ refused 8
+        unfolding eight gate
+        run-eight l = run-goes l ∙ rw (← f)
+
+        pub lengths-eight : refused 8 ≡ repeatLengths narrow c a
+        unfolding eight gate
+        lengths-eight = sym (lengths-go ∙ rw (← f))
+
+      module _ (t v : ℕ) (f : Of t v ≡ found) where
+        pub run-fits : (l : RepeatRoom) → repeatOutcome narrow c a l ≡ fittedRepeat (repeatRows c a) l
+        unfolding eight gate
+        run-fits l = run-goes l ∙ rw (← f)
+
+        pub lengths-made : (n : ℕ) → n ≡ rowCount (c .offsets) → made (roomForOuter n t v) ≡ repeatLengths narrow c a
+        unfolding eight gate
+        lengths-made n en = let m = sums-are t v f in sym (lengths-go ∙ rw (← f, length-repeats c a, ← m .0, ← m .1, ← en))

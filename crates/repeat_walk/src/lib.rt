@@ -2,6 +2,7 @@
 // After repeat.rs of datafusion-functions-nested 55.2.0, Apache License 2.0, Apache Software Foundation; changed, see NOTICE.
 use column::offsets;
 use model::RepeatAnswer;
+use model::RepeatLengths;
 use repeat_sums::Sums;
 use rows::utils;
 ghost use Prim.Native.Nat.{_+_, _<_, _≤_};
@@ -9,15 +10,17 @@ ghost use Rattle.bitmap.specs.Push.{Covers};
 ghost use Rattle.column.specs.Outputs.{ReadableRow};
 ghost use Rattle.column.specs.Put.{Readable, outs, putRows};
 ghost use Rattle.column.specs.Rows.{rowFrom};
+ghost use Rattle.model.specs.Asked.{askedRepeat};
 ghost use Rattle.model.specs.Bitmap.{bytesFor};
 ghost use Rattle.model.specs.Column.{rowCount};
 ghost use Rattle.model.specs.Contract.{RepeatAnswers, repeatRoom};
 ghost use Rattle.model.specs.Form.{flat, inner};
 ghost use Rattle.model.specs.Inner.{nowColumn, nowArguments, nowBits, nowElem, lentArgumentsFrom, lentBits, lentElem, lentFrom};
-ghost use Rattle.model.specs.Limits.{narrow};
-ghost use Rattle.model.specs.Outcome.{fittedRepeat, repeatOutcome};
+ghost use Rattle.model.specs.Lengths.{repeatLengths};
+ghost use Rattle.model.specs.Limits.{largest, narrow};
+ghost use Rattle.model.specs.Outcome.{fittedRepeat, made, repeatOutcome};
 ghost use Rattle.repeat_walk.specs.Outers.{FillsOuters, RoomForOuters, RoomForRows};
-ghost use Rattle.repeat_walk.specs.Repeats.{fitsCounts, repeatAnswerFrom, repeatRows};
+ghost use Rattle.repeat_walk.specs.Repeats.{Begun, earlyRepeat, fitsCounts, repeatAnswerFrom, repeatRows, roomForOuter};
 ghost use lib.ListN.{length, replicate};
 ghost use mathlib.Core.Path.{_≡_};
 
@@ -119,6 +122,22 @@ fn has_room(
     checks::has_room(lists, m, li, lj, lv, le)
 }
 
+// The lengths of the result form of n outer rows, so many lists and m elements.
+fn lengths_for(n: usize, lists: usize, m: usize) -> RepeatLengths
+    requires { ⌜ n < largest ⌝ }
+    requires { ⌜ lists < largest ⌝ }
+    ensures { λ a. ⌜ askedRepeat a ≡ made (roomForOuter n lists m) ⌝ }
+{
+    RepeatLengths::Of {
+        offsets: n + 1,
+        rows: bitmap::bytes_for(n),
+        inner_offsets: lists + 1,
+        inner_rows: bitmap::bytes_for(lists),
+        values: m,
+        elements: bitmap::bytes_for(m),
+    }
+}
+
 // The answer for n outer rows, so many lists and m elements, its nulls counted in the bitmaps written.
 fn repeat_answer(
     out_rows: &[u8],
@@ -186,6 +205,52 @@ fn fill(
     repeat_answer(out_rows, n, inner_rows, lists, out_elements, m)
 }
 
+// Refusals 13, 1, 2 and 3; 0 where none applies, and the columns can be read.
+#[rattlefmt::skip]
+fn early(
+    offsets: &[i32], rows: &[u8], rstart: usize, values: &[i64], elements: &[u8], estart: usize,
+    counts: &[i64], count_bits: &[u8], cstart: usize,
+) -> u8
+    ensures { λ k. ⌜ k ≡ earlyRepeat (lentFrom offsets rows rstart values elements estart) (lentArgumentsFrom counts «count_bits» cstart) ⌝ }
+    ensures { λ k. ⌜ (k ≡ 0 → Begun (lentFrom offsets rows rstart values elements estart) (lentArgumentsFrom counts «count_bits» cstart)) ⌝ }
+{
+    if 7 < cstart {
+        return 13;
+    }
+    let k = checks::list_refusal(offsets, rows, rstart, values, elements, estart);
+    if k != 0 {
+        return k;
+    }
+    if bitmap::is_short(count_bits, cstart, counts.len()) {
+        return 2;
+    }
+    if counts.len() != offsets::row_count(offsets) {
+        return 3;
+    }
+    0
+}
+
+// The lengths of the slices that list-repeat needs, or its refusal: the sums of the run, and nothing is written.
+#[rattlefmt::skip]
+pub fn lengths(
+    offsets: &[i32], rows: &[u8], rstart: usize, values: &[i64], elements: &[u8], estart: usize,
+    counts: &[i64], count_bits: &[u8], cstart: usize,
+) -> RepeatLengths
+    ensures { λ a. ⌜ askedRepeat a ≡ repeatLengths narrow (lentFrom offsets rows rstart values elements estart) (lentArgumentsFrom counts «count_bits» cstart) ⌝ }
+{
+    let k = early(
+        offsets, rows, rstart, values, elements, estart,
+        counts, count_bits, cstart,
+    );
+    if k != 0 {
+        return RepeatLengths::Refused(k);
+    }
+    match repeat_sums::sum_repeats(offsets, rows, rstart, counts, count_bits, cstart) {
+        Sums::TooMany => RepeatLengths::Refused(8),
+        Sums::Of { lists, values: m } => lengths_for(offsets::row_count(offsets), lists, m),
+    }
+}
+
 // Checks the columns and the outputs, and writes what list-repeat makes.
 #[rattlefmt::skip]
 pub fn run(
@@ -197,18 +262,12 @@ pub fn run(
 ) -> RepeatAnswer
     ensures { λ k. ⌜ RepeatAnswers (repeatOutcome narrow (lentFrom offsets rows rstart values elements estart) (lentArgumentsFrom counts «count_bits» cstart)) k «out_offsets» «out_rows» «inner_offsets» «inner_rows» «out_values» «out_elements» ⌝ }
 {
-    if 7 < cstart {
-        return RepeatAnswer::Refused(13);
-    }
-    let k = checks::list_refusal(offsets, rows, rstart, values, elements, estart);
+    let k = early(
+        offsets, rows, rstart, values, elements, estart,
+        counts, count_bits, cstart,
+    );
     if k != 0 {
         return RepeatAnswer::Refused(k);
-    }
-    if bitmap::is_short(count_bits, cstart, counts.len()) {
-        return RepeatAnswer::Refused(2);
-    }
-    if counts.len() != offsets::row_count(offsets) {
-        return RepeatAnswer::Refused(3);
     }
     match repeat_sums::sum_repeats(offsets, rows, rstart, counts, count_bits, cstart) {
         Sums::TooMany => RepeatAnswer::Refused(8),

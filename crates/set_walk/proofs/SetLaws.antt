@@ -1,5 +1,5 @@
 -- Laws of the operations on two lists: a pair of rows, and the whole call.
-use mathlib.Core.Path.{_≡_, refl, _∙_}
+use mathlib.Core.Path.{_≡_, refl, sym, _∙_}
 use mathlib.Core.Bool.{Bool, true, false, _&&_}
 use mathlib.Core.List.{List, [], _∷_, map}
 use Prim.Native.Nat.{ℕ, zero, suc, _+_, _-_, _≤_}
@@ -13,14 +13,17 @@ use Rattle.model.specs.Bitmap.{Bits, validAt}
 use Rattle.model.specs.Column.{Elem, Row, nullRow, listRow, Column, rowsOf, elemAt, offsetAt, rowCount}
 use Rattle.model.specs.Elements.{setElems}
 use Rattle.model.specs.Form.{Room, isRow, elemsOf, flat}
+use Rattle.model.specs.Lengths.{roomFor, listLengths}
 use Rattle.model.specs.Limits.{Limits, narrow}
 use Rattle.model.specs.Rows.{setOp, onRows, onCall, listsIn, argumentsIn, makes, madeOf, atRow, rowOf, rowsIn, rowByRow, rowMade, rowsMade}
 use Rattle.model.specs.Refusals.{unequal, firstOf, refusalOf, sumsRefusal, unionRefusal, rowsRefusal}
-use Rattle.model.specs.Outcome.{refused, gate, columnsRefusal, fitted, afterThree, listShown, listOutcome}
+use Rattle.model.specs.Outcome.{refused, gate, columnsRefusal, fitted, afterThree, listOutcome, earlyRefusal}
+use Rattle.model.specs.Outcome as O
 use Rattle.model.specs.declared.SetOp.{SetOp}
 use Rattle.model.specs.declared.SetOp.the-variants.{Union, Intersect}
 use Rattle.model.proofs.TabLaws.{length-tab, map-tab, tab-ext}
 use Rattle.model.proofs.ColumnLaws.{length-rows, row-at}
+use Rattle.model.proofs.EarlyLaws.{or-first, early-outcome, early-lengths}
 use Rattle.model.proofs.OutcomeLaws.{gate-open, gate-shut}
 use Rattle.column.specs.Put.{RoomInˡ}
 use Rattle.column.specs.Rows.{rowFrom}
@@ -125,27 +128,43 @@ module _ (op : SetOp) (c d : Column) where
     unfolding rowsRefusal rowByRow sumsRefusal rowsIn
     refusal-is = rw (none-of narrow op (rowsOf c) (rowsOf d) 0 (length (rowsOf c)), rows-made)
 
-  module _ (l : Room) where
-    pub set-early : (k : ℕ) → k ≡ columnsRefusal (c ∷ d ∷ []) [] → (k ≡ 0 → ⊥) → listOutcome narrow (setOp op c d) l ≡ refused k
-    unfolding listOutcome listsIn argumentsIn
-    set-early k q h = rw (← q) (gate-shut k _ h)
+  -- ---- the refusals before the rows
 
-    module _ (z : columnsRefusal (c ∷ d ∷ []) [] ≡ 0) where
-      shown : listOutcome narrow (setOp op c d) l ≡ listShown narrow (setOp op (rowsOf c) (rowsOf d)) l
-      unfolding listOutcome listsIn argumentsIn onCall
-      shown = gate-open _ _ z
+  pub early-lists : (k : ℕ) → k ≡ columnsRefusal (c ∷ d ∷ []) [] → (k ≡ 0 → ⊥) → k ≡ earlyRefusal (setOp op c d)
+  unfolding earlyRefusal listsIn argumentsIn
+  early-lists k q h = rw (← q) (sym (or-first k _ h))
 
-      pub set-three : (rowCount (d .offsets) ≡ rowCount (c .offsets) → ⊥) → listOutcome narrow (setOp op c d) l ≡ refused 3
-      unfolding listShown unequal gate
-      set-three h = shown ∙ rw (length-rows c, length-rows d, ne-eqb (rowCount (d .offsets)) (rowCount (c .offsets)) h)
+  module _ (z : columnsRefusal (c ∷ d ∷ []) [] ≡ 0) where
+    pub early-three : (rowCount (d .offsets) ≡ rowCount (c .offsets) → ⊥) → 3 ≡ earlyRefusal (setOp op c d)
+    unfolding earlyRefusal listsIn argumentsIn onCall unequal
+    early-three h = rw (z, length-rows c, length-rows d, ne-eqb (rowCount (d .offsets)) (rowCount (c .offsets)) h)
 
-      pub set-goes : rowCount (d .offsets) ≡ rowCount (c .offsets) → listOutcome narrow (setOp op c d) l ≡ afterThree narrow (setOp op (rowsOf c) (rowsOf d)) l
-      unfolding listShown unequal
-      set-goes e = shown ∙ rw (length-rows c, length-rows d, eq-eqb (rowCount (d .offsets)) (rowCount (c .offsets)) e) (gate-open 0 _ refl)
+    pub early-none : rowCount (d .offsets) ≡ rowCount (c .offsets) → 0 ≡ earlyRefusal (setOp op c d)
+    unfolding earlyRefusal listsIn argumentsIn onCall unequal
+    early-none e = rw (z, length-rows c, length-rows d, eq-eqb (rowCount (d .offsets)) (rowCount (c .offsets)) e)
 
-    pub set-after : rowCount (d .offsets) ≡ rowCount (c .offsets) → afterThree narrow (setOp op (rowsOf c) (rowsOf d)) l ≡ gate (unionRefusal narrow op (length (flat (pairRows op c d)))) (fitted (pairRows op c d) l)
-    unfolding afterThree
-    set-after e = rw (rows-made e, refusal-is e)
+  -- a call that is refused early, or goes on; k is what the code found
+  module _ (k : ℕ) (e : k ≡ earlyRefusal (setOp op c d)) where
+    pub run-early : (l : Room) → (k ≡ 0 → ⊥) → listOutcome narrow (setOp op c d) l ≡ refused k
+    run-early l h = early-outcome narrow (setOp op c d) l ∙ rw (← e) (gate-shut k _ h)
+
+    pub run-goes : (l : Room) → k ≡ 0 → listOutcome narrow (setOp op c d) l ≡ afterThree narrow (setOp op (rowsOf c) (rowsOf d)) l
+    unfolding onCall
+    run-goes l h = early-outcome narrow (setOp op c d) l ∙ gate-open (earlyRefusal (setOp op c d)) _ (sym e ∙ h)
+
+    pub lengths-early : (k ≡ 0 → ⊥) → refused k ≡ listLengths narrow (setOp op c d)
+    lengths-early h = sym (early-lengths narrow (setOp op c d) ∙ rw (← e) (gate-shut k _ h))
+
+    pub lengths-go : k ≡ 0 → rowCount (d .offsets) ≡ rowCount (c .offsets) → listLengths narrow (setOp op c d) ≡ gate (unionRefusal narrow op (length (flat (pairRows op c d)))) (O.made (roomFor (rowCount (c .offsets)) (length (flat (pairRows op c d)))))
+    unfolding onCall
+    lengths-go h q =
+        early-lengths narrow (setOp op c d)
+        ∙ gate-open (earlyRefusal (setOp op c d)) _ (sym e ∙ h)
+        ∙ rw (rows-made q, refusal-is q, length-pairs)
+
+  pub set-after : (l : Room) → rowCount (d .offsets) ≡ rowCount (c .offsets) → afterThree narrow (setOp op (rowsOf c) (rowsOf d)) l ≡ gate (unionRefusal narrow op (length (flat (pairRows op c d)))) (fitted (pairRows op c d) l)
+  unfolding afterThree
+  set-after l e = rw (rows-made e, refusal-is e)
 
 not-eight : (n m : ℕ) (t : Bool) → ltb n m ≡ t → _≡_ {A = ℕ} (pick t 8 0) 0 → m ≤ n
 not-eight n m true e z = let k : ⊥ = omega arith in absurd k

@@ -2,21 +2,24 @@
 // After set_ops.rs of datafusion-functions-nested 55.2.0, Apache License 2.0, Apache Software Foundation; changed, see NOTICE.
 use column::offsets;
 use model::ListAnswer;
+use model::ListLengths;
 use model::SetOp;
 use set_rows::set_ops;
 ghost use Prim.Native.Nat.{_<_, _≤_};
 ghost use Rattle.column.specs.Outputs.{Fills, ReadableRow, RoomForRow, RoomIn, WritesRow};
 ghost use Rattle.column.specs.Put.{Readable};
 ghost use Rattle.column.specs.Rows.{rowFrom};
+ghost use Rattle.model.specs.Asked.{askedList};
 ghost use Rattle.model.specs.Column.{rowCount, rowsOf};
 ghost use Rattle.model.specs.Contract.{ListAnswers};
 ghost use Rattle.model.specs.Elements.{setElems};
 ghost use Rattle.model.specs.Form.{elemsOf, flat};
 ghost use Rattle.model.specs.Inner.{nowColumn, nowBits, nowElem, lentBits, lentElem, lentFrom};
+ghost use Rattle.model.specs.Lengths.{listLengths};
 ghost use Rattle.model.specs.Limits.{narrow};
-ghost use Rattle.model.specs.Outcome.{afterThree, listOutcome};
+ghost use Rattle.model.specs.Outcome.{afterThree, earlyRefusal, listOutcome};
 ghost use Rattle.model.specs.Rows.{onRows, setOp};
-ghost use Rattle.set_walk.specs.Pairs.{boundOf, pairRows};
+ghost use Rattle.set_walk.specs.Pairs.{Begun, boundOf, pairRows};
 ghost use lib.ListN.{length};
 ghost use mathlib.Core.Path.{_≡_};
 
@@ -183,6 +186,56 @@ pub fn after_three<'a>(
     answers::list_answer(out_rows, n, out_elements, m)
 }
 
+// Refusals 13, 1, 2 and 3 of an operation on two lists; 0 where none applies, and both can be read.
+#[rattlefmt::skip]
+fn early(
+    loffsets: &[i32], lrows: &[u8], l_rstart: usize, lvalues: &[i64], lelements: &[u8], l_estart: usize,
+    roffsets: &[i32], rrows: &[u8], r_rstart: usize, rvalues: &[i64], relements: &[u8], r_estart: usize,
+) -> u8
+    ensures { λ k. ⌜ ((op : SetOp) → k ≡ earlyRefusal (setOp op (lentFrom loffsets lrows «l_rstart» lvalues lelements «l_estart») (lentFrom roffsets rrows «r_rstart» rvalues relements «r_estart»))) ⌝ }
+    ensures { λ k. ⌜ (k ≡ 0 → Begun (lentFrom loffsets lrows «l_rstart» lvalues lelements «l_estart») (lentFrom roffsets rrows «r_rstart» rvalues relements «r_estart»)) ⌝ }
+{
+    let k = set_checks::lists_refusal(
+        loffsets, lrows, l_rstart, lvalues, lelements, l_estart,
+        roffsets, rrows, r_rstart, rvalues, relements, r_estart,
+    );
+    if k != 0 {
+        return k;
+    }
+    if !set_checks::same_row_count(loffsets, roffsets) {
+        return 3;
+    }
+    0
+}
+
+// The lengths of the slices that the operation needs, or its refusal: the first walk of the run, and nothing is written.
+#[rattlefmt::skip]
+pub fn lengths<'a>(
+    op: SetOp,
+    loffsets: &[i32], lrows: &[u8], l_rstart: usize, lvalues: &'a [i64], lelements: &[u8], l_estart: usize,
+    roffsets: &[i32], rrows: &[u8], r_rstart: usize, rvalues: &'a [i64], relements: &[u8], r_estart: usize,
+) -> ListLengths
+    ensures { λ a. ⌜ askedList a ≡ listLengths narrow (setOp op (lentFrom loffsets lrows «l_rstart» lvalues lelements «l_estart») (lentFrom roffsets rrows «r_rstart» rvalues relements «r_estart»)) ⌝ }
+{
+    let k = early(
+        loffsets, lrows, l_rstart, lvalues, lelements, l_estart,
+        roffsets, rrows, r_rstart, rvalues, relements, r_estart,
+    );
+    if k != 0 {
+        return ListLengths::Refused(k);
+    }
+    let m = measure_pairs(
+        op,
+        loffsets, lrows, l_rstart, lvalues, lelements, l_estart,
+        roffsets, rrows, r_rstart, rvalues, relements, r_estart,
+    );
+    let long = set_checks::union_refusal(op, m);
+    if long != 0 {
+        return ListLengths::Refused(long);
+    }
+    checks::lengths_for(offsets::row_count(loffsets), m)
+}
+
 // Checks the columns and the outputs, and writes what the operation makes.
 #[rattlefmt::skip]
 pub fn run<'a>(
@@ -193,15 +246,12 @@ pub fn run<'a>(
 ) -> ListAnswer
     ensures { λ k. ⌜ ListAnswers (listOutcome narrow (setOp op (lentFrom loffsets lrows «l_rstart» lvalues lelements «l_estart») (lentFrom roffsets rrows «r_rstart» rvalues relements «r_estart»))) k «out_offsets» «out_rows» «out_values» «out_elements» ⌝ }
 {
-    let k = set_checks::lists_refusal(
+    let k = early(
         loffsets, lrows, l_rstart, lvalues, lelements, l_estart,
         roffsets, rrows, r_rstart, rvalues, relements, r_estart,
     );
     if k != 0 {
         return ListAnswer::Refused(k);
-    }
-    if !set_checks::same_row_count(loffsets, roffsets) {
-        return ListAnswer::Refused(3);
     }
     after_three(
         op,

@@ -1,3 +1,4 @@
 pub mod TypedLaws
 pub mod RecipeLaws
 pub mod ReadBack
+pub mod LengthLaws

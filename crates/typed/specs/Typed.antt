@@ -78,3 +78,17 @@ abbrev pub RepeatServed : (RepeatRoom → Outcome (List Outer)) → ℕ → Slic
 RepeatServed f n o r io ir v e c =
     TypedRepeat (served (given f) (short 6 c) (repeatRoomOf o r io ir v e)) n
     (now (o .entry)) (now (o .exit)) (now (r .entry)) (now (r .exit)) (now (io .entry)) (now (io .exit)) (now (ir .entry)) (now (ir .exit)) (now (v .entry)) (now (v .exit)) (now (e .entry)) (now (e .exit)) (now (c .entry)) (now (c .exit))
+
+-- ---- how much to lend: x is what the measure comes to, f its lengths in the order of the slices, and `need` how many they are
+
+-- 100 as above, or the measure's own
+unfoldable pub measured : {A : Type 0} → Lent (Outcome A) → Bool → Outcome A
+measured absent b = refused 100
+measured (given x) b = gate (pick b 100 0) x
+
+pub record TypedLengths {A : Type 0} (f : A → List ℕ) (x : Outcome A) (n : ℕ) (c c′ : List ℕ) : Type 0 where
+  pub number : n ≡ numberOf x
+  pub lengths : c′ ≡ after f x c
+
+abbrev pub LengthsServed : {A : Type 0} → (A → List ℕ) → ℕ → Lent (Outcome A) → ℕ → Slice ℕ → Type 0
+LengthsServed f need x n c = TypedLengths f (measured x (short need c)) n (now (c .entry)) (now (c .exit))

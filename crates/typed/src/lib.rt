@@ -1,5 +1,6 @@
 // What the typed C entries share: answers as the number that an entry returns, with the counts of an accepted call in a lent slice. A
 // refusal writes nothing. An inner crate: its callers meet what it asks.
+pub mod lengths;
 pub mod tallies;
 
 use model::ListAnswer;

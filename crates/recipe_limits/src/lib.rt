@@ -1,0 +1,48 @@
+// How many elements a recipe brings at most into its trays and its output.
+mod limits;
+
+use column::offsets;
+use model::RecipeLimits;
+ghost use Rattle.model.specs.Asked.{askedRecipe};
+ghost use Rattle.model.specs.Inner.{lentArgumentsFrom, lentFrom};
+ghost use Rattle.model.specs.Lengths.{recipeLimits};
+ghost use Rattle.model.specs.Limits.{narrow};
+ghost use Rattle.recipe_refusal.specs.Refused.{recipe};
+ghost use mathlib.Core.Path.{_≡_};
+
+// The most elements that tray one, tray two and the output need for a recipe, from row lengths, validity and arguments alone, or the
+// refusal, 10, 13, 1, 2 or 3, that its run would give before its steps. No limit passes 2147483647.
+#[rattlefmt::skip]
+pub fn recipe_limits<'a>(
+    numbers: &[u32], columns: usize,
+    offsets: &[i32], rows: &[u8], rows_start: usize, values: &'a [i64], elements: &[u8], elements_start: usize,
+    second_offsets: &[i32], second_rows: &[u8], second_rows_start: usize, second_values: &'a [i64], second_elements: &[u8], second_elements_start: usize,
+    arguments: &[i64], argument_bits: &[u8], argument_start: usize,
+) -> RecipeLimits
+    ensures { λ a. ⌜ askedRecipe a ≡ recipeLimits narrow (recipe (now (numbers .entry)) columns) (lentFrom offsets rows «rows_start» values elements «elements_start») (lentFrom «second_offsets» «second_rows» «second_rows_start» «second_values» «second_elements» «second_elements_start») (lentArgumentsFrom arguments «argument_bits» «argument_start») ⌝ }
+{
+    let k = recipe_refusal::refusal(
+        numbers, columns,
+        offsets, rows, rows_start, values, elements, elements_start,
+        second_offsets, second_rows, second_rows_start, second_values, second_elements, second_elements_start,
+        arguments, argument_bits, argument_start,
+    );
+    if k != 0 {
+        return RecipeLimits::Refused(k);
+    }
+    let came = copy_rows::measure_rows(offsets, rows, rows_start, values, elements, elements_start);
+    let steps = numbers.len() / 4;
+    if steps == 0 {
+        return RecipeLimits::Of { one: 0, two: 0, output: came };
+    }
+    let second = copy_rows::measure_rows(
+        second_offsets, second_rows, second_rows_start, second_values, second_elements, second_elements_start,
+    );
+    let n = offsets::row_count(offsets);
+    let t = limits::steps_limits(
+        numbers, 0, steps,
+        rows, rows_start, n, arguments, argument_bits, argument_start,
+        second, came,
+    );
+    RecipeLimits::Of { one: t.one, two: t.two, output: t.output }
+}

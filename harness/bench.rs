@@ -1,12 +1,13 @@
 //! Time of typed calls, beside the same calls in plain safe Rust in place, beside a plain copy of the
-//! bytes that the result has, and beside the byte entries; all from one driver, in turns, in the same
-//! buffers, which are not cleared between calls. A benchmark, and no test.
+//! bytes that the result has, beside the byte entries, and beside calls of large lists; all from one
+//! driver, in turns, in the same buffers, which are not cleared between calls. A benchmark, and no
+//! test.
 
 use crate::decoded;
 use crate::entry::{Case, Entry, MOST_ROWS, MOST_VALUES};
 use crate::generate::{input_of, lend_typed, shuffle, Layout, Room};
 use crate::library::Library;
-use crate::model::{ArgumentColumn, Element, Operation, RecipeShown, Role, Row, Shown};
+use crate::model::{ArgumentColumn, Element, Operation, RecipeShown, Role, Row, Shown, Width};
 use crate::numbers::{bytes_of, bytes_of_mut};
 use crate::plain;
 use crate::recipe_generate::recipe_input;
@@ -144,7 +145,7 @@ fn layout_of(Load { nulls, start, .. }: Load) -> Layout {
 /// A call of an entry.
 fn load(entry: Entry, load: Load) -> Case {
     if entry.is_recipe() {
-        return load_recipe(load);
+        return load_recipe(entry.width, load);
     }
     let mut rng = Rng::new(1, "bench");
     let rows = rows_of(entry, load, &mut rng);
@@ -181,12 +182,13 @@ const RECIPE: [[u32; 4]; 8] = [
     [0, 0, 0, 0],
 ];
 
-fn load_recipe(load: Load) -> Case {
+fn load_recipe(width: Width, load: Load) -> Case {
     let mut rng = Rng::new(1, "bench");
-    let rows = rows_of(Entry::of(Operation::Resize), load, &mut rng);
+    let rows = rows_of(Entry::of(Operation::Resize, width), load, &mut rng);
     let second = right_of(&rows, load.nulls, &mut rng);
     let columns = columns_of(&RECIPE_ROLES, &rows, load.length, load.nulls, &mut rng);
-    let shown = RecipeShown { steps: RECIPE.to_vec(), lists: [rows, second], columns };
+    let (steps, lists) = (RECIPE.to_vec(), [rows, second]);
+    let shown = RecipeShown { width, steps, lists, columns };
     let input = recipe_input(&shown, &[layout_of(load)], &mut rng);
     lend_typed(&input, Room::Exact, &mut rng)
 }
@@ -218,7 +220,9 @@ impl Words {
 /// What does a call's work.
 #[derive(Clone, Copy)]
 enum Side<'a> {
-    Typed(&'a Typed),
+    Typed(&'a Typed<i32>),
+    /// A call of large lists.
+    Large(&'a Typed<i64>),
     Bytes(&'a Library),
     /// Copies the bytes that the result has.
     Memcpy,
@@ -237,7 +241,8 @@ struct Bench {
 }
 
 impl Bench {
-    fn new(case: &Case, typed: &Typed) -> Bench {
+    /// With the result that this side gives.
+    fn new(case: &Case, side: Side) -> Bench {
         let typed_case = case.typed(ArgumentColumn::default);
         let mut bench = Bench {
             entry: case.entry,
@@ -248,7 +253,7 @@ impl Bench {
             counts: Words::new(&typed_case.counts),
             result: Vec::new(),
         };
-        bench.time(Side::Typed(typed), 1);
+        bench.time(side, 1);
         let results = bench.entry.results();
         let results = bench.outputs[results].iter();
         bench.result = results.map(|slice| Words::new(slice.bytes())).collect();
@@ -256,7 +261,8 @@ impl Bench {
     }
 
     fn rows(&self) -> usize {
-        self.inputs[usize::from(self.entry.is_recipe())].length / 4 - 1
+        let offsets = self.inputs[usize::from(self.entry.is_recipe())].length;
+        offsets / self.entry.width.bytes() - 1
     }
 
     /// Nanoseconds a call, over this many calls.
@@ -271,6 +277,9 @@ impl Bench {
             let answer = match side {
                 Side::Typed(typed) => {
                     typed.call(self.typed_entry, lent, starts, &mut outputs, counts)
+                }
+                Side::Large(large) => {
+                    large.call(self.typed_entry, lent, starts, &mut outputs, counts)
                 }
                 Side::Bytes(library) => {
                     let (lent, starts) = (&lent[..inputs], &starts[..bitmaps]);
@@ -301,25 +310,31 @@ impl Bench {
         }
     }
 
-    /// The least nanoseconds a call of each side, in alternating rounds.
+    /// The least nanoseconds a call of each side.
     fn least(&mut self, sides: &[Side], large: bool) -> Vec<f64> {
-        let (rounds, most_time) =
-            if large { (LARGE_ROUNDS, LARGE_LINE_TIME) } else { (ROUNDS, LINE_TIME) };
         self.check_equal(sides);
-        let one = sides.iter().map(|side| self.time(*side, 2)).fold(1.0, f64::max);
-        let repeats = (ROUND_TIME.as_nanos() / one as u128).clamp(1, MOST_REPEATS);
-        let mut least = vec![f64::INFINITY; sides.len()];
-        let begun = Instant::now();
-        for round in 0..rounds.end {
-            if round >= rounds.start && begun.elapsed() > most_time {
-                break;
-            }
-            for (least, side) in least.iter_mut().zip(sides) {
-                *least = least.min(self.time(*side, repeats));
-            }
-        }
-        least
+        least(sides.len(), large, |side, repeats| self.time(sides[side], repeats))
     }
+}
+
+/// The least nanoseconds a call of each of so many sides, in alternating rounds; each round gives
+/// those over some calls.
+fn least(sides: usize, large: bool, mut time: impl FnMut(usize, u128) -> f64) -> Vec<f64> {
+    let (rounds, most_time) =
+        if large { (LARGE_ROUNDS, LARGE_LINE_TIME) } else { (ROUNDS, LINE_TIME) };
+    let one = (0..sides).map(|side| time(side, 2)).fold(1.0, f64::max);
+    let repeats = (ROUND_TIME.as_nanos() / one as u128).clamp(1, MOST_REPEATS);
+    let mut least = vec![f64::INFINITY; sides];
+    let begun = Instant::now();
+    for round in 0..rounds.end {
+        if round >= rounds.start && begun.elapsed() > most_time {
+            break;
+        }
+        for (side, least) in least.iter_mut().enumerate() {
+            *least = least.min(time(side, repeats));
+        }
+    }
+    least
 }
 
 // Tables.
@@ -369,7 +384,7 @@ fn measure(
     name: &'static str,
     sides: &[Side],
     loads: &[Load],
-    typed: &Typed,
+    typed: &Typed<i32>,
 ) -> Line {
     let mut times = Vec::new();
     for one in loads {
@@ -378,12 +393,36 @@ fn measure(
             times.push(None);
             continue;
         }
-        let mut bench = Bench::new(&load(entry, *one), typed);
+        let mut bench = Bench::new(&load(entry, *one), Side::Typed(typed));
         let least = bench.least(sides, large);
-        let Load { length, nulls, start, .. } = one;
-        print!("{name:<22} {length:>6} {:>7} {:>7} {start:>5}", bench.rows(), nulls.name());
-        least.iter().for_each(|time| print!(" {:>11.2}", time / 1000.0));
-        println!();
+        print_line(name, *one, bench.rows(), &least);
+        times.push(Some(least));
+    }
+    Line { name, times }
+}
+
+fn print_line(name: &str, Load { length, nulls, start, .. }: Load, rows: usize, times: &[f64]) {
+    print!("{name:<22} {length:>6} {rows:>7} {:>7} {start:>5}", nulls.name());
+    times.iter().for_each(|time| print!(" {:>11.2}", time / 1000.0));
+    println!();
+}
+
+/// Measures the same columns as large lists and as lists.
+fn measure_widths(
+    entry: Entry,
+    name: &'static str,
+    loads: &[Load],
+    large: &Typed<i64>,
+    typed: &Typed<i32>,
+) -> Line {
+    let sides = [Side::Large(large), Side::Typed(typed)];
+    let mut times = Vec::new();
+    for one in loads {
+        let entries = [Width::Wide, Width::Narrow].map(|width| Entry { width, ..entry });
+        let calls = entries.map(|entry| load(entry, *one));
+        let mut benches = [0, 1].map(|at| Bench::new(&calls[at], sides[at]));
+        let least = least(2, false, |side, repeats| benches[side].time(sides[side], repeats));
+        print_line(name, *one, benches[0].rows(), &least);
         times.push(Some(least));
     }
     Line { name, times }
@@ -398,8 +437,8 @@ fn print_heading(what: &str, sides: &[&str]) {
 
 /// The operations, and a recipe, or the one that is wanted.
 fn subjects(wanted: Option<&str>) -> Vec<(Entry, &'static str)> {
-    let recipe = Entry::RECIPE.with_columns(RECIPE_ROLES.len());
-    let operations = Entry::all().map(|entry| (entry, entry.name()));
+    let recipe = Entry::recipes(Width::Narrow).with_columns(RECIPE_ROLES.len());
+    let operations = Entry::all(Width::Narrow).map(|entry| (entry, entry.name()));
     let all = operations.chain([(recipe, "recipe of 8 steps")]);
     all.filter(|(entry, _)| wanted.is_none_or(|name| name == entry.name())).collect()
 }
@@ -417,12 +456,15 @@ pub fn print(port: &Library, wanted: Option<&str>) {
     let subjects = subjects(wanted);
     print_small(&subjects, port, typed, plain);
     print_large(&subjects, typed, plain);
+    if let Some(large) = &port.large {
+        print_widths(&subjects, large, typed);
+    }
 }
 
 /// Operations with their names.
 type Subjects<'a> = &'a [(Entry, &'static str)];
 
-fn print_small(subjects: Subjects, port: &Library, typed: &Typed, plain: &Typed) {
+fn print_small(subjects: Subjects, port: &Library, typed: &Typed<i32>, plain: &Typed<i32>) {
     let bytes = [Side::Bytes(port), Side::Bytes(&decoded::LIBRARY)];
     let sides = [&[Side::Typed(typed), Side::Typed(plain), Side::Memcpy][..], &bytes].concat();
     let what = format!("{MOST_VALUES} values, or half of that where the result grows");
@@ -451,15 +493,28 @@ fn print_small(subjects: Subjects, port: &Library, typed: &Typed, plain: &Typed)
 }
 
 /// Distinct beside plain Rust with a set on the heap.
-fn print_by_set(typed: &Typed, plain: &Typed, loads: &[Load]) {
+fn print_by_set(typed: &Typed<i32>, plain: &Typed<i32>, loads: &[Load]) {
     let by_set = Typed { list: plain::typed_distinct_by_set, ..*plain };
     let sides = [Side::Typed(typed), Side::Typed(&by_set)];
     print_heading("distinct beside a hash set on the heap", &["typed", "hash set"]);
-    let line = measure(Entry::of(Operation::Distinct), "distinct", &sides, loads, typed);
+    let entry = Entry::of(Operation::Distinct, Width::Narrow);
+    let line = measure(entry, "distinct", &sides, loads, typed);
     print_table(("typed / hash set", &|times| times[0] / times[1]), loads, &[line]);
 }
 
-fn print_large(subjects: Subjects, typed: &Typed, plain: &Typed) {
+/// Large lists beside lists of the same columns.
+fn print_widths(subjects: Subjects, large: &Typed<i64>, typed: &Typed<i32>) {
+    let what = format!("{MOST_VALUES} values as large lists and as lists");
+    print_heading(&what, &["large", "typed"]);
+    let loads = loads(MOST_VALUES, 0);
+    let measured = subjects.iter();
+    let lines: Vec<Line> =
+        measured.map(|(entry, name)| measure_widths(*entry, name, &loads, large, typed)).collect();
+    println!("\n{what}");
+    print_table(("large / typed", &|times| times[0] / times[1]), &loads, &lines);
+}
+
+fn print_large(subjects: Subjects, typed: &Typed<i32>, plain: &Typed<i32>) {
     let sides = [Side::Typed(typed), Side::Typed(plain), Side::Memcpy];
     let what = format!("{LARGE_VALUES} values, or half of that where the result grows");
     print_heading(&what, &["typed", "plain", "memcpy"]);

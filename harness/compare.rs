@@ -4,12 +4,12 @@
 //! whole.
 
 use crate::coverage::{self, Coverage, SHARED};
-use crate::entry::{decode_i32, decode_i64, decode_tally, decode_u32};
+use crate::entry::{decode_i64, decode_offsets, decode_tally, decode_u32};
 use crate::entry::{Case, Content, Expected, Input, Route, SliceKind, TALLY, TALLY_BYTES};
 use crate::generate::untaken_column;
 use crate::lending;
 use crate::library::Library;
-use crate::model::{is_valid, ArgumentColumn, Tally, UNDER_NULL};
+use crate::model::{is_valid, ArgumentColumn, Tally, Width, UNDER_NULL};
 use crate::numbers::{bytes_of, bytes_of_mut};
 use crate::recipe_coverage;
 use crate::rng::Rng;
@@ -205,6 +205,9 @@ impl<'a> Checker<'a> {
         if self.asks {
             return self.ask(case);
         }
+        if case.entry.is_wide() {
+            return self.check_large(case);
+        }
         self.begin_call();
         let expected = case.expected();
         if self.records {
@@ -224,6 +227,17 @@ impl<'a> Checker<'a> {
             self.require(alike, &typed_case, "not answered typed as over bytes");
         }
         observed.expect("a call is made in one way at least")
+    }
+
+    /// Makes a call of large lists, which have typed entries alone.
+    fn check_large(&mut self, case: &Case) -> Observed {
+        self.begin_call();
+        let typed_case = self.typed_case(case);
+        let expected = typed_case.expected_typed();
+        if self.records {
+            self.record_coverage(case, &expected);
+        }
+        self.compare_typed(case, &typed_case, &expected)
     }
 
     /// Makes a call that is for the typed entries alone.
@@ -381,14 +395,19 @@ impl<'a> Checker<'a> {
         slices: &mut [&mut [u8]],
     ) -> u32 {
         let (counts, outputs) = slices.split_last_mut().expect("counts are always lent");
-        match (route, &self.library.typed) {
-            (Route::Typed, Some(typed)) if asks => {
-                typed.lending.ask(case.entry, lent, &case.starts, counts)
+        let (entry, starts, library) = (case.entry, &case.starts, self.library);
+        match (route, &library.typed, &library.large) {
+            (_, _, Some(large)) if entry.is_wide() && asks => {
+                large.lending.ask(entry, lent, starts, counts)
             }
-            (Route::Typed, Some(typed)) => {
-                typed.call(case.entry, lent, &case.starts, outputs, counts)
+            (_, _, Some(large)) if entry.is_wide() => {
+                large.call(entry, lent, starts, outputs, counts)
             }
-            _ => self.library.call(case.entry, lent, &case.starts, outputs, counts),
+            (Route::Typed, Some(typed), _) if asks => {
+                typed.lending.ask(entry, lent, starts, counts)
+            }
+            (Route::Typed, Some(typed), _) => typed.call(entry, lent, starts, outputs, counts),
+            _ => library.call(entry, lent, starts, outputs, counts),
         }
     }
 
@@ -628,7 +647,10 @@ fn show(kind: SliceKind, bytes: &[u8]) -> String {
     }
     let ragged = &bytes[bytes.len() - bytes.len() % kind.width..];
     let slots = match kind.content {
-        Content::Offsets => format!("{:?}", decode_i32(bytes)),
+        Content::Offsets if kind.width == 8 => {
+            format!("{:?}", decode_offsets(bytes, Width::Wide))
+        }
+        Content::Offsets => format!("{:?}", decode_offsets(bytes, Width::Narrow)),
         Content::Numbers => format!("{:?}", decode_u32(bytes)),
         Content::Values | Content::RowValues => format!("{:?}", decode_i64(bytes)),
         Content::Tally if bytes.len() >= TALLY_BYTES => {

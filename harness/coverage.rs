@@ -6,15 +6,14 @@
 //! written out by hand with what they become, so that it also checks the model: a row that becomes
 //! something else leaves a demand unmet.
 
-use crate::entry::{decode_i32, decode_i64};
-use crate::entry::{Case, Content, Entry, Expected, Input, SliceKind};
+use crate::entry::{decode_i64, decode_offsets};
+use crate::entry::{Case, Content, Entry, Expected, Input, Kind, SliceKind};
 use crate::entry::{NOT_SERVED, TALLY, TALLY_BYTES, TRAYS};
 use crate::generate::{Column, Harm};
-use crate::lending::LARGEST_OFFSET;
 use crate::library::Library;
 use crate::model::{
     self, is_valid, ArgumentColumn, Bitmap, Element, ListColumn, Made, Operation, Role, Row, Shown,
-    UNDER_NULL,
+    Width, UNDER_NULL,
 };
 use crate::recipe_coverage;
 use crate::strides;
@@ -450,7 +449,10 @@ fn accepted_typed_met(case: &Case, typed: &Case) -> Vec<&'static str> {
     let entry = case.entry;
     let first = usize::from(entry.is_recipe());
     let values = case.inputs[first + 2].len() / 8;
-    let offsets = if values < 100_000 { Vec::new() } else { decode_i32(&case.inputs[first]) };
+    let offsets = match values {
+        ..100_000 => Vec::new(),
+        _ => decode_offsets(&case.inputs[first], entry.width),
+    };
     let rows = Bitmap { bytes: case.inputs[first + 1].clone(), start: case.starts[0] };
     let wide = offsets.windows(2).enumerate().filter(|(_, pair)| pair[1] - pair[0] >= 100_000);
     let wide: Vec<bool> = wide.map(|(row, _)| rows.is_valid(row)).collect();
@@ -464,7 +466,7 @@ fn accepted_typed_met(case: &Case, typed: &Case) -> Vec<&'static str> {
         wide.contains(&false),
         case.row_count() >= 1_000_000,
         values >= 1_000_000,
-        offsets.first() > Some(&0) && offsets.last() < Some(&(values as i32)),
+        offsets.first() > Some(&0) && offsets.last() < Some(&(values as i64)),
         typed.counts.len() > entry.count_bytes(),
         typed.inputs.len() > case.inputs.len() && !typed.inputs[case.inputs.len()].is_empty(),
     ];
@@ -486,8 +488,9 @@ pub fn demanded_typed(entry: Entry, answers: &[u32]) -> Vec<(&'static str, Strin
     let mut all: Vec<String> =
         answers.iter().filter(is_own).map(|number| format!("answer {number}")).collect();
     let is_met = |name: &&str| match *name {
-        "columns not taken" => matches!(entry, Entry::List(_)),
-        "a million rows" => !entry.is_recipe(),
+        "columns not taken" => matches!(entry.kind, Kind::List(_)),
+        "a million rows" => !entry.is_recipe() && !entry.is_wide(),
+        "a million values" => !entry.is_wide(),
         "100 for the tally" | "100, trays dirty before" => entry.is_recipe(),
         _ => true,
     };
@@ -508,7 +511,8 @@ pub fn lending_met(case: &Case, expected: &Result<Vec<u64>, u32>) -> Vec<Cow<'st
     if let (true, Ok(limits)) = (case.entry.is_recipe(), expected) {
         let steps = case.inputs[0].len() / 16;
         let unlike = limits[0] != limits[1] && limits[1] != limits[2] && limits[0] != limits[2];
-        let holds = [limits.contains(&LARGEST_OFFSET), unlike, steps == 0, steps == 32];
+        let stops = limits.contains(&(case.entry.width.largest_offset() as u64));
+        let holds = [stops, unlike, steps == 0, steps == 32];
         met.extend(chosen(LIMIT_MET, holds).into_iter().map(Cow::Borrowed));
     }
     met
@@ -528,9 +532,9 @@ fn demanded_lending(entry: Entry) -> Vec<(&'static str, String)> {
 // Rows.
 
 /// What one row becomes, in a word.
-fn outcome_of(operation: Operation, rows: &[&Row], arguments: &[Element]) -> Cow<'static, str> {
-    let row = rows[0].as_deref();
-    let name = match model::make_row(operation, rows, arguments) {
+fn outcome_of(entry: Entry, rows: &[&Row], arguments: &[Element]) -> Cow<'static, str> {
+    let (operation, row) = (entry.known_operation(), rows[0].as_deref());
+    let name = match model::make_row(entry.width, operation, rows, arguments) {
         Err(number) => return Cow::Owned(format!("refused {number}")),
         Ok(Made::Values(made)) => made[0].map_or("null", |_| "value"),
         Ok(Made::Lists(made)) => match &made[0] {
@@ -560,18 +564,17 @@ fn is_slice(operation: Operation) -> bool {
 /// What the first rows of a call met: of an accepted call as far as they are looked at, of a
 /// refused one the first bad row.
 pub fn rows_met(input: &Input, number: u32) -> Vec<String> {
-    let operation = input.entry.known_operation();
     let shown = model::shown(&input.lists, input.taken());
-    let mut met = sums_met(operation, &shown, input, number);
+    let mut met = sums_met(&shown, input, number);
     let all = 0..shown.lists[0].len();
     for row in all.take(MOST_ROWS_SEEN) {
         let rows: Vec<&Row> = shown.lists.iter().map(|list| &list[row]).collect();
         let value = |column: &Vec<Element>| column[if column.len() == 1 { 0 } else { row }];
         let arguments: Vec<Element> = shown.arguments.iter().map(value).collect();
-        let outcome = outcome_of(operation, &rows, &arguments);
+        let outcome = outcome_of(input.entry, &rows, &arguments);
         let refused = outcome.starts_with("refused");
         if number == 0 || refused {
-            met.extend(row_met(operation, &rows, &arguments, &outcome));
+            met.extend(row_met(input.entry, &rows, &arguments, &outcome));
         }
         if refused {
             break;
@@ -583,12 +586,8 @@ pub fn rows_met(input: &Input, number: u32) -> Vec<String> {
 /// The rows that are looked at in one call.
 const MOST_ROWS_SEEN: usize = 20;
 
-fn row_met(
-    operation: Operation,
-    rows: &[&Row],
-    arguments: &[Element],
-    outcome: &str,
-) -> Vec<String> {
+fn row_met(entry: Entry, rows: &[&Row], arguments: &[Element], outcome: &str) -> Vec<String> {
+    let operation = entry.known_operation();
     let mut met = Vec::new();
     if let [left, right] = rows {
         met.extend(pair_met(left, right).into_iter().map(str::to_string));
@@ -610,9 +609,9 @@ fn row_met(
     if let (Operation::Slice, "", [Some(from), Some(to), Some(stride)]) =
         (operation, state, arguments)
     {
-        let bounds = bounds_name(row.len() as i64, *from, *to);
+        let bounds = bounds_name(entry, row.len() as i64, *from, *to);
         met.push(format!("bounds {bounds}, stride {}: {outcome}", stride_name(*stride)));
-        met.extend(places_met(row, arguments, *stride));
+        met.extend(places_met(entry, row, arguments, *stride));
     }
     met
 }
@@ -643,7 +642,7 @@ fn argument_names(
     }
 }
 
-const NUMBERS: [&str; 20] = [
+const NUMBERS: [&str; 23] = [
     "0",
     "1",
     "-1",
@@ -662,6 +661,9 @@ const NUMBERS: [&str; 20] = [
     "-2147483648",
     "2147483648",
     "-2147483649",
+    "1152921504606846974",
+    "1152921504606846975",
+    "1152921504606846976",
     "largest",
     "smallest",
 ];
@@ -686,6 +688,9 @@ fn number_names(length: i64, number: i64) -> Vec<&'static str> {
         -2147483648,
         2147483648,
         -2147483649,
+        1152921504606846974,
+        1152921504606846975,
+        1152921504606846976,
         i64::MAX,
         i64::MIN,
     ];
@@ -731,12 +736,12 @@ fn stride_name(stride: i64) -> &'static str {
 }
 
 /// How many places a slice by this stride has, of a row of nine or of the long row.
-fn places_met(row: &[Element], arguments: &[Element], stride: i64) -> Option<String> {
+fn places_met(entry: Entry, row: &[Element], arguments: &[Element], stride: i64) -> Option<String> {
     let length = row.len();
     if length != 9 && length as i64 != strides::LONG {
         return None;
     }
-    match model::make_row(Operation::Slice, &[&Some(row.to_vec())], arguments) {
+    match model::make_row(entry.width, Operation::Slice, &[&Some(row.to_vec())], arguments) {
         Ok(Made::Lists(made)) => {
             let places = made[0].as_ref().map_or(0, Vec::len);
             Some(format!("{places} of {length} by {stride}"))
@@ -746,8 +751,8 @@ fn places_met(row: &[Element], arguments: &[Element], stride: i64) -> Option<Str
 }
 
 /// How the bounds of a slice lie, by document 01.
-fn bounds_name(length: i64, from: i64, to: i64) -> &'static str {
-    if i32::try_from(from).is_err() || i32::try_from(to).is_err() {
+fn bounds_name(entry: Entry, length: i64, from: i64, to: i64) -> &'static str {
+    if !entry.is_wide() && (i32::try_from(from).is_err() || i32::try_from(to).is_err()) {
         return "beyond 32 bits";
     }
     let first = if from < 0 { (length + from).max(0) } else { (from - 1).max(0) };
@@ -841,20 +846,30 @@ fn pair_met(left: &Row, right: &Row) -> Vec<&'static str> {
 
 // Sums, and columns of limits.
 
-const RESIZE_SUMS: [&str; 10] = [
-    "sum 16384: 0",
-    "sum 16385: 9",
-    "sum 2147483647: 9",
-    "sum 2147483648: 8",
-    "running sum 18446744073709551615, then a negative count: 7",
-    "running sum 18446744073709551616, then a negative count: 8",
-    "negative count, then a running sum past 18446744073709551615: 7",
-    "sum past 2147483647, then a negative count: 7",
-    "negative count at a null row: 0",
-    "count past 2147483647 at a null row: 0",
-];
+/// Sums at 2147483647, or at the limit of large lists.
+fn resize_sums(width: Width) -> [String; 10] {
+    let most = width.most_elements();
+    [
+        "sum 16384: 0".to_string(),
+        "sum 16385: 9".to_string(),
+        format!("sum {most}: 9"),
+        format!("sum {}: 8", most + 1),
+        "running sum 18446744073709551615, then a negative count: 7".to_string(),
+        "running sum 18446744073709551616, then a negative count: 8".to_string(),
+        "negative count, then a running sum past 18446744073709551615: 7".to_string(),
+        format!("sum past {most}, then a negative count: 7"),
+        "negative count at a null row: 0".to_string(),
+        format!("count past {most} at a null row: 0"),
+    ]
+}
 
-fn resize_sums_met(shown: &Shown, number: u32) -> Vec<&'static str> {
+/// The subjects whose conditions hold.
+fn chosen_sums<const N: usize>(subjects: [String; N], holds: [bool; N]) -> Vec<String> {
+    subjects.into_iter().zip(holds).filter(|(_, holds)| *holds).map(|(name, _)| name).collect()
+}
+
+fn resize_sums_met(width: Width, shown: &Shown, number: u32) -> Vec<String> {
+    let most = width.most_elements() as i128;
     let rows = shown.lists[0].iter().zip(&shown.arguments[0]);
     let counts: Vec<i128> = rows
         .clone()
@@ -873,34 +888,40 @@ fn resize_sums_met(shown: &Shown, number: u32) -> Vec<&'static str> {
     let holds = [
         all == 16384 && number == 0,
         all == 16385 && number == 9,
-        all == 2147483647 && number == 9,
-        all == 2147483648 && number == 8,
+        all == most && number == 9,
+        all == most + 1 && number == 8,
         before == past && number == 7,
         before == past + 1 && number == 8,
         negative == Some(0) && behind > past && number == 7,
-        (2147483648..=past).contains(&before) && number == 7,
+        (most + 1..=past).contains(&before) && number == 7,
         at_null_row(&|count| count < 0) && number == 0,
-        at_null_row(&|count| count > 2147483647) && number == 0,
+        at_null_row(&|count| i128::from(count) > most) && number == 0,
     ];
-    chosen(RESIZE_SUMS, holds)
+    chosen_sums(resize_sums(width), holds)
 }
 
-const REPEAT_SUMS: [&str; 12] = [
-    "lists 16384: 0",
-    "lists 16385: 9",
-    "values 16384: 0",
-    "values 16385: 9",
-    "lists 2147483647: 9",
-    "lists 2147483648, values fewer: 8",
-    "lists 2147483648, all null: 8",
-    "values 2147483647: 9",
-    "values 2147483648, lists fewer: 8",
-    "lists past 18446744073709551615: 8",
-    "null list over values, too many if they counted: 9",
-    "null list over values, repeated: 0",
-];
+/// The same of list-repeat, whose lists have a limit of their own.
+fn repeat_sums(width: Width) -> [String; 13] {
+    let (lists, values) = (width.most_outer_lists(), width.most_elements());
+    [
+        "lists 16384: 0".to_string(),
+        "lists 16385: 9".to_string(),
+        "values 16384: 0".to_string(),
+        "values 16385: 9".to_string(),
+        format!("lists {lists}: 9"),
+        format!("lists {}, values fewer: 8", lists + 1),
+        format!("lists {}, all null: 8", lists + 1),
+        format!("values {values}: 9"),
+        format!("values {}, lists fewer: 8", values + 1),
+        "lists past 18446744073709551615: 8".to_string(),
+        format!("values past {}, lists fewer: 8", values + 1),
+        "null list over values, too many if they counted: 9".to_string(),
+        "null list over values, repeated: 0".to_string(),
+    ]
+}
 
-fn repeat_sums_met(shown: &Shown, list: &ListColumn, number: u32) -> Vec<&'static str> {
+fn repeat_sums_met(width: Width, shown: &Shown, list: &ListColumn, number: u32) -> Vec<String> {
+    let (most_lists, most) = (width.most_outer_lists() as i128, width.most_elements() as i128);
     let rows = shown.lists[0].iter().zip(&shown.arguments[0]).enumerate();
     let (mut lists, mut null_lists, mut values, mut hidden) = (0, 0, 0, 0);
     for (at, (row, times)) in rows {
@@ -919,16 +940,17 @@ fn repeat_sums_met(shown: &Shown, list: &ListColumn, number: u32) -> Vec<&'stati
         lists == 16385 && number == 9,
         values == 16384 && number == 0,
         values == 16385 && number == 9,
-        lists == 2147483647 && number == 9,
-        lists == 2147483648 && values < lists && number == 8,
-        lists == 2147483648 && null_lists == lists && number == 8,
-        values == 2147483647 && number == 9,
-        values == 2147483648 && lists < values && number == 8,
+        lists == most_lists && number == 9,
+        lists == most_lists + 1 && values < lists && number == 8,
+        lists == most_lists + 1 && null_lists == lists && number == 8,
+        values == most && number == 9,
+        values == most + 1 && lists < values && number == 8,
         lists > 18446744073709551615 && number == 8,
-        values + hidden > 2147483647 && values <= 2147483647 && number == 9,
+        values > most + 1 && lists <= most_lists && number == 8,
+        values + hidden > most && values <= most && number == 9,
         hidden > 0 && number == 0,
     ];
-    chosen(REPEAT_SUMS, holds)
+    chosen_sums(repeat_sums(width), holds)
 }
 
 const LIMIT_COLUMNS: [&str; 9] = [
@@ -958,13 +980,13 @@ fn limit_columns_met(rows: usize, limits: &[Element], number: u32) -> Vec<&'stat
     chosen(LIMIT_COLUMNS, holds)
 }
 
-fn sums_met(operation: Operation, shown: &Shown, input: &Input, number: u32) -> Vec<String> {
-    let met = match operation {
-        Operation::Resize | Operation::ResizeWithoutFill => resize_sums_met(shown, number),
-        Operation::ListRepeat => repeat_sums_met(shown, &input.lists[0], number),
+fn sums_met(shown: &Shown, input: &Input, number: u32) -> Vec<String> {
+    let width = input.entry.width;
+    match input.entry.known_operation() {
+        Operation::Resize | Operation::ResizeWithoutFill => resize_sums_met(width, shown, number),
+        Operation::ListRepeat => repeat_sums_met(width, shown, &input.lists[0], number),
         _ => Vec::new(),
-    };
-    met.into_iter().map(str::to_string).collect()
+    }
 }
 
 /// The limit column of a call that no refusal before 3 ends.
@@ -988,9 +1010,9 @@ fn unequal_columns(input: &Input) -> Vec<Column> {
         Column::List(at) => input.lists[at].row_count() != rows,
         Column::Argument(at) => {
             let values = input.arguments[at].values.len();
-            match input.entry {
-                Entry::Recipe { columns, .. } => values as u128 != columns as u128 * rows as u128,
-                entry => !model::suits(entry.roles()[at], values, rows),
+            match input.entry.kind {
+                Kind::Recipe { columns, .. } => values as u128 != columns as u128 * rows as u128,
+                _ => !model::suits(input.entry.roles()[at], values, rows),
             }
         }
     };
@@ -1000,7 +1022,8 @@ fn unequal_columns(input: &Input) -> Vec<Column> {
 /// The outputs that the result of an operation does not fit.
 fn short_outputs(case: &Case, input: &Input) -> Vec<&'static str> {
     let operation = case.entry.known_operation();
-    let Ok(made) = model::rows_made(operation, &input.lists, input.taken()) else {
+    let width = case.entry.width;
+    let Ok(made) = model::rows_made(width, operation, &input.lists, input.taken()) else {
         return Vec::new();
     };
     let lengths = case.lengths(case.entry.results());
@@ -1291,21 +1314,83 @@ const REPEATS: &[&str] = &[
     "times largest: refused 8",
 ];
 
+/// What large lists must meet in the place of 4, 6 and 8, and of what steps to the ends of 32 bits.
+const LARGE_INDEXES: &[&str] = &[
+    "index 2147483648: null",
+    "index -2147483649: null",
+    "index 1152921504606846976: null",
+    "index largest: null",
+    "index smallest: null",
+    "index 2147483648 of an empty row: null",
+];
+
+const LARGE_BOUNDS: &[&str] = &[
+    "from 2147483648: empty",
+    "from -2147483649: places",
+    "from largest: empty",
+    "from smallest: places",
+    "to 2147483648: places",
+    "to -2147483649: empty",
+    "to largest: places",
+    "to smallest: empty",
+];
+
+const LARGE_STRIDES: &[&str] = &[
+    "stride 2147483648: places",
+    "stride -2147483649: places",
+    "stride 1152921504606846976: places",
+    "stride largest: places",
+    "stride smallest: places",
+    "bounds rising, stride above 32 bits: places",
+    "bounds equal, stride above 32 bits: places",
+    "bounds equal, stride below 32 bits: places",
+    "bounds falling, stride below 32 bits: places",
+    "1 of 9 by 2147483648",
+    "1 of 9 by -2147483649",
+    "1 of 9 by 9223372036854775806",
+    "1 of 9 by 9223372036854775807",
+    "1 of 9 by -9223372036854775807",
+    "1 of 9 by -9223372036854775808",
+    "1 of 4000 by 9223372036854775807",
+    "1 of 4000 by -9223372036854775808",
+];
+
+const LARGE_REPEATS: &[&str] =
+    &["times 1152921504606846975: refused 8", "times 1152921504606846976: refused 8"];
+
+/// Whether large lists meet it too.
+fn is_of_both_widths(subject: &str) -> bool {
+    let refused = ["refused 4", "refused 6", "2147483648: refused 8"];
+    !refused.iter().any(|end| subject.ends_with(end))
+        && !(subject.contains(" by ") && subject.contains("21474836"))
+}
+
 /// What the rows of an operation must meet.
-fn demanded_of_rows(operation: Operation) -> Vec<&'static str> {
-    let parts: &[&[&str]] = match operation {
-        Operation::Element => &[INDEXES],
-        Operation::Union | Operation::Intersect => &[&PAIRS],
-        Operation::Slice => &[BOUNDS, STRIDES, PLACES],
-        Operation::SliceWithoutStride => &[BOUNDS],
-        Operation::Resize => &[COUNTS, FILLS, &RESIZE_SUMS],
-        Operation::ResizeWithoutFill => &[COUNTS, &RESIZE_SUMS],
-        Operation::Replace => &[REPLACEMENTS, &LIMIT_COLUMNS],
-        Operation::Remove => &[REMOVALS, &LIMIT_COLUMNS],
-        Operation::ListRepeat => &[REPEATS, &REPEAT_SUMS],
-        _ => &[],
+fn demanded_of_rows(entry: Entry) -> Vec<String> {
+    let (parts, large): (&[&[&str]], &[&[&str]]) = match entry.known_operation() {
+        Operation::Element => (&[INDEXES], &[LARGE_INDEXES]),
+        Operation::Union | Operation::Intersect => (&[&PAIRS], &[]),
+        Operation::Slice => (&[BOUNDS, STRIDES, PLACES], &[LARGE_BOUNDS, LARGE_STRIDES]),
+        Operation::SliceWithoutStride => (&[BOUNDS], &[LARGE_BOUNDS]),
+        Operation::Resize => (&[COUNTS, FILLS], &[]),
+        Operation::ResizeWithoutFill => (&[COUNTS], &[]),
+        Operation::Replace => (&[REPLACEMENTS, &LIMIT_COLUMNS], &[]),
+        Operation::Remove => (&[REMOVALS, &LIMIT_COLUMNS], &[]),
+        Operation::ListRepeat => (&[REPEATS], &[LARGE_REPEATS]),
+        _ => (&[], &[]),
     };
-    parts.concat()
+    let mut all: Vec<&str> = parts.concat();
+    if entry.is_wide() {
+        all.retain(|subject| is_of_both_widths(subject));
+        all.extend(large.concat());
+    }
+    let mut all: Vec<String> = all.into_iter().map(str::to_string).collect();
+    match entry.known_operation() {
+        Operation::Resize | Operation::ResizeWithoutFill => all.extend(resize_sums(entry.width)),
+        Operation::ListRepeat => all.extend(repeat_sums(entry.width)),
+        _ => (),
+    }
+    all
 }
 
 /// The answers that can be reached for an operation. Union's 8 takes more than 2147483647 elements
@@ -1315,9 +1400,12 @@ pub fn answers(entry: Entry) -> Vec<u32> {
     let operation = entry.known_operation();
     let mut answers = vec![0, 13, 1, 2];
     answers.extend(others.then_some(3));
-    answers.extend(operation.refusals().iter().filter(|_| operation != Operation::Union));
-    answers.extend([9, 100, 101]);
-    answers.extend(entry.with_code(0).map(|_| 102));
+    answers.extend(entry.refusals().iter().filter(|_| operation != Operation::Union));
+    answers.extend([9, 100]);
+    if !entry.is_wide() {
+        answers.push(101);
+        answers.extend(entry.with_code(0).map(|_| 102));
+    }
     answers
 }
 
@@ -1394,13 +1482,16 @@ fn demanded(entry: Entry) -> Vec<(&'static str, String)> {
     add("damage", Harm::of(entry).iter().map(|harm| harm.name(entry)).collect());
     add("order", demanded_orders(entry));
     add(SHARED, demanded_shared(entry));
-    for way in ["ragged", "over size", "at size"] {
+    for way in ["ragged", "over size", "at size"].into_iter().filter(|_| !entry.is_wide()) {
         let slices = entry.inputs().into_iter().chain(entry.outputs().iter().copied());
         let numbers = slices.filter(|kind| kind.most.is_some());
         add(way, numbers.map(|kind| kind.name.to_string()).collect());
     }
-    add("ragged", vec!["counts".to_string()]);
-    add("row", owned(&demanded_of_rows(entry.known_operation())));
+    add("row", demanded_of_rows(entry));
+    match entry.is_wide() {
+        true => add("beside the narrow call", vec!["equal rows".to_string()]),
+        false => add("ragged", vec!["counts".to_string()]),
+    }
     all.extend(demanded_no_offsets(entry));
     all.extend(demanded_null_slots());
     all.extend(demanded_starts(entry, &shared_answers(entry)));
@@ -1434,17 +1525,20 @@ impl Coverage {
                 }
             }
         }
-        if library.has(Entry::RECIPE) {
-            let lending = demanded_lending(Entry::RECIPE);
-            for (kind, subject) in recipe_coverage::demanded().into_iter().chain(lending) {
-                if !self.reached("recipe", kind, &subject) {
-                    missing.push(format!("recipe: {kind} {subject}"));
+        let recipes = Width::ALL.into_iter().map(Entry::recipes);
+        for entry in recipes.filter(|entry| library.has(*entry)) {
+            let lending = demanded_lending(entry);
+            for (kind, subject) in recipe_coverage::demanded(entry).into_iter().chain(lending) {
+                if !self.reached(entry.name(), kind, &subject) {
+                    missing.push(format!("{}: {kind} {subject}", entry.name()));
                 }
             }
         }
-        for (kind, subject) in [("answer", "102"), ("typed", FOR_CODE)] {
-            if !self.reached("unknown", kind, subject) {
-                missing.push(format!("unknown operations: {kind} {subject}"));
+        let mut unknown = vec![("unknown", "answer", "102"), ("unknown", "typed", FOR_CODE)];
+        unknown.extend(library.large.map(|_| ("large unknown", "typed", FOR_CODE)));
+        for (name, kind, subject) in unknown {
+            if !self.reached(name, kind, subject) {
+                missing.push(format!("{name} operations: {kind} {subject}"));
             }
         }
         missing
@@ -1453,12 +1547,13 @@ impl Coverage {
     /// Prints all that was reached, but of the rows only what is demanded.
     pub fn print(&self) {
         println!("covered, as calls by operation:");
-        let rows = |entry: Entry| (entry.name(), demanded_of_rows(entry.known_operation()));
-        let rows: BTreeMap<&str, Vec<&str>> = Entry::all().map(rows).collect();
+        let rows = |entry: Entry| (entry.name(), demanded_of_rows(entry));
+        let entries = Width::ALL.into_iter().flat_map(Entry::all);
+        let rows: BTreeMap<&str, Vec<String>> = entries.map(rows).collect();
         let mut line = String::new();
         let mut last = ("", "");
         for ((operation, kind, subject), count) in &self.0 {
-            if *kind == "row" && !rows[operation].contains(&&**subject) {
+            if *kind == "row" && !rows[operation].iter().any(|one| one == subject) {
                 continue;
             }
             if last != (operation, kind) && !line.is_empty() {
@@ -1478,7 +1573,8 @@ impl Coverage {
             println!("not reachable, and not demanded:");
             println!(
                 "  union, alone or in a recipe, answer 8: its result would exceed 2147483647 \
-                 elements, where the byte entry takes 16384 and a typed call 17 GB of values"
+                 elements, where the byte entry takes 16384 and a typed call 17 GB of values; of \
+                 large lists, 9223372036854775807"
             );
         }
     }

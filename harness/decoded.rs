@@ -16,6 +16,7 @@ pub const LIBRARY: Library = Library {
     list_repeat: Some(list_repeat),
     recipe: Some(recipe),
     typed: None,
+    large: None,
 };
 
 fn decode_i32<'a>(bytes: &[u8], array: &'a mut [i32]) -> &'a [i32] {

@@ -2,6 +2,7 @@
 //! mock_recipe.rs, mock_typed.rs and mock_lending.rs ask for.
 
 use crate::entry::{Content, Entry};
+use crate::model::Width;
 use std::sync::OnceLock;
 
 /// The calls that must report a wrong version.
@@ -15,6 +16,8 @@ enum By {
     TypedGroups,
     /// Those of the groups for how much to lend.
     Lending,
+    /// Those of the groups of large lists.
+    Large,
 }
 
 impl By {
@@ -25,6 +28,7 @@ impl By {
             By::Typed => "typed",
             By::TypedGroups => "typed-groups",
             By::Lending => "lending",
+            By::Large => "large",
         }
     }
 }
@@ -248,6 +252,75 @@ const TYPED_DEFECTS: &[(By, &str, &[&str])] = &[
     (By::Lending, "element", &["lending-row-refusals-not-given", "lengths-bitmap-one-more"]),
     (By::Lending, RECIPE, LENDING_DEFECTS),
     (By::Lending, RECIPE, LIMITS_DEFECTS),
+    (By::Large, "large element", &["large-4-given", "large-indexes-cut-to-32-bits"]),
+    (By::Large, "large slice", LARGE_SLICE_DEFECTS),
+    (By::Large, "large slice without stride", &["large-4-given", "large-bounds-cut-to-32-bits"]),
+    (By::Large, "large resize", LARGE_RESIZE_DEFECTS),
+    (By::Large, "large resize without fill", LARGE_RESIZE_DEFECTS),
+    (By::Large, "large replace", &["large-limits-cut-to-32-bits"]),
+    (By::Large, "large remove", &["large-limits-cut-to-32-bits"]),
+    (By::Large, "large list-repeat", LARGE_REPEAT_DEFECTS),
+    (By::Large, "large recipe", LARGE_RECIPE_DEFECTS),
+];
+
+const LARGE_SLICE_DEFECTS: &[&str] = &[
+    "large-4-given",
+    "large-6-given",
+    "large-bounds-cut-to-32-bits",
+    "large-strides-cut-to-32-bits",
+    "stride-0-before-bounds",
+    "one-step-too-many",
+];
+
+const LARGE_RESIZE_DEFECTS: &[&str] = &[
+    "large-limits-of-32-bits",
+    "large-resize-to-the-largest-offset",
+    "large-running-sum-not-tested",
+    "large-running-sum-wraps",
+    "large-lengths-cut-to-32-bits",
+    "resize-8-one-early",
+    "resize-8-one-late",
+];
+
+const LARGE_REPEAT_DEFECTS: &[&str] = &[
+    "large-limits-of-32-bits",
+    "large-lists-one-early",
+    "large-lists-one-late",
+    "large-values-one-late",
+    "large-values-as-lists",
+    "large-values-wrap-at-64-bits",
+    "large-product-wraps-at-63-bits",
+    "large-product-wraps-at-64-bits",
+    "large-lengths-cut-to-32-bits",
+    "repeat-8-by-values-of-null-lists",
+];
+
+const LARGE_RECIPE_DEFECTS: &[&str] = &[
+    "large-4-given",
+    "large-6-given",
+    "large-limits-of-32-bits",
+    "large-limits-stop-at-2147483647",
+    "large-limits-stop-as-resize",
+    "large-limits-stop-at-2-to-the-64",
+    "large-tray-offsets-cleared-as-32-bits",
+    "large-bounds-cut-to-32-bits",
+    "large-limits-cut-to-32-bits",
+    "recipe-does-step-one-and-copies",
+    "recipe-15-after-10",
+    "recipe-neighbour-counted",
+    "limits-resize-adds",
+    "limits-sum-wraps-at-64-bits",
+];
+
+/// Those that the groups of large lists must report in every operation, and in recipes.
+const LARGE_EVERYWHERE: &[&str] =
+    &["large-offsets-read-as-32-bits", "refusal-clears-outputs", "start-ignored", NULL_ROWS];
+
+/// Those whose result has offsets.
+const LARGE_RESULT_DEFECTS: &[&str] = &[
+    "large-offsets-written-as-32-bits",
+    "large-offsets-packed-as-32-bits",
+    "large-room-counted-by-32-bits",
 ];
 
 /// How much to lend: what is asked in whatever entry.
@@ -322,7 +395,13 @@ pub fn print() {
     }
     DEFECTS.iter().for_each(|(operation, names)| line(By::All, operation, names));
     TYPED_DEFECTS.iter().for_each(|(by, operation, names)| line(*by, operation, names));
-    for entry in Entry::all().chain([Entry::RECIPE]) {
+    for entry in Entry::all(Width::Wide).chain([Entry::recipes(Width::Wide)]) {
+        line(By::Large, entry.name(), LARGE_EVERYWHERE);
+        if entry.outputs()[0].content == Content::Offsets {
+            line(By::Large, entry.name(), LARGE_RESULT_DEFECTS);
+        }
+    }
+    for entry in Entry::all(Width::Narrow).chain([Entry::recipes(Width::Narrow)]) {
         line(By::All, entry.name(), EVERYWHERE);
         if entry.outputs()[0].content == Content::Offsets {
             line(By::All, entry.name(), &[NO_SLOT]);
@@ -939,6 +1018,7 @@ fn is_known(name: &str) -> bool {
     lists.extend(TYPED_DEFECTS.iter().map(|(_, _, names)| names));
     lists.extend([EVERYWHERE, TYPED_EVERYWHERE, TYPED_OPERATION_DEFECTS]);
     lists.extend([TYPED_SIZE_DEFECTS, TYPED_LARGE_DEFECTS]);
+    lists.extend([LARGE_EVERYWHERE, LARGE_RESULT_DEFECTS]);
     name == NO_SLOT || lists.iter().any(|names| names.contains(&name))
 }
 

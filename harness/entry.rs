@@ -1,6 +1,6 @@
 //! The C entries: which slices each takes, how columns lie in them, and the answers that an entry
 //! gives by itself: over bytes 100, 101 and 102, typed 100 alone. A case is one call, as bytes; the
-//! bytes of whole numbers are what a typed call is lent.
+//! bytes of whole numbers are what a typed call is lent. Large lists have typed entries alone.
 //!
 //! An operation is added by its line in `OPERATIONS`, an entry by its arm in each function of
 //! `Entry`. The recipe's entry reaches no operation of its own; its trays and its tally, which go
@@ -8,7 +8,7 @@
 
 use crate::model::{
     self, ArgumentColumn, Bitmap, ListColumn, Operation, Recipe, RecipeRefusal, ResultForm, Role,
-    Shown, Slots, Tally,
+    Shown, Slots, Tally, Width,
 };
 use std::ops::Range;
 
@@ -36,10 +36,17 @@ impl Route {
     }
 }
 
-/// An entry with the operation code that it is given; a recipe's with its station and the number of
-/// its argument columns.
+/// An entry of one width of offsets.
 #[derive(Clone, Copy, PartialEq, Eq, Debug)]
-pub enum Entry {
+pub struct Entry {
+    pub kind: Kind,
+    pub width: Width,
+}
+
+/// Which entry it is, with the operation code that it is given; a recipe's with its station and the
+/// number of its argument columns.
+#[derive(Clone, Copy, PartialEq, Eq, Debug)]
+pub enum Kind {
     List(u32),
     AnyValue,
     Element,
@@ -49,23 +56,40 @@ pub enum Entry {
     Recipe { station: u32, columns: usize },
 }
 
-/// Every operation of the port, with the entry that reaches it and its name.
-const OPERATIONS: [(Entry, Operation, &str); 15] = [
-    (Entry::List(0), Operation::Reverse, "reverse"),
-    (Entry::List(1), Operation::Distinct, "distinct"),
-    (Entry::List(2), Operation::PopFront, "pop front"),
-    (Entry::List(3), Operation::PopBack, "pop back"),
-    (Entry::AnyValue, Operation::AnyValue, "any-value"),
-    (Entry::Element, Operation::Element, "element"),
-    (Entry::Lists(9), Operation::Union, "union"),
-    (Entry::Lists(10), Operation::Intersect, "intersect"),
-    (Entry::ListWith(4), Operation::Slice, "slice"),
-    (Entry::ListWith(5), Operation::SliceWithoutStride, "slice without stride"),
-    (Entry::ListWith(6), Operation::Resize, "resize"),
-    (Entry::ListWith(11), Operation::ResizeWithoutFill, "resize without fill"),
-    (Entry::ListWith(7), Operation::Replace, "replace"),
-    (Entry::ListWith(8), Operation::Remove, "remove"),
-    (Entry::ListRepeat, Operation::ListRepeat, "list-repeat"),
+impl Kind {
+    pub const fn at(self, width: Width) -> Entry {
+        Entry { kind: self, width }
+    }
+}
+
+/// Every operation of the port, with the entry that reaches it and its names, the second one for
+/// large lists.
+const OPERATIONS: [(Kind, Operation, &str, &str); 15] = [
+    (Kind::List(0), Operation::Reverse, "reverse", "large reverse"),
+    (Kind::List(1), Operation::Distinct, "distinct", "large distinct"),
+    (Kind::List(2), Operation::PopFront, "pop front", "large pop front"),
+    (Kind::List(3), Operation::PopBack, "pop back", "large pop back"),
+    (Kind::AnyValue, Operation::AnyValue, "any-value", "large any-value"),
+    (Kind::Element, Operation::Element, "element", "large element"),
+    (Kind::Lists(9), Operation::Union, "union", "large union"),
+    (Kind::Lists(10), Operation::Intersect, "intersect", "large intersect"),
+    (Kind::ListWith(4), Operation::Slice, "slice", "large slice"),
+    (
+        Kind::ListWith(5),
+        Operation::SliceWithoutStride,
+        "slice without stride",
+        "large slice without stride",
+    ),
+    (Kind::ListWith(6), Operation::Resize, "resize", "large resize"),
+    (
+        Kind::ListWith(11),
+        Operation::ResizeWithoutFill,
+        "resize without fill",
+        "large resize without fill",
+    ),
+    (Kind::ListWith(7), Operation::Replace, "replace", "large replace"),
+    (Kind::ListWith(8), Operation::Remove, "remove", "large remove"),
+    (Kind::ListRepeat, Operation::ListRepeat, "list-repeat", "large list-repeat"),
 ];
 
 /// What the slots of a slice are.
@@ -204,6 +228,22 @@ const RECIPE_OUTPUTS: [SliceKind; 13] = [
     SliceKind { name: "tally", content: Content::Tally, width: 1, most: None },
 ];
 
+/// The same slices with offsets of 64 bits.
+const fn widened<const N: usize>(mut kinds: [SliceKind; N]) -> [SliceKind; N] {
+    let mut at = 0;
+    while at < N {
+        if let Content::Offsets = kinds[at].content {
+            kinds[at].width = Width::Wide.bytes();
+        }
+        at += 1;
+    }
+    kinds
+}
+
+const LARGE_LIST_ANSWER: [SliceKind; 4] = widened(LIST_ANSWER);
+const LARGE_LIST_OF_LISTS_ANSWER: [SliceKind; 6] = widened(LIST_OF_LISTS_ANSWER);
+const LARGE_RECIPE_OUTPUTS: [SliceKind; 13] = widened(RECIPE_OUTPUTS);
+
 /// The slices of a recipe's trays among its outputs, those of its result, and its tally.
 pub const TRAYS: Range<usize> = 0..8;
 pub const RECIPE_RESULT: Range<usize> = 8..12;
@@ -211,26 +251,28 @@ pub const TALLY: usize = 12;
 pub const TALLY_BYTES: usize = 256;
 
 impl Entry {
-    /// Every operation of the port, as the entry that reaches it.
-    pub fn all() -> impl Iterator<Item = Entry> {
-        OPERATIONS.into_iter().map(|(entry, _, _)| entry)
+    /// Every operation of the port, as the entry that reaches it at this width.
+    pub fn all(width: Width) -> impl Iterator<Item = Entry> {
+        OPERATIONS.into_iter().map(move |(kind, ..)| kind.at(width))
     }
 
     /// The entry for an operation.
-    pub fn of(operation: Operation) -> Entry {
-        let line = OPERATIONS.iter().find(|(_, one, _)| *one == operation);
-        line.expect("every operation has an entry").0
+    pub fn of(operation: Operation, width: Width) -> Entry {
+        let line = OPERATIONS.iter().find(|(_, one, ..)| *one == operation);
+        line.expect("every operation has an entry").0.at(width)
     }
 
     pub fn operation(self) -> Option<Operation> {
-        OPERATIONS.iter().find(|(entry, _, _)| *entry == self).map(|(_, operation, _)| *operation)
+        let line = OPERATIONS.iter().find(|(kind, ..)| *kind == self.kind);
+        line.map(|(_, operation, ..)| *operation)
     }
 
     /// The operation that the typed entry does by this code: one entry has all those on one list.
     pub fn typed_operation(self) -> Option<Operation> {
-        match self {
-            Entry::List(code) | Entry::ListWith(code) => {
-                Entry::List(code).operation().or(Entry::ListWith(code).operation())
+        match self.kind {
+            Kind::List(code) | Kind::ListWith(code) => {
+                let of = |kind: Kind| kind.at(self.width).operation();
+                of(Kind::List(code)).or(of(Kind::ListWith(code)))
             }
             _ => self.operation(),
         }
@@ -241,54 +283,68 @@ impl Entry {
         self.operation().expect("a code that the entry knows")
     }
 
+    /// The refusals that the operation gives after 3 and before 9.
+    pub fn refusals(self) -> &'static [u32] {
+        self.operation().map_or(&[], |operation| operation.refusals(self.width))
+    }
+
     pub fn is_recipe(self) -> bool {
-        matches!(self, Entry::Recipe { .. })
+        matches!(self.kind, Kind::Recipe { .. })
+    }
+
+    pub fn is_wide(self) -> bool {
+        self.width == Width::Wide
     }
 
     /// The entry of recipes, for station 0 and without columns.
-    pub const RECIPE: Entry = Entry::Recipe { station: 0, columns: 0 };
+    pub fn recipes(width: Width) -> Entry {
+        Kind::Recipe { station: 0, columns: 0 }.at(width)
+    }
 
     /// The station and the number of columns of a recipe.
     pub fn recipe(self) -> (u32, usize) {
-        let Entry::Recipe { station, columns } = self else { panic!("the entry of recipes") };
+        let Kind::Recipe { station, columns } = self.kind else { panic!("the entry of recipes") };
         (station, columns)
     }
 
     pub fn with_station(self, station: u32) -> Entry {
-        Entry::Recipe { station, columns: self.recipe().1 }
+        Kind::Recipe { station, columns: self.recipe().1 }.at(self.width)
     }
 
     pub fn with_columns(self, columns: usize) -> Entry {
-        Entry::Recipe { station: self.recipe().0, columns }
+        Kind::Recipe { station: self.recipe().0, columns }.at(self.width)
     }
 
     pub fn name(self) -> &'static str {
-        if self.is_recipe() {
-            return "recipe";
-        }
-        let line = OPERATIONS.iter().find(|(entry, _, _)| *entry == self);
-        line.map_or("unknown", |(_, _, name)| name)
+        let names = match OPERATIONS.iter().find(|(kind, ..)| *kind == self.kind) {
+            _ if self.is_recipe() => ["recipe", "large recipe"],
+            Some((_, _, name, large)) => [*name, *large],
+            None => ["unknown", "large unknown"],
+        };
+        names[self.width as usize]
     }
 
     /// The name by the code alone, whichever entry has it.
     pub fn typed_name(self) -> &'static str {
-        self.typed_operation().map_or(self.name(), |operation| Entry::of(operation).name())
+        let operation = self.typed_operation();
+        operation.map_or(self.name(), |operation| Entry::of(operation, self.width).name())
     }
 
     /// The same entry with another code, if it takes one.
     pub fn with_code(self, code: u32) -> Option<Entry> {
-        match self {
-            Entry::List(_) => Some(Entry::List(code)),
-            Entry::Lists(_) => Some(Entry::Lists(code)),
-            Entry::ListWith(_) => Some(Entry::ListWith(code)),
-            Entry::AnyValue | Entry::Element | Entry::ListRepeat | Entry::Recipe { .. } => None,
-        }
+        let kind = match self.kind {
+            Kind::List(_) => Kind::List(code),
+            Kind::Lists(_) => Kind::Lists(code),
+            Kind::ListWith(_) => Kind::ListWith(code),
+            Kind::AnyValue | Kind::Element | Kind::ListRepeat | Kind::Recipe { .. } => return None,
+        };
+        Some(kind.at(self.width))
     }
 
     /// How many list columns come first among the inputs.
     pub fn lists(self) -> usize {
-        match self {
-            Entry::Lists(_) | Entry::Recipe { .. } => 2,
+        match self.kind {
+            Kind::Lists(_) | Kind::Recipe { .. } => 2,
             _ => 1,
         }
     }
@@ -300,12 +356,12 @@ impl Entry {
     }
 
     fn argument_kinds(self) -> &'static [SliceKind] {
-        match self {
-            Entry::Element => &INDEXES,
-            Entry::ListWith(_) => &ARGUMENTS,
-            Entry::ListRepeat => &TIMES,
-            Entry::Recipe { .. } => &RECIPE_INPUTS[9..],
-            Entry::List(_) | Entry::AnyValue | Entry::Lists(_) => &[],
+        match self.kind {
+            Kind::Element => &INDEXES,
+            Kind::ListWith(_) => &ARGUMENTS,
+            Kind::ListRepeat => &TIMES,
+            Kind::Recipe { .. } => &RECIPE_INPUTS[9..],
+            Kind::List(_) | Kind::AnyValue | Kind::Lists(_) => &[],
         }
     }
 
@@ -325,10 +381,13 @@ impl Entry {
     }
 
     pub fn inputs(self) -> Vec<SliceKind> {
-        if self.is_recipe() {
-            return RECIPE_INPUTS.to_vec();
-        }
-        [&LISTS[..4 * self.lists()], self.argument_kinds()].concat()
+        let mut kinds = match self.is_recipe() {
+            true => RECIPE_INPUTS.to_vec(),
+            false => [&LISTS[..4 * self.lists()], self.argument_kinds()].concat(),
+        };
+        let offsets = kinds.iter_mut().filter(|kind| kind.content == Content::Offsets);
+        offsets.for_each(|kind| kind.width = self.width.bytes());
+        kinds
     }
 
     /// The bitmaps among the inputs, each of which comes with a starting bit.
@@ -346,11 +405,14 @@ impl Entry {
     }
 
     pub fn outputs(self) -> &'static [SliceKind] {
-        match self {
-            Entry::List(_) | Entry::Lists(_) | Entry::ListWith(_) => &LIST_ANSWER,
-            Entry::AnyValue | Entry::Element => &VALUE_ANSWER,
-            Entry::ListRepeat => &LIST_OF_LISTS_ANSWER,
-            Entry::Recipe { .. } => &RECIPE_OUTPUTS,
+        match (self.kind, self.width) {
+            (Kind::AnyValue | Kind::Element, _) => &VALUE_ANSWER,
+            (Kind::ListRepeat, Width::Narrow) => &LIST_OF_LISTS_ANSWER,
+            (Kind::ListRepeat, Width::Wide) => &LARGE_LIST_OF_LISTS_ANSWER,
+            (Kind::Recipe { .. }, Width::Narrow) => &RECIPE_OUTPUTS,
+            (Kind::Recipe { .. }, Width::Wide) => &LARGE_RECIPE_OUTPUTS,
+            (_, Width::Narrow) => &LIST_ANSWER,
+            (_, Width::Wide) => &LARGE_LIST_ANSWER,
         }
     }
 
@@ -409,11 +471,11 @@ impl Input {
 
     /// The recipe that the call brings, if it is one.
     pub fn recipe(&self) -> Option<Recipe<'_>> {
-        let Entry::Recipe { station, columns } = self.entry else {
+        let Entry { kind: Kind::Recipe { station, columns }, width } = self.entry else {
             return None;
         };
         let (numbers, lists) = (&self.numbers, &self.lists);
-        Some(Recipe { station, numbers, columns, lists, arguments: &self.arguments[0] })
+        Some(Recipe { width, station, numbers, columns, lists, arguments: &self.arguments[0] })
     }
 
     /// The slices of all columns, in the order of the entry's inputs.
@@ -423,7 +485,7 @@ impl Input {
             slices.push(encode_u32(&self.numbers));
         }
         for list in &self.lists {
-            slices.push(encode_i32(&list.offsets));
+            slices.push(encode_offsets(&list.offsets, self.entry.width));
             slices.push(list.rows.bytes.clone());
             slices.push(encode_i64(&list.values));
             slices.push(list.elements.bytes.clone());
@@ -460,7 +522,7 @@ impl Input {
             Bitmap { bytes: bytes.clone(), start }
         };
         let list = |part: &[Vec<u8>]| ListColumn {
-            offsets: decode_i32(&part[0]),
+            offsets: decode_offsets(&part[0], entry.width),
             rows: bitmap(&part[1]),
             values: decode_i64(&part[2]),
             elements: bitmap(&part[3]),
@@ -517,10 +579,10 @@ impl Expected {
         Expected { number, written: Vec::new(), counts: Vec::new() }
     }
 
-    pub fn accepted(form: &ResultForm) -> Expected {
+    pub fn accepted(form: &ResultForm, width: Width) -> Expected {
         Expected {
             number: 0,
-            written: form.slices.iter().map(encode_slots).collect(),
+            written: form.slices.iter().map(|slots| encode_slots(slots, width)).collect(),
             counts: form.counts.iter().flat_map(|count| count.to_le_bytes()).collect(),
         }
     }
@@ -540,7 +602,8 @@ impl Case {
 
     /// The rows of the first list, counted by its offsets.
     pub fn row_count(&self) -> usize {
-        (self.inputs[usize::from(self.entry.is_recipe())].len() / 4).max(1) - 1
+        let offsets = self.inputs[usize::from(self.entry.is_recipe())].len();
+        (offsets / self.entry.width.bytes()).max(1) - 1
     }
 
     /// The inputs with the width for which each is aligned, which is 1 over bytes.
@@ -572,7 +635,7 @@ impl Case {
         let mut bitmaps = Vec::new();
         for (kind, bytes) in self.entry.inputs().into_iter().zip(&self.inputs) {
             match kind.content {
-                Content::Offsets => positions = (bytes.len() / 4).max(1) - 1,
+                Content::Offsets => positions = (bytes.len() / kind.width).max(1) - 1,
                 Content::Values | Content::RowValues => positions = bytes.len() / 8,
                 Content::Bits => {
                     let start = *starts.next().expect("a starting bit for each bitmap");
@@ -596,8 +659,8 @@ impl Case {
             outputs: self.outputs_whole(),
             counts: self.counts[..self.counts.len() / 8 * 8].to_vec(),
         };
-        if let Entry::List(code) = self.entry {
-            typed.entry = Entry::ListWith(code);
+        if let Kind::List(code) = self.entry.kind {
+            typed.entry = Kind::ListWith(code).at(self.entry.width);
             for _ in 0..typed.entry.arguments() {
                 let ArgumentColumn { values, bits } = column();
                 typed.inputs.extend([encode_i64(&values), bits.bytes]);
@@ -663,8 +726,11 @@ impl Case {
         kinds.zip(&self.outputs[outputs]).map(|(kind, bytes)| bytes.len() / kind.width).collect()
     }
 
-    /// What the call over bytes must answer and write.
+    /// What the call over bytes must answer and write; of large lists, the typed one.
     pub fn expected(&self) -> Expected {
+        if self.entry.is_wide() {
+            return self.expected_typed();
+        }
         self.expected_with(self.own_answer(), self.entry.operation())
     }
 
@@ -684,8 +750,8 @@ impl Case {
         let input = self.decode();
         let taken = &input.arguments[..operation.roles().len()];
         let lengths = self.lengths(self.entry.results());
-        match model::outcome(operation, &input.lists, taken, &lengths) {
-            Ok(form) => Expected::accepted(&form),
+        match model::outcome(self.entry.width, operation, &input.lists, taken, &lengths) {
+            Ok(form) => Expected::accepted(&form, self.entry.width),
             Err(number) => Expected::refusal(number),
         }
     }
@@ -705,7 +771,7 @@ impl Case {
         };
         let tally = tally.iter().flat_map(|count| count.to_le_bytes()).collect();
         let result = match outcome {
-            Ok(form) => Expected::accepted(&form),
+            Ok(form) => Expected::accepted(&form, self.entry.width),
             Err(refusal) => Expected::refusal(refusal.number),
         };
         let no_result = vec![Vec::new(); RECIPE_RESULT.len() - result.written.len()];
@@ -738,11 +804,28 @@ pub fn decode_tally(bytes: &[u8]) -> Tally {
     std::array::from_fn(|at| counts[at] as u64)
 }
 
-fn encode_slots(slots: &Slots) -> Vec<u8> {
+fn encode_slots(slots: &Slots, width: Width) -> Vec<u8> {
     match slots {
-        Slots::Offsets(offsets) => encode_i32(offsets),
+        Slots::Offsets(offsets) => encode_offsets(offsets, width),
         Slots::Bits(bytes) => bytes.clone(),
         Slots::Values(values) => encode_i64(values),
+    }
+}
+
+/// Offsets as they lie at this width, which all of them fit.
+pub fn encode_offsets(offsets: &[i64], width: Width) -> Vec<u8> {
+    let narrow = |offset: &i64| i32::try_from(*offset).expect("an offset of 32 bits").to_le_bytes();
+    match width {
+        Width::Narrow => offsets.iter().flat_map(narrow).collect(),
+        Width::Wide => encode_i64(offsets),
+    }
+}
+
+/// The whole offsets in the bytes; a ragged end is left out.
+pub fn decode_offsets(bytes: &[u8], width: Width) -> Vec<i64> {
+    match width {
+        Width::Narrow => decode_i32(bytes).into_iter().map(i64::from).collect(),
+        Width::Wide => decode_i64(bytes),
     }
 }
 

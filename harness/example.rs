@@ -30,9 +30,9 @@ fn column() -> ListColumn {
     }
 }
 
-fn lent(column: &ListColumn) -> List<'_> {
+fn lent<'a>(column: &'a ListColumn, offsets: &'a [i32]) -> List<'a, i32> {
     Column {
-        offsets: &column.offsets,
+        offsets,
         rows: &column.rows.bytes,
         rows_start: column.rows.start,
         values: &column.values,
@@ -43,8 +43,13 @@ fn lent(column: &ListColumn) -> List<'_> {
 
 const NO_VALUES: Values = Argument { values: &[], bits: &[], start: 0 };
 
+/// The offsets as the entries take them.
+fn narrow(column: &ListColumn) -> Vec<i32> {
+    column.offsets.iter().map(|offset| *offset as i32).collect()
+}
+
 /// Calls a list operation, and gives the rows that come back with their counts.
-fn call_list(typed: &Typed, code: u32, column: &ListColumn) -> (Vec<Row>, [u64; 4]) {
+fn call_list(typed: &Typed<i32>, code: u32, column: &ListColumn) -> (Vec<Row>, [u64; 4]) {
     let (mut offsets, mut values) = (vec![0; 5], vec![0; 8]);
     let (mut rows, mut elements, mut counts) = (vec![0; 1], vec![0; 1], [0; 4]);
     let room = Lists {
@@ -53,17 +58,21 @@ fn call_list(typed: &Typed, code: u32, column: &ListColumn) -> (Vec<Row>, [u64; 
         values: &mut values,
         elements: &mut elements,
     };
-    let answer = (typed.list)(code, lent(column), [NO_VALUES; 3], room, &mut counts);
+    let list_offsets = narrow(column);
+    let list = lent(column, &list_offsets);
+    let answer = (typed.list)(code, list, [NO_VALUES; 3], room, &mut counts);
     assert_eq!(answer, 0, "the example is accepted");
+    let offsets = offsets.into_iter().map(i64::from).collect();
     let (rows, elements) = (Bitmap::from_0(rows), Bitmap::from_0(elements));
     (model::shown_rows(&ListColumn { offsets, rows, values, elements }), counts)
 }
 
 /// Takes the element of an index from each row, or its first valid one.
-fn call_values(typed: &Typed, column: &ListColumn, index: Option<i64>) -> Vec<Element> {
+fn call_values(typed: &Typed<i32>, column: &ListColumn, index: Option<i64>) -> Vec<Element> {
     let rows = column.row_count();
     let (mut values, mut bits, mut counts) = (vec![0; rows], vec![0; 1], [0; 2]);
-    let list = lent(column);
+    let offsets = narrow(column);
+    let list = lent(column, &offsets);
     let answer = match index {
         None => (typed.any_value)(list, &mut values, &mut bits, &mut counts),
         Some(index) => {

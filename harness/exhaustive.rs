@@ -6,7 +6,7 @@ use crate::entry::{Entry, Input};
 use crate::generate::{accepted_columns, random_rows, small_shape, RowShape};
 use crate::generate::{boundaries, input_of, lend, random_beside, random_layouts, Room};
 use crate::model::{
-    shown_rows, Bitmap, Element, ListColumn, Operation, Role, Row, Shown, UNDER_NULL,
+    shown_rows, Bitmap, Element, ListColumn, Operation, Role, Row, Shown, Width, UNDER_NULL,
 };
 use crate::rng::Rng;
 
@@ -27,8 +27,8 @@ pub fn words<T: Copy>(letters: &[T], length: usize) -> Vec<Vec<T>> {
 }
 
 /// Every list of offsets from 0 to `most` in which none falls.
-fn rising_offsets(slots: usize, most: usize) -> Vec<Vec<i32>> {
-    let letters: Vec<i32> = (0..=most as i32).collect();
+fn rising_offsets(slots: usize, most: usize) -> Vec<Vec<i64>> {
+    let letters: Vec<i64> = (0..=most as i64).collect();
     let mut all = words(&letters, slots);
     all.retain(|offsets| offsets.windows(2).all(|pair| pair[0] <= pair[1]));
     all
@@ -74,7 +74,7 @@ fn value_lists(entry: Entry, count: usize) -> Vec<Vec<i64>> {
 /// The most values for this many offsets, which bounds the number of columns.
 fn most_values(entry: Entry, slots: usize) -> usize {
     let fewer = entry.known_operation() == Operation::Distinct && slots == 4 || has_others(entry);
-    if fewer {
+    if fewer || entry.is_wide() {
         3
     } else {
         4
@@ -117,9 +117,11 @@ fn check_beside(
     check_input(checker, &input, rng);
 }
 
-/// Every well-formed column of at most four offsets and three or four values, as each list.
+/// Every well-formed column of at most four offsets and three or four values, as each list; of large
+/// lists, whose rows are the same, at most three.
 pub fn short_columns(checker: &mut Checker, entry: Entry, rng: &mut Rng, _calls: u64) {
-    for slots in 0..=4 {
+    let most_slots = if entry.is_wide() { 3 } else { 4 };
+    for slots in 0..=most_slots {
         for count in 0..=most_values(entry, slots) {
             for offsets in rising_offsets(slots, count) {
                 for values in value_lists(entry, count) {
@@ -168,7 +170,7 @@ fn draws(entry: Entry) -> usize {
 /// Every list of at most four offsets over a small alphabet, most of them refused, as each list.
 pub fn short_offsets(checker: &mut Checker, entry: Entry, rng: &mut Rng, _calls: u64) {
     for slots in 0..=4 {
-        for offsets in words(&[-1, 0, 1, 2, 3, i32::MAX], slots) {
+        for offsets in words(&[-1, 0, 1, 2, 3, entry.width.largest_offset()], slots) {
             for count in [0, 2, 3] {
                 let list = ListColumn {
                     offsets: offsets.clone(),
@@ -223,16 +225,16 @@ fn row_choices(operation: Operation, lists: usize) -> Vec<Vec<Row>> {
 }
 
 /// Null, and every boundary number.
-fn argument_choices(role: Role, row: &Row) -> Vec<Element> {
+fn argument_choices(width: Width, role: Role, row: &Row) -> Vec<Element> {
     let row = row.as_deref().unwrap_or(&[Some(7), None]);
-    [None].into_iter().chain(boundaries(role, row).into_iter().map(Some)).collect()
+    [None].into_iter().chain(boundaries(width, role, row).into_iter().map(Some)).collect()
 }
 
 /// Every choice of a value for each argument of one row.
-fn argument_words(operation: Operation, row: &Row) -> Vec<Vec<Element>> {
+fn argument_words(entry: Entry, row: &Row) -> Vec<Vec<Element>> {
     let mut all = vec![Vec::new()];
-    for role in operation.roles() {
-        let choices = argument_choices(*role, row);
+    for role in entry.roles() {
+        let choices = argument_choices(entry.width, *role, row);
         let longer = |word: &Vec<Element>| {
             let word = word.clone();
             choices.iter().map(move |choice| [word.as_slice(), &[*choice]].concat())
@@ -248,7 +250,7 @@ pub fn every_argument(checker: &mut Checker, entry: Entry, rng: &mut Rng, _calls
     let operation = entry.known_operation();
     while checker.calls < 5000 {
         for rows in row_choices(operation, entry.lists()) {
-            for arguments in argument_words(operation, &rows[0]) {
+            for arguments in argument_words(entry, &rows[0]) {
                 let shown = Shown {
                     lists: rows.iter().map(|row| vec![row.clone()]).collect(),
                     arguments: arguments.into_iter().map(|argument| vec![argument]).collect(),
@@ -276,6 +278,21 @@ const COUNTS: [Element; 11] = [
     Some(i64::MAX),
 ];
 
+/// The same of large lists, about 1152921504606846975.
+const LARGE_COUNTS: [Element; 11] = [
+    None,
+    Some(-1),
+    Some(0),
+    Some(1),
+    Some(2),
+    Some(2147483648),
+    Some(1152921504606846974),
+    Some(1152921504606846975),
+    Some(1152921504606846976),
+    Some(i64::MAX - 1),
+    Some(i64::MAX),
+];
+
 /// Times whose sums, once, twice or three times, lie about 2147483647.
 const TIMES: [Element; 12] = [
     None,
@@ -289,6 +306,25 @@ const TIMES: [Element; 12] = [
     Some(2147483646),
     Some(2147483647),
     Some(2147483648),
+    Some(i64::MAX),
+];
+
+/// The same of large lists, about 1152921504606846974 and 1152921504606846975, and such as pass 2 to
+/// the 63 or 2 to the 64 two or three times.
+const LARGE_TIMES: [Element; 14] = [
+    None,
+    Some(-1),
+    Some(0),
+    Some(1),
+    Some(2147483648),
+    Some(384307168202282325),
+    Some(384307168202282326),
+    Some(576460752303423487),
+    Some(576460752303423488),
+    Some(1152921504606846974),
+    Some(1152921504606846975),
+    Some(1152921504606846976),
+    Some(6148914691236517206),
     Some(i64::MAX),
 ];
 
@@ -318,12 +354,26 @@ pub fn every_sum(checker: &mut Checker, entry: Entry, rng: &mut Rng, _calls: u64
         return every_repeated_sum(checker, entry, rng);
     }
     for length in 1..=4 {
-        for counts in words(&COUNTS, length) {
+        for counts in words(counts_of(entry.width), length) {
             check_counts(checker, entry, counts, rng.pick(&[0, 0, 2]), rng);
         }
     }
     for counts in COUNTS_AT_SIZE {
         check_counts(checker, entry, counts.iter().copied().map(Some).collect(), 0, rng);
+    }
+}
+
+fn counts_of(width: Width) -> &'static [Element] {
+    match width {
+        Width::Narrow => &COUNTS,
+        Width::Wide => &LARGE_COUNTS,
+    }
+}
+
+fn times_of(width: Width) -> &'static [Element] {
+    match width {
+        Width::Narrow => &TIMES,
+        Width::Wide => &LARGE_TIMES,
     }
 }
 
@@ -345,8 +395,9 @@ fn check_counts(
 }
 
 fn every_repeated_sum(checker: &mut Checker, entry: Entry, rng: &mut Rng) {
+    let times = times_of(entry.width);
     let letters: Vec<(i64, Element)> =
-        (-1..=3).flat_map(|length| TIMES.map(|times| (length, times))).collect();
+        (-1..=3).flat_map(|length| times.iter().map(move |times| (length, *times))).collect();
     let wrapping: Vec<(i64, Element)> = [-1, 1, 2, i64::MAX]
         .into_iter()
         .flat_map(|times| [(-1, Some(times)), (0, Some(times))])
@@ -373,12 +424,11 @@ fn check_repeated(checker: &mut Checker, entry: Entry, word: &[(i64, Element)], 
 
 /// Limit columns of every length beside no rows to nine: one value, or as many as rows, else 3.
 pub fn every_limit_length(checker: &mut Checker, entry: Entry, rng: &mut Rng, _calls: u64) {
-    let operation = entry.known_operation();
     for rows in 0..=9 {
         for limits in (0..=rows + 2).flat_map(|limits| [limits; 8]) {
             let shape = RowShape { count: rows, longest: 3, ..small_shape(rng) };
             let lists = vec![random_rows(shape, rng)];
-            let mut arguments = accepted_columns(operation, &lists, rng);
+            let mut arguments = accepted_columns(entry, &lists, rng);
             let null = rng.pick(&[0, 1, 8]);
             let limit = |_| (!rng.chance(null, 8)).then(|| rng.pick(&[-1, 0, 1, 2, i64::MAX]));
             *arguments.last_mut().expect("a limit column") = (0..limits).map(limit).collect();

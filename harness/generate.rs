@@ -3,7 +3,7 @@
 
 use crate::entry::{Case, Entry, Input, SliceKind, MOST_INNER_ROWS, MOST_VALUES};
 use crate::model::{self, bitmap_bytes, ArgumentColumn, Bitmap, Element, ListColumn, Made};
-use crate::model::{Operation, Role, Row, Shown, MOST_HELD, UNDER_NULL};
+use crate::model::{Operation, Role, Row, Shown, Width, MOST_HELD, UNDER_NULL};
 use crate::recipe_generate::{lend_recipe, lend_recipe_within};
 use crate::recipe_generate::{no_station, random_recipe, recipe_input};
 use crate::rng::Rng;
@@ -222,14 +222,14 @@ pub fn lay_out(rows: &[Row], layout: Layout, rng: &mut Rng) -> ListColumn {
     };
     let mut places = Places::default();
     places.push_hidden(hide(layout.lead), rng);
-    let mut offsets = vec![places.values.len() as i32];
+    let mut offsets = vec![places.values.len() as i64];
     for row in rows {
         match row {
             Some(row) => row.iter().for_each(|one| places.push_shown(*one, layout, rng)),
             None if layout.under_null_rows == 0 => (),
             None => places.push_hidden(hide(1 + rng.below(layout.under_null_rows)), rng),
         }
-        offsets.push(places.values.len() as i32);
+        offsets.push(places.values.len() as i64);
     }
     places.push_hidden(hide(layout.behind), rng);
     if rows.is_empty() && layout.no_offsets {
@@ -289,14 +289,52 @@ pub const FAR: [i64; 11] = [
     i64::MIN,
 ];
 
+/// What large lists meet besides: the ends of 60 signed bits and of 32 without a sign, and the
+/// neighbours of the ends of 64.
+const FARTHER: [i64; 10] = [
+    4294967295,
+    -4294967296,
+    1152921504606846974,
+    1152921504606846975,
+    1152921504606846976,
+    -1152921504606846975,
+    -1152921504606846976,
+    -1152921504606846977,
+    i64::MAX - 1,
+    i64::MIN + 1,
+];
+
 fn both_signs(number: &i64) -> [i64; 2] {
     [*number, -number]
 }
 
 /// The boundary numbers of an argument beside this row.
-pub fn boundaries(role: Role, row: &[Element]) -> Vec<i64> {
+pub fn boundaries(width: Width, role: Role, row: &[Element]) -> Vec<i64> {
+    let mut numbers = narrow_boundaries(role, row);
+    if width == Width::Wide {
+        match role {
+            Role::Index => numbers.extend(FARTHER),
+            Role::From | Role::To | Role::Stride => {
+                numbers.extend([1152921504606846976, i64::MIN + 1]);
+            }
+            Role::Count => numbers.extend(&FARTHER[2..5]),
+            Role::Limit => numbers.extend([1152921504606846975, i64::MIN + 1]),
+            Role::Times => {
+                numbers.extend([576460752303423487, 576460752303423488]);
+                numbers.extend(&FARTHER[2..5]);
+            }
+            Role::Fill | Role::Old | Role::New => (),
+        }
+    }
+    numbers.sort();
+    numbers.dedup();
+    numbers
+}
+
+/// Those that lists meet, and large lists too.
+fn narrow_boundaries(role: Role, row: &[Element]) -> Vec<i64> {
     let length = row.len() as i64;
-    let mut numbers = match role {
+    match role {
         Role::Index | Role::From | Role::To => (-length - 2..=length + 2).chain(FAR).collect(),
         Role::Stride => {
             let mut strides = vec![0, 2147483646];
@@ -321,17 +359,14 @@ pub fn boundaries(role: Role, row: &[Element]) -> Vec<i64> {
             times.extend([2147483647, 2147483648, 4294967297, i64::MAX]);
             times
         }
-    };
-    numbers.sort();
-    numbers.dedup();
-    numbers
+    }
 }
 
 /// A number for an argument beside this row: one of its boundaries, or near the row's length.
-fn random_argument(role: Role, row: &[Element], rng: &mut Rng) -> i64 {
+fn random_argument(width: Width, role: Role, row: &[Element], rng: &mut Rng) -> i64 {
     let length = row.len() as i64;
     if rng.chance(1, 4) {
-        return rng.pick(&boundaries(role, row));
+        return rng.pick(&boundaries(width, role, row));
     }
     match role {
         Role::Index | Role::From | Role::To => rng.between(-length - 1, length + 2),
@@ -348,15 +383,12 @@ fn random_argument(role: Role, row: &[Element], rng: &mut Rng) -> i64 {
 }
 
 /// A value for each argument column beside one row of the first list.
-fn random_arguments(
-    operation: Operation,
-    row: &Row,
-    null_eighths: usize,
-    rng: &mut Rng,
-) -> Vec<Element> {
+fn random_arguments(entry: Entry, row: &Row, null_eighths: usize, rng: &mut Rng) -> Vec<Element> {
     let row = row.as_deref().unwrap_or(&[Some(1), None]);
-    let roles = operation.roles().iter();
-    roles.map(|role| or_null(null_eighths, rng, |rng| random_argument(*role, row, rng))).collect()
+    let one = |role: &Role| {
+        or_null(null_eighths, rng, |rng| random_argument(entry.width, *role, row, rng))
+    };
+    entry.roles().iter().map(one).collect()
 }
 
 fn or_null(null_eighths: usize, rng: &mut Rng, value: impl Fn(&mut Rng) -> i64) -> Element {
@@ -390,33 +422,30 @@ impl Left {
 /// Arguments beside one row that the operation does not refuse and whose result is not too large;
 /// nulls where a few draws do not give them.
 fn accepted_arguments(
-    operation: Operation,
+    entry: Entry,
     rows: &[&Row],
     null_eighths: usize,
     left: &mut Left,
     rng: &mut Rng,
 ) -> Vec<Element> {
     for _ in 0..20 {
-        let arguments = random_arguments(operation, rows[0], null_eighths, rng);
-        let made = model::make_row(operation, rows, &arguments);
+        let arguments = random_arguments(entry, rows[0], null_eighths, rng);
+        let made = model::make_row(entry.width, entry.known_operation(), rows, &arguments);
         if made.is_ok_and(|made| left.take(&made)) {
             return arguments;
         }
     }
-    vec![None; operation.roles().len()]
+    vec![None; entry.roles().len()]
 }
 
 /// Argument columns for these lists, none of them refused; now and then one limit for all rows.
-pub fn accepted_columns(
-    operation: Operation,
-    lists: &[Vec<Row>],
-    rng: &mut Rng,
-) -> Vec<Vec<Element>> {
-    let roles = operation.roles();
+pub fn accepted_columns(entry: Entry, lists: &[Vec<Row>], rng: &mut Rng) -> Vec<Vec<Element>> {
+    let roles = entry.roles();
     let null_eighths = rng.pick(&[0, 0, 1, 4]);
-    let mut columns = full_columns(operation, lists, null_eighths, rng);
+    let mut columns = full_columns(entry, lists, null_eighths, rng);
     if roles.last() == Some(&Role::Limit) && rng.chance(1, 4) {
-        let limit = or_null(null_eighths, rng, |rng| random_argument(Role::Limit, &[], rng));
+        let limit = |rng: &mut Rng| random_argument(entry.width, Role::Limit, &[], rng);
+        let limit = or_null(null_eighths, rng, limit);
         columns[roles.len() - 1] = vec![limit];
     }
     columns
@@ -424,27 +453,27 @@ pub fn accepted_columns(
 
 /// The same, with a value for each row in every column.
 pub fn full_columns(
-    operation: Operation,
+    entry: Entry,
     lists: &[Vec<Row>],
     null_eighths: usize,
     rng: &mut Rng,
 ) -> Vec<Vec<Element>> {
     let left = Left { inner_rows: MOST_INNER_ROWS as u64, elements: MOST_VALUES as u64 };
-    columns_within(operation, lists, null_eighths, left, rng)
+    columns_within(entry, lists, null_eighths, left, rng)
 }
 
 /// The same for a result of this size at most.
 pub fn columns_within(
-    operation: Operation,
+    entry: Entry,
     lists: &[Vec<Row>],
     null_eighths: usize,
     mut left: Left,
     rng: &mut Rng,
 ) -> Vec<Vec<Element>> {
-    let mut columns = vec![Vec::new(); operation.roles().len()];
+    let mut columns = vec![Vec::new(); entry.roles().len()];
     for row in 0..lists[0].len() {
         let rows: Vec<&Row> = lists.iter().map(|list| &list[row]).collect();
-        let arguments = accepted_arguments(operation, &rows, null_eighths, &mut left, rng);
+        let arguments = accepted_arguments(entry, &rows, null_eighths, &mut left, rng);
         for (column, argument) in columns.iter_mut().zip(arguments) {
             column.push(argument);
         }
@@ -465,20 +494,15 @@ fn can_refuse(operation: Operation, row: &Row) -> bool {
 }
 
 /// Gives one row arguments that the operation refuses with this number; false where it cannot.
-pub fn refuse_row(
-    operation: Operation,
-    shown: &mut Shown,
-    row: usize,
-    number: u32,
-    rng: &mut Rng,
-) -> bool {
+pub fn refuse_row(entry: Entry, shown: &mut Shown, row: usize, number: u32, rng: &mut Rng) -> bool {
+    let operation = entry.known_operation();
     let rows: Vec<&Row> = shown.lists.iter().map(|list| &list[row]).collect();
-    if !operation.refusals().contains(&number) || !can_refuse(operation, rows[0]) {
+    if !entry.refusals().contains(&number) || !can_refuse(operation, rows[0]) {
         return false;
     }
     for _ in 0..2000 {
-        let arguments = random_arguments(operation, rows[0], 0, rng);
-        if model::make_row(operation, &rows, &arguments) == Err(number) {
+        let arguments = random_arguments(entry, rows[0], 0, rng);
+        if model::make_row(entry.width, operation, &rows, &arguments) == Err(number) {
             for (column, argument) in shown.arguments.iter_mut().zip(arguments) {
                 column[row] = argument;
             }
@@ -539,13 +563,12 @@ pub fn random_beside(entry: Entry, place: usize, rows: &[Row], rng: &mut Rng) ->
     if entry.lists() == 2 {
         lists.insert(1 - place, random_right(rows, shape, rng));
     }
-    let operation = entry.known_operation();
-    let mut shown = Shown { arguments: accepted_columns(operation, &lists, rng), lists };
+    let mut shown = Shown { arguments: accepted_columns(entry, &lists, rng), lists };
     if rng.chance(1, 2) {
-        for (role, column) in operation.roles().iter().zip(&mut shown.arguments) {
+        for (role, column) in entry.roles().iter().zip(&mut shown.arguments) {
             for (row, argument) in rows.iter().zip(column) {
                 let row = row.as_deref().unwrap_or(&[]);
-                *argument = or_null(1, rng, |rng| random_argument(*role, row, rng));
+                *argument = or_null(1, rng, |rng| random_argument(entry.width, *role, row, rng));
             }
         }
     }
@@ -555,17 +578,15 @@ pub fn random_beside(entry: Entry, place: usize, rows: &[Row], rng: &mut Rng) ->
 /// Rows and arguments of this shape; no row is refused.
 pub fn random_shown(entry: Entry, shape: RowShape, rng: &mut Rng) -> Shown {
     let lists = random_lists(entry, shape, rng);
-    let operation = entry.known_operation();
-    Shown { arguments: accepted_columns(operation, &lists, rng), lists }
+    Shown { arguments: accepted_columns(entry, &lists, rng), lists }
 }
 
 /// The same, and now and then one row is refused.
 pub fn random_shown_or_refused(entry: Entry, shape: RowShape, rng: &mut Rng) -> Shown {
     let mut shown = random_shown(entry, shape, rng);
-    let operation = entry.known_operation();
-    if shape.count > 0 && !operation.refusals().is_empty() && rng.chance(1, 8) {
-        let (row, number) = (rng.below(shape.count), rng.pick(operation.refusals()));
-        refuse_row(operation, &mut shown, row, number, rng);
+    if shape.count > 0 && !entry.refusals().is_empty() && rng.chance(1, 8) {
+        let (row, number) = (rng.below(shape.count), rng.pick(entry.refusals()));
+        refuse_row(entry, &mut shown, row, number, rng);
     }
     shown
 }
@@ -603,7 +624,7 @@ pub fn random_layouts(entry: Entry, rng: &mut Rng) -> Vec<Layout> {
 /// Random columns for an operation, or a random recipe, in random layouts.
 pub fn random_input(entry: Entry, shape: RowShape, rng: &mut Rng) -> Input {
     if entry.is_recipe() {
-        let shown = random_recipe(shape, rng);
+        let shown = random_recipe(entry.width, shape, rng);
         let mut input = recipe_input(&shown, &random_layouts(entry, rng), rng);
         if rng.chance(1, 16) {
             input.entry = input.entry.with_station(no_station(rng));
@@ -807,14 +828,16 @@ impl Harm {
     /// Damages columns that `damageable_shown` and `damageable_layout` made.
     pub fn apply(self, input: &mut Input, rng: &mut Rng) {
         match self.column {
-            Column::List(at) => self.damage.apply_to_list(&mut input.lists[at], rng),
+            Column::List(at) => {
+                self.damage.apply_to_list(&mut input.lists[at], input.entry.width, rng);
+            }
             Column::Argument(at) => self.damage.apply_to_argument(&mut input.arguments[at], rng),
         }
     }
 }
 
 impl Damage {
-    fn apply_to_list(self, list: &mut ListColumn, rng: &mut Rng) {
+    fn apply_to_list(self, list: &mut ListColumn, width: Width, rng: &mut Rng) {
         let rows = list.row_count();
         let last = list.offsets.last().copied().unwrap_or(0);
         match self {
@@ -822,14 +845,16 @@ impl Damage {
             Damage::RowStartOverAlone => list.rows = absent_over_7(rng),
             Damage::ElementStartOver => list.elements.start = start_over_7(rng),
             Damage::ElementStartOverAlone => list.elements = absent_over_7(rng),
-            Damage::NegativeFirst => list.offsets[0] = rng.pick(&[-1, -2, i32::MIN]),
+            Damage::NegativeFirst => {
+                list.offsets[0] = rng.pick(&[-1, -2, -2147483648, width.smallest_offset()]);
+            }
             Damage::FallingAtFirst => fall_at(list, 1),
             Damage::FallingInside => fall_at(list, 2 + rng.below(rows - 2)),
             Damage::FallingAtLast => fall_at(list, rows),
-            Damage::LastBeyondByOne => list.offsets[rows] = list.values.len() as i32 + 1,
+            Damage::LastBeyondByOne => list.offsets[rows] = list.values.len() as i64 + 1,
             Damage::LastFarBeyond => {
-                list.offsets[rows] =
-                    rng.pick(&[list.values.len() as i32 + 9, i32::MAX - 1, i32::MAX]);
+                let (near, largest) = (list.values.len() as i64 + 9, width.largest_offset());
+                list.offsets[rows] = rng.pick(&[near, 2147483647, largest - 1, largest]);
             }
             Damage::RowBitsShort => one_byte_short(&mut list.rows, rows),
             Damage::RowBitsOneBitShort => one_bit_short(&mut list.rows, rows),
@@ -906,8 +931,7 @@ pub fn damageable_shown(entry: Entry, rng: &mut Rng) -> Shown {
     for list in &mut lists {
         list[0] = Some(vec![Some(1), None, Some(3)]);
     }
-    let operation = entry.known_operation();
-    Shown { arguments: accepted_columns(operation, &lists, rng), lists }
+    Shown { arguments: accepted_columns(entry, &lists, rng), lists }
 }
 
 /// A layout that every damage can be done to: values before the first offset, more than eight
@@ -955,7 +979,9 @@ fn too_few(most: usize, rng: &mut Rng) -> usize {
 /// would be enough for a copy.
 pub fn needed_slots(input: &Input) -> Vec<usize> {
     let made = match input.entry.operation() {
-        Some(operation) => model::rows_made(operation, &input.lists, input.taken()),
+        Some(operation) => {
+            model::rows_made(input.entry.width, operation, &input.lists, input.taken())
+        }
         None => Err(0),
     };
     if let Ok(made) = made {

@@ -2,14 +2,14 @@
 //! from the seed.
 
 use crate::compare::Checker;
-use crate::entry::{Case, Content, Entry, Input, SliceKind, MOST_ROWS, MOST_VALUES};
-use crate::entry::{TALLY, TALLY_BYTES};
+use crate::entry::{encode_offsets, Case, Content, Entry, Input, Kind, SliceKind};
+use crate::entry::{MOST_ROWS, MOST_VALUES, TALLY, TALLY_BYTES};
 use crate::exhaustive::{every_argument, every_limit_length, every_sum};
 use crate::exhaustive::{short_columns, short_offsets};
 use crate::generate::*;
 use crate::large;
 use crate::lending_groups;
-use crate::model::{Operation, Role, Row, Shown};
+use crate::model::{Role, Row, Shown, Width};
 use crate::no_offsets;
 use crate::pairs;
 use crate::recipe_groups;
@@ -17,6 +17,7 @@ use crate::rng::Rng;
 use crate::starts;
 use crate::strides;
 use crate::typed_groups;
+use crate::wide;
 use crate::worked;
 
 type Applies = fn(Entry) -> bool;
@@ -43,7 +44,7 @@ const FOR_EACH: [(&str, Applies, Run, u64); 16] = [
     ("order of refusals", always, order_of_refusals, 4),
     ("first bad row", has_row_refusals, first_bad_row, 2),
     ("output lengths", always, output_lengths, 4),
-    ("answers of the entry", always, entry_answers, 1),
+    (OWN_ANSWERS, always, entry_answers, 1),
     ("random bytes", always, random_bytes, 5),
     ("boundary arguments, exhaustive", has_others, every_argument, 0),
     ("strides, exhaustive", strides::is_for, strides::every_stride, 0),
@@ -54,6 +55,9 @@ const FOR_EACH: [(&str, Applies, Run, u64); 16] = [
     ("short columns, exhaustive", always, short_columns, 0),
     ("short offsets, exhaustive", always, short_offsets, 0),
 ];
+
+/// The group for what the byte entries answer by themselves, which large lists have not.
+const OWN_ANSWERS: &str = "answers of the entry";
 
 fn always(_entry: Entry) -> bool {
     true
@@ -73,11 +77,7 @@ fn has_limit(entry: Entry) -> bool {
 
 /// Refusals that one row gives, whatever the others hold.
 fn has_row_refusals(entry: Entry) -> bool {
-    refusals(entry).contains(&4)
-}
-
-fn refusals(entry: Entry) -> &'static [u32] {
-    entry.operation().map_or(&[], Operation::refusals)
+    entry.refusals().iter().any(|number| matches!(number, 4 | 5))
 }
 
 /// The groups for what typed calls alone meet that each operation has, and those of recipes.
@@ -104,6 +104,23 @@ const TYPED_OF_RECIPES: [(&str, Run); 11] = [
     ("limits to lend, sums, exhaustive", lending_groups::sums),
     ("limits to lend, refused, exhaustive", lending_groups::refused),
     ("limits to lend, places, exhaustive", lending_groups::places),
+];
+
+/// The groups for what large lists alone meet, if the operation is one for which they are meant, and
+/// those of recipes.
+const LARGE_FOR_EACH: [(&str, Applies, Run); 5] = [
+    ("beside the narrow call", always, wide::beside_narrow),
+    ("far offsets, exhaustive", always, wide::far_offsets),
+    ("far arguments, exhaustive", wide::has_numbers, wide::far_arguments),
+    ("sums worked by hand", wide::has_sums, wide::worked_sums),
+    ("far sums, exhaustive", wide::has_sums, wide::far_sums),
+];
+
+const LARGE_OF_RECIPES: [(&str, Run); 4] = [
+    ("beside the narrow call", wide::beside_narrow),
+    ("far offsets, exhaustive", wide::far_offsets),
+    ("far arguments in a step", wide::far_arguments_of_a_step),
+    ("limits to lend, far sums worked by hand", wide::worked_limits),
 ];
 
 /// The groups whose calls are asked about too, with a quarter of their random calls.
@@ -145,57 +162,82 @@ const ASKED_OF_RECIPES: [&str; 12] = [
 ];
 
 pub fn all() -> Vec<Group> {
+    let mut groups = of_width(Width::Narrow);
+    for (name, kind) in CODED {
+        let name = format!("{name}: unknown operations");
+        groups.push(Group::new(kind.at(Width::Narrow), name, unknown_operations, 1, false));
+    }
+    groups.extend(of_width(Width::Wide));
+    groups
+}
+
+/// The groups of lists, or those of large lists, all of whose calls are typed.
+fn of_width(width: Width) -> Vec<Group> {
     let mut groups = Vec::new();
-    let mut add = |entry: Entry, name: String, run: Run, shares: u64, typed: bool| {
-        let asks = name.contains(": asked, ");
-        groups.push(Group { name, entry, typed, asks, run, shares });
+    let mut add = |entry: Entry, name: &str, run: Run, shares: u64, typed: bool| {
+        let name = format!("{}: {name}", entry.name());
+        groups.push(Group::new(entry, name, run, shares, typed));
     };
-    for entry in Entry::all() {
-        for (name, applies, run, shares) in FOR_EACH {
-            if applies(entry) {
-                add(entry, format!("{}: {name}", entry.name()), run, shares, false);
-            }
+    let is_wide = width == Width::Wide;
+    for entry in Entry::all(width) {
+        let own = FOR_EACH
+            .into_iter()
+            .filter(|(name, applies, ..)| applies(entry) && !(is_wide && *name == OWN_ANSWERS));
+        for (name, _, run, shares) in own.clone() {
+            add(entry, name, run, shares, is_wide);
         }
         for (name, run) in TYPED_FOR_EACH {
-            add(entry, format!("{}: {name}", entry.name()), run, 0, true);
+            add(entry, name, run, 0, true);
         }
-        for (name, applies, run, shares) in FOR_EACH {
-            if applies(entry) && ASKED.contains(&name) {
-                add(entry, format!("{}: asked, {name}", entry.name()), run, shares, true);
-            }
+        for (name, _, run, shares) in own.filter(|(name, ..)| ASKED.contains(name)) {
+            add(entry, &format!("asked, {name}"), run, shares, true);
         }
         for (name, run) in ASKED_TYPED {
-            add(entry, format!("{}: asked, {name}", entry.name()), run, 0, true);
+            add(entry, &format!("asked, {name}"), run, 0, true);
+        }
+        for (name, applies, run) in LARGE_FOR_EACH {
+            if is_wide && applies(entry) {
+                add(entry, name, run, 0, true);
+            }
         }
     }
-    for (name, run, shares) in recipe_groups::ALL {
-        add(Entry::RECIPE, format!("recipe: {name}"), run, shares, false);
+    let recipes = Entry::recipes(width);
+    let own = recipe_groups::ALL.into_iter();
+    let own = own.filter(|(name, ..)| !(is_wide && *name == OWN_ANSWERS));
+    for (name, run, shares) in own.clone() {
+        add(recipes, name, run, shares, is_wide);
     }
     for (name, run) in TYPED_OF_RECIPES {
-        add(Entry::RECIPE, format!("recipe: {name}"), run, 0, true);
+        add(recipes, name, run, 0, true);
     }
-    for (name, run, shares) in recipe_groups::ALL {
-        if ASKED_OF_RECIPES.contains(&name) {
-            add(Entry::RECIPE, format!("recipe: asked, {name}"), run, shares, true);
-        }
+    for (name, run, shares) in own.filter(|(name, ..)| ASKED_OF_RECIPES.contains(name)) {
+        add(recipes, &format!("asked, {name}"), run, shares, true);
     }
     let (name, run) = ASKED_TYPED[1];
-    add(Entry::RECIPE, format!("recipe: asked, {name}"), run, 0, true);
-    for (name, entry) in CODED {
-        add(entry, format!("{name}: unknown operations"), unknown_operations, 1, false);
+    add(recipes, &format!("asked, {name}"), run, 0, true);
+    for (name, run) in LARGE_OF_RECIPES {
+        if is_wide {
+            add(recipes, name, run, 0, true);
+        }
     }
-    add(Entry::List(0), "worked cases".to_string(), worked::cases, 0, false);
+    let name = ["worked cases", "large worked cases"][width as usize].to_string();
+    groups.push(Group::new(Kind::List(0).at(width), name, worked::cases, 0, is_wide));
     groups
 }
 
 /// The entries that take a code, each with one of its operations.
-const CODED: [(&str, Entry); 3] = [
-    ("list entry", Entry::List(0)),
-    ("lists entry", Entry::Lists(9)),
-    ("list with entry", Entry::ListWith(7)),
+const CODED: [(&str, Kind); 3] = [
+    ("list entry", Kind::List(0)),
+    ("lists entry", Kind::Lists(9)),
+    ("list with entry", Kind::ListWith(7)),
 ];
 
 impl Group {
+    fn new(entry: Entry, name: String, run: Run, shares: u64, typed: bool) -> Group {
+        let asks = name.contains(": asked, ");
+        Group { name, entry, typed, asks, run, shares }
+    }
+
     /// Whether the group is one of those that this operation has.
     pub fn is_of(&self, operation: &str) -> bool {
         self.name.strip_prefix(operation).is_some_and(|rest| rest.starts_with(": "))
@@ -206,9 +248,15 @@ impl Group {
         self.asks || self.name.contains(" to lend, ")
     }
 
-    /// Runs the group with its part of the random calls; the checker then holds its record.
+    /// Whether it is one of those of large lists.
+    pub fn is_large(&self) -> bool {
+        self.entry.is_wide()
+    }
+
+    /// Runs the group with its part of the random calls of its width; the checker then holds its
+    /// record.
     pub fn run(&self, checker: &mut Checker, seed: u64, random_calls: u64) {
-        let made = all().into_iter().filter(|group| !group.asks);
+        let made = of_width(self.entry.width).into_iter().filter(|group| !group.asks);
         let shares: u64 = made.map(|group| group.shares).sum();
         let calls = random_calls * self.shares / shares / if self.asks { 4 } else { 1 };
         checker.start_group(&self.name);
@@ -291,7 +339,7 @@ fn order_of_refusals(checker: &mut Checker, entry: Entry, rng: &mut Rng, calls: 
         let case = lend(&input, Room::Exact, rng);
         checker.check(&case);
         let mut refused = Refused { shown, layout, input, case, holding: Vec::new() };
-        let of_rows = rng.pick(&[&[0][..], refusals(entry)].concat());
+        let of_rows = rng.pick(&[&[0][..], entry.refusals()].concat());
         for number in [9, of_rows, 3, 2, 1, 13, 101, 100, 102] {
             if !rng.chance(1, 3) && refused.add(number, rng) {
                 let entry = refused.input.entry;
@@ -330,6 +378,8 @@ impl Refused {
             }
             4..=8 => self.refuse_some_row(number, rng),
             9 => shorten_an_output(&mut self.case, rng),
+            100 if self.case.entry.is_wide() => not_served(&mut self.case, rng),
+            101 | 102 if self.case.entry.is_wide() => false,
             100 => make_ragged(&mut self.case, rng),
             101 => over_size(&mut self.case, rng),
             102 => {
@@ -354,11 +404,10 @@ impl Refused {
 
     fn refuse_some_row(&mut self, number: u32, rng: &mut Rng) -> bool {
         let entry = self.input.entry;
-        let operation = entry.known_operation();
         let full = |row: &Row| row.as_ref().is_some_and(|row| !row.is_empty());
         let mut rows: Vec<usize> = (0..self.shown.lists[0].len()).collect();
         rows.retain(|row| full(&self.shown.lists[0][*row]));
-        let refused = refuse_row(operation, &mut self.shown, rng.pick(&rows), number, rng);
+        let refused = refuse_row(entry, &mut self.shown, rng.pick(&rows), number, rng);
         self.input = input_of(entry, &self.shown, &[self.layout], rng);
         self.case.lend(&self.input);
         refused
@@ -395,7 +444,6 @@ fn shorten_an_output(case: &mut Case, rng: &mut Rng) -> bool {
 
 /// Two rows are refused, each with a number of its own: the first decides.
 fn first_bad_row(checker: &mut Checker, entry: Entry, rng: &mut Rng, calls: u64) {
-    let operation = entry.known_operation();
     while checker.calls < calls.max(300) {
         let shape = RowShape { count: 2 + rng.below(8), longest: 4, ..small_shape(rng) };
         let mut shown = random_shown(entry, RowShape { null_elements: 1, ..shape }, rng);
@@ -403,10 +451,10 @@ fn first_bad_row(checker: &mut Checker, entry: Entry, rng: &mut Rng, calls: u64)
         shuffle(&mut rows, rng);
         let mut bad = [rows[0], rows[1]];
         bad.sort();
-        let numbers = [rng.pick(operation.refusals()), rng.pick(operation.refusals())];
+        let numbers = [rng.pick(entry.refusals()), rng.pick(entry.refusals())];
         for (row, number) in bad.into_iter().zip(numbers) {
             shown.lists[0][row] = Some(vec![Some(5); 1 + rng.below(3)]);
-            refuse_row(operation, &mut shown, row, number, rng);
+            refuse_row(entry, &mut shown, row, number, rng);
         }
         let layouts = random_layouts(entry, rng);
         let case = lend(&input_of(entry, &shown, &layouts, rng), Room::Exact, rng);
@@ -495,6 +543,16 @@ pub fn over_size(case: &mut Case, rng: &mut Rng) -> bool {
     true
 }
 
+/// Makes the counts or a recipe's tally too short, which a typed entry answers with 100.
+pub fn not_served(case: &mut Case, rng: &mut Rng) -> bool {
+    if case.entry.is_recipe() && rng.chance(1, 2) {
+        case.outputs[TALLY].truncate(rng.below(TALLY_BYTES));
+    } else {
+        case.counts.truncate(rng.below(case.entry.count_bytes()));
+    }
+    true
+}
+
 /// Makes some slice of numbers ragged, or the counts or the tally too short.
 pub fn make_ragged(case: &mut Case, rng: &mut Rng) -> bool {
     let slices = NumberSlice::all(case.entry);
@@ -544,8 +602,7 @@ fn sizes_met_exactly(checker: &mut Checker, entry: Entry, rng: &mut Rng) {
             let shown: usize = list.iter().flatten().map(Vec::len).sum();
             list[MOST_ROWS - 1] = last_row(list, MOST_VALUES - shown);
         }
-        let operation = entry.known_operation();
-        let mut shown = Shown { arguments: accepted_columns(operation, &lists, rng), lists };
+        let mut shown = Shown { arguments: accepted_columns(entry, &lists, rng), lists };
         for column in &mut shown.arguments {
             // One limit for all rows, written out.
             column.resize(MOST_ROWS, column[0]);
@@ -703,7 +760,8 @@ pub fn ragged_end(kind: SliceKind, rng: &mut Rng) -> usize {
 
 pub fn random_slice(kind: SliceKind, rows: usize, rng: &mut Rng) -> Vec<u8> {
     let mut bytes = match kind.content {
-        Content::Offsets => random_offsets(rows, rng),
+        Content::Offsets if kind.width == 8 => random_offsets(rows, Width::Wide, rng),
+        Content::Offsets => random_offsets(rows, Width::Narrow, rng),
         Content::Values => {
             let slots = rng.below(9);
             rng.bytes(8 * slots)
@@ -727,14 +785,14 @@ pub fn random_slice(kind: SliceKind, rows: usize, rng: &mut Rng) -> Vec<u8> {
 }
 
 /// Offsets over a small alphabet, in order more often than not.
-fn random_offsets(rows: usize, rng: &mut Rng) -> Vec<u8> {
+fn random_offsets(rows: usize, width: Width, rng: &mut Rng) -> Vec<u8> {
     let slots = if rng.chance(1, 32) { 0 } else { rows + 1 };
-    let mut offsets: Vec<i32> = (0..slots).map(|_| rng.between(0, 8) as i32).collect();
+    let mut offsets: Vec<i64> = (0..slots).map(|_| rng.between(0, 8)).collect();
     if !rng.chance(1, 8) {
         offsets.sort();
     }
     if rng.chance(1, 32) && slots > 0 {
         offsets[0] = -1;
     }
-    offsets.iter().flat_map(|offset| offset.to_le_bytes()).collect()
+    encode_offsets(&offsets, width)
 }

@@ -4,10 +4,10 @@
 //! that the operations which compare elements stay linear.
 
 use crate::compare::Checker;
-use crate::entry::{Case, Entry, Expected, Input};
+use crate::entry::{Case, Entry, Expected, Input, Kind};
 use crate::generate::{lend_typed, Damage, Harm, Room};
 use crate::model::{self, ArgumentColumn, Bitmap, ListColumn, Operation, ResultForm};
-use crate::model::{Role, Slots, UNDER_NULL};
+use crate::model::{Role, Slots, Width, UNDER_NULL};
 use crate::rng::Rng;
 
 /// The elements of these columns.
@@ -112,17 +112,17 @@ struct Places {
 
 impl Places {
     /// Adds this many, of which so many eighths are null, and gives how many there are.
-    fn push(&mut self, count: usize, null_eighths: usize, rng: &mut Rng) -> i32 {
+    fn push(&mut self, count: usize, null_eighths: usize, rng: &mut Rng) -> i64 {
         for _ in 0..count {
             let word = rng.next() as usize;
             self.values.push(ALPHABET[word % 8]);
             self.bits.push(word / 8 % 8 >= null_eighths);
         }
-        self.values.len() as i32
+        self.values.len() as i64
     }
 
     /// Adds a row. A long one ends with a value that it has once, and some have nulls before it.
-    fn push_row(&mut self, row: usize, length: usize, rng: &mut Rng) -> i32 {
+    fn push_row(&mut self, row: usize, length: usize, rng: &mut Rng) -> i64 {
         if length < LONG {
             return self.push(length, self.null_eighths, rng);
         }
@@ -130,7 +130,7 @@ impl Places {
         self.push(length - 1, if all_null { 8 } else { self.null_eighths }, rng);
         self.values.push(1000 + row as i64);
         self.bits.push(true);
-        self.values.len() as i32
+        self.values.len() as i64
     }
 }
 
@@ -164,7 +164,7 @@ impl Large {
         let mut bits = Bits::new((self.start + 3 * at + 1) % 8, rng);
         let value = |row: usize| {
             bits.push(!rng.chance(self.null_rows.min(1), 8));
-            argument_of(role, (list.offsets[row + 1] - list.offsets[row]).into(), rng)
+            argument_of(role, list.offsets[row + 1] - list.offsets[row], rng)
         };
         let values = (0..self.rows).map(value).collect();
         ArgumentColumn { values, bits: bits.finish(self.no_bitmaps) }
@@ -199,7 +199,8 @@ fn argument_of(role: Role, length: i64, rng: &mut Rng) -> i64 {
 /// What an operation makes of columns that are not refused, with room for all of it.
 fn form_of(input: &Input) -> Result<ResultForm, u32> {
     let room = vec![usize::MAX; input.entry.outputs().len()];
-    model::outcome(input.entry.known_operation(), &input.lists, input.taken(), &room)
+    let (width, operation) = (input.entry.width, input.entry.known_operation());
+    model::outcome(width, operation, &input.lists, input.taken(), &room)
 }
 
 fn slots_of(slots: &Slots) -> usize {
@@ -231,11 +232,21 @@ fn check_large(checker: &mut Checker, input: &Input, more: usize, rng: &mut Rng)
         return checker.require(false, &case, "a large column that is refused");
     };
     let case = lend_for(input, form, more, NONE, rng);
-    checker.check_typed_as(&case, &Expected::accepted(form));
+    checker.check_typed_as(&case, &Expected::accepted(form, input.entry.width));
 }
 
-/// Every kind of large column, and columns from every starting bit.
+/// Every kind of large column, and columns from every starting bit; as large lists fewer and smaller.
 pub fn columns(checker: &mut Checker, entry: Entry, rng: &mut Rng, _calls: u64) {
+    if entry.is_wide() {
+        let long = Large { rows: 5, shown: (100_000, 100_010), ..LONG_ROWS };
+        let hidden = Large { rows: 9, null_rows: 7, around: (9, 9), ..MUCH_HIDDEN };
+        let many = Large { rows: 70_000, shown: (0, 5), ..MANY_ROWS };
+        for large in [long, hidden, many] {
+            let more = rng.below(2);
+            check_large(checker, &large.input(entry, rng), more, rng);
+        }
+        return;
+    }
     for start in 0..8 {
         let large = Large { start, null_rows: start % 3, ..SOME_ROWS };
         check_large(checker, &large.input(entry, rng), start % 2, rng);
@@ -273,7 +284,7 @@ pub fn refused(checker: &mut Checker, entry: Entry, rng: &mut Rng, _calls: u64) 
         let number = harm.refusal().expect("a damage that is refused");
         check_refused(checker, &input, number, rng);
     }
-    for number in entry.known_operation().refusals() {
+    for number in entry.refusals() {
         let mut input = input.clone();
         if refuse_last_row(&mut input, *number) {
             check_refused(checker, &input, *number, rng);
@@ -303,6 +314,7 @@ fn refuse_last_row(input: &mut Input, number: u32) -> bool {
         (_, 5) => &[1, -1, 0],
         (_, 6) => &[1, -1, 2147483648],
         (_, 7) => &[-1, 0],
+        _ if input.entry.is_wide() => &[1152921504606846976, 0],
         _ => &[2147483648, 0],
     };
     for (column, number) in input.arguments.iter_mut().zip(numbers) {
@@ -328,20 +340,26 @@ const UNION: [u32; 4] = [9, 0, 0, 0];
 const ROLES: [Role; 5] = [Role::From, Role::To, Role::Stride, Role::Count, Role::Fill];
 
 /// Large columns through no steps, one and four, and one that is refused at its end.
-pub fn recipes(checker: &mut Checker, _entry: Entry, rng: &mut Rng, _calls: u64) {
+pub fn recipes(checker: &mut Checker, entry: Entry, rng: &mut Rng, _calls: u64) {
     let long = Large { rows: 7, ..LONG_ROWS };
     let many = Large { rows: 150_000, ..MANY_ROWS };
-    check_recipe(checker, long, &[], 0, rng);
-    check_recipe(checker, MUCH_HIDDEN, &[UNION, REVERSE], 0, rng);
-    check_recipe(checker, long, &[REVERSE, SLICE, POP_FRONT, RESIZE], 0, rng);
-    check_recipe(checker, many, &[UNION, POP_FRONT, RESIZE, REVERSE], 0, rng);
-    check_recipe(checker, many, &[POP_FRONT, RESIZE], 7, rng);
-    check_recipe(checker, many, &[REVERSE, SLICE, REVERSE], 9, rng);
+    let all: [(Large, &[[u32; 4]], u32); 6] = [
+        (long, &[], 0),
+        (MUCH_HIDDEN, &[UNION, REVERSE], 0),
+        (long, &[REVERSE, SLICE, POP_FRONT, RESIZE], 0),
+        (many, &[UNION, POP_FRONT, RESIZE, REVERSE], 0),
+        (many, &[POP_FRONT, RESIZE], 7),
+        (many, &[REVERSE, SLICE, REVERSE], 9),
+    ];
+    for (large, steps, number) in all {
+        check_recipe(checker, entry.width, large, steps, number, rng);
+    }
 }
 
 /// A recipe that is accepted, or refused for its last count or for the output.
 fn check_recipe(
     checker: &mut Checker,
+    width: Width,
     large: Large,
     steps: &[[u32; 4]],
     number: u32,
@@ -359,7 +377,7 @@ fn check_recipe(
         let bit = 6 + 4 * large.rows - 1;
         bits.bytes[bit / 8] |= 1 << (bit % 8);
     }
-    let entry = Entry::Recipe { station: rng.below(16) as u32, columns: ROLES.len() };
+    let entry = Kind::Recipe { station: rng.below(16) as u32, columns: ROLES.len() }.at(width);
     let arguments = vec![ArgumentColumn { values, bits: bits.finish(false) }];
     let input = Input { entry, numbers: steps.concat(), lists, arguments };
     let room = if number == 9 { Room::Short(8, 1) } else { Room::Longer(1) };

@@ -4,10 +4,7 @@
 
 use crate::entry::{Case, Entry, NOT_SERVED};
 use crate::model::{self, ArgumentColumn, Element, ListColumn, Made, Operation, Recipe};
-use crate::model::{RecipeShown, Refusal, Row, Slots, CODES};
-
-/// A limit stops here.
-pub const LARGEST_OFFSET: u64 = 2147483647;
+use crate::model::{RecipeShown, Refusal, Row, Slots, Width, CODES};
 
 /// The places that the lengths of an entry take: one a result slice; of a recipe, tray one, tray two
 /// and the output.
@@ -30,16 +27,18 @@ pub fn expected(case: &Case) -> Result<Vec<u64>, Refusal> {
         return limits(&recipe).map(|limits| limits.to_vec());
     }
     let operation = case.entry.typed_operation().ok_or(NOT_SERVED)?;
-    lengths(operation, &input.lists, &input.arguments[..operation.roles().len()])
+    let taken = &input.arguments[..operation.roles().len()];
+    lengths(case.entry.width, operation, &input.lists, taken)
 }
 
 /// "The exact slice lengths each operation needs, with the refusals it would give before 9."
 pub fn lengths(
+    width: Width,
     operation: Operation,
     lists: &[ListColumn],
     arguments: &[ArgumentColumn],
 ) -> Result<Vec<u64>, Refusal> {
-    match model::rows_made(operation, lists, arguments)? {
+    match model::rows_made(width, operation, lists, arguments)? {
         Made::TooLong(slots) => Ok(slots),
         made => Ok(model::result_form(&made).slices.iter().map(slots_in).collect()),
     }
@@ -80,7 +79,7 @@ fn resized(first: &[Row], counts: &[Element]) -> u128 {
 /// the largest offset." Of each place, the greatest of the steps that write it.
 fn limits_of(shown: &RecipeShown) -> [u64; 3] {
     let [first, second] = &shown.lists;
-    let stop = |limit: u128| limit.min(u128::from(LARGEST_OFFSET));
+    let stop = |limit: u128| limit.min(shown.width.largest_offset() as u128);
     let mut limit = stop(shown_elements(first));
     let mut limits = [0, 0, 0];
     if shown.steps.is_empty() {

@@ -7,7 +7,7 @@ use crate::exhaustive::words;
 use crate::generate::*;
 use crate::groups::damage_some_column;
 use crate::lending::{self, slots_by_limits};
-use crate::model::{Element, RecipeShown, Row};
+use crate::model::{Element, RecipeShown, Row, Width};
 use crate::recipe_generate::*;
 use crate::recipe_groups::{damageable_recipe, laid_out, shape_with_rows, WAYS};
 use crate::rng::Rng;
@@ -16,7 +16,7 @@ use crate::rng::Rng;
 const MOST_LENT: u64 = 300_000;
 
 /// A call that asks, with this many places for the answer; it is lent nothing else.
-fn asking(input: &Input, places: usize, rng: &mut Rng) -> Case {
+pub fn asking(input: &Input, places: usize, rng: &mut Rng) -> Case {
     let mut outputs = Vec::new();
     outputs.resize(input.entry.outputs().len(), Vec::new());
     Case::new(input, outputs, rng.bytes(8 * places))
@@ -153,33 +153,36 @@ const WORKED: [Worked; 16] = [
 ];
 
 /// Limits that were worked out by hand, in every fixed layout; and the two of the open points.
-pub fn worked_limits(checker: &mut Checker, _entry: Entry, rng: &mut Rng, _calls: u64) {
+pub fn worked_limits(checker: &mut Checker, entry: Entry, rng: &mut Rng, _calls: u64) {
     let row = |elements: &[i64]| Some(elements.iter().copied().map(Some).collect());
     let first: Vec<Row> = vec![row(&[1, 2]), None, row(&[]), row(&[3])];
     let second: Vec<Row> = vec![row(&[1, 2, 3]), row(&[4]), row(&[5]), None];
     let counts = vec![Some(3), Some(4), Some(-1), None];
-    let lists = [first, second];
+    let (lists, width) = ([first, second], entry.width);
     for (steps, limits) in WORKED {
         let columns = vec![counts.clone(), vec![Some(1); 4]];
-        let shown = RecipeShown { steps: steps.to_vec(), lists: lists.clone(), columns };
+        let shown = RecipeShown { width, steps: steps.to_vec(), lists: lists.clone(), columns };
         require_limits(checker, &shown, limits, rng);
     }
     let steps = vec![[6, 0, 0, 0]];
+    let largest = width.largest_offset();
+    let most = largest as u64;
     for (rows, counts, limit) in [
         (vec![Some(Vec::new())], vec![Some(3)], 3),
         (lists[0][..3].to_vec(), counts[..3].to_vec(), 3),
         (vec![None], vec![Some(3)], 0),
-        (vec![Some(Vec::new()); 3], vec![Some(i64::MAX); 3], 2147483647),
-        (vec![Some(Vec::new()); 2], vec![Some(2147483646), Some(1)], 2147483647),
-        (vec![Some(Vec::new()); 2], vec![Some(2147483645), Some(1)], 2147483646),
+        (vec![Some(Vec::new()); 3], vec![Some(i64::MAX); 3], most),
+        (vec![Some(Vec::new()); 2], vec![Some(largest - 1), Some(1)], most),
+        (vec![Some(Vec::new()); 2], vec![Some(largest - 1), Some(2)], most),
+        (vec![Some(Vec::new()); 2], vec![Some(largest - 2), Some(1)], most - 1),
     ] {
         let lists = [rows, vec![None; counts.len()]];
-        let shown = RecipeShown { steps: steps.clone(), lists, columns: vec![counts] };
+        let shown = RecipeShown { width, steps: steps.clone(), lists, columns: vec![counts] };
         require_limits(checker, &shown, [0, 0, limit], rng);
     }
 }
 
-fn require_limits(checker: &mut Checker, shown: &RecipeShown, limits: [u64; 3], rng: &mut Rng) {
+pub fn require_limits(checker: &mut Checker, shown: &RecipeShown, limits: [u64; 3], rng: &mut Rng) {
     for layout in layouts() {
         let input = recipe_input(shown, &[layout], rng);
         let asked = check_limits(checker, &input, rng);
@@ -192,9 +195,9 @@ fn require_limits(checker: &mut Checker, shown: &RecipeShown, limits: [u64; 3], 
 pub fn limits(checker: &mut Checker, entry: Entry, rng: &mut Rng, _calls: u64) {
     for steps in (0..=32).flat_map(|steps| [steps; 12]) {
         let shape = RowShape { longest: 4, ..shape_with_rows(rng) };
-        let shown = accepted_recipe(shape, steps, rng);
+        let shown = accepted_recipe(entry.width, shape, steps, rng);
         check_limits(checker, &laid_out(&shown, rng), rng);
-        let mut draft = Draft::new(shape, 1 + rng.below(8), rng);
+        let mut draft = Draft::new(entry.width, shape, 1 + rng.below(8), rng);
         (0..steps).for_each(|_| draft.add_any(rng));
         check_limits(checker, &laid_out(&draft.finish(rng).accepted, rng), rng);
     }
@@ -206,10 +209,10 @@ pub fn limits(checker: &mut Checker, entry: Entry, rng: &mut Rng, _calls: u64) {
 }
 
 /// Other levels, with all lengths, validity and arguments kept: the same limits, and no 9 with them.
-pub fn other_levels(checker: &mut Checker, _entry: Entry, rng: &mut Rng, _calls: u64) {
+pub fn other_levels(checker: &mut Checker, entry: Entry, rng: &mut Rng, _calls: u64) {
     for _ in 0..300 {
         let shape = RowShape { longest: 5, ..shape_with_rows(rng) };
-        let mut input = laid_out(&random_recipe(shape, rng), rng);
+        let mut input = laid_out(&random_recipe(entry.width, shape, rng), rng);
         let first = check_limits(checker, &input, rng);
         for kind in 0..4 {
             for list in &mut input.lists {
@@ -245,6 +248,27 @@ const COUNTS: [Element; 10] = [
     Some(i64::MAX),
 ];
 
+/// The same about 9223372036854775807.
+const LARGE_COUNTS: [Element; 10] = [
+    None,
+    Some(i64::MIN),
+    Some(-1),
+    Some(0),
+    Some(1),
+    Some(2147483648),
+    Some(1152921504606846976),
+    Some(4611686018427387904),
+    Some(i64::MAX - 1),
+    Some(i64::MAX),
+];
+
+fn counts_of(width: Width) -> &'static [Element] {
+    match width {
+        Width::Narrow => &COUNTS,
+        Width::Wide => &LARGE_COUNTS,
+    }
+}
+
 const SUMMED: [&[[u32; 4]]; 5] = [
     &[RESIZE],
     &[RESIZE, UNION],
@@ -254,11 +278,12 @@ const SUMMED: [&[[u32; 4]]; 5] = [
 ];
 
 /// Every short column of counts, and longer ones; null rows among the others.
-pub fn sums(checker: &mut Checker, _entry: Entry, rng: &mut Rng, _calls: u64) {
-    let mut all: Vec<Vec<Element>> = (0..=3).flat_map(|rows| words(&COUNTS, rows)).collect();
+pub fn sums(checker: &mut Checker, entry: Entry, rng: &mut Rng, _calls: u64) {
+    let (width, counts) = (entry.width, counts_of(entry.width));
+    let mut all: Vec<Vec<Element>> = (0..=3).flat_map(|rows| words(counts, rows)).collect();
     for _ in 0..400 {
         let rows = 4 + rng.below(6);
-        all.push((0..rows).map(|_| rng.pick(&COUNTS)).collect());
+        all.push((0..rows).map(|_| rng.pick(counts)).collect());
     }
     all.extend((3..6).map(|rows| vec![Some(i64::MAX); rows]));
     for (at, counts) in all.into_iter().enumerate() {
@@ -269,14 +294,14 @@ pub fn sums(checker: &mut Checker, _entry: Entry, rng: &mut Rng, _calls: u64) {
             let lists = [random_rows(shape, rng), random_rows(shape, rng)];
             let others = (0..rows).map(|_| rng.pick(&[Some(1), Some(2), None])).collect();
             let columns = vec![counts.clone(), others];
-            let shown = RecipeShown { steps: steps.to_vec(), lists, columns };
+            let shown = RecipeShown { width, steps: steps.to_vec(), lists, columns };
             check_limits(checker, &laid_out(&shown, rng), rng);
         }
     }
 }
 
 /// The conditions of 10, 13, 1, 2 and 3, all sets of them, brought about in any order.
-pub fn refused(checker: &mut Checker, _entry: Entry, rng: &mut Rng, _calls: u64) {
+pub fn refused(checker: &mut Checker, entry: Entry, rng: &mut Rng, _calls: u64) {
     for set in (0..32).flat_map(|set| [set; 24]) {
         let numbers = [10, 13, 1, 2, 3].into_iter().enumerate();
         let held = numbers.filter(|(at, _)| set >> at & 1 == 1).map(|(_, number)| number);
@@ -287,7 +312,7 @@ pub fn refused(checker: &mut Checker, _entry: Entry, rng: &mut Rng, _calls: u64)
         } else {
             shuffle(&mut held, rng);
         }
-        let mut input = damageable_recipe(rng.below(5), rng);
+        let mut input = damageable_recipe(entry.width, rng.below(5), rng);
         let mut done = Vec::new();
         for number in held {
             let is_done = match number {
@@ -309,10 +334,10 @@ pub fn refused(checker: &mut Checker, _entry: Entry, rng: &mut Rng, _calls: u64)
 
 /// Places of every number to two more than three, beside recipes that are refused and not; and the
 /// run's station is none of theirs.
-pub fn places(checker: &mut Checker, _entry: Entry, rng: &mut Rng, _calls: u64) {
+pub fn places(checker: &mut Checker, entry: Entry, rng: &mut Rng, _calls: u64) {
     for places in (0..=5).flat_map(|places| [places; 8]) {
         for number in [0, 10, 13, 1, 2, 3] {
-            let mut input = damageable_recipe(rng.below(5), rng);
+            let mut input = damageable_recipe(entry.width, rng.below(5), rng);
             match number {
                 0 => (),
                 10 => rng.pick(&WAYS)(&mut input, rng),

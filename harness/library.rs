@@ -1,10 +1,12 @@
-//! A library under test: the byte entries as safe functions on byte slices, and the typed entries.
+//! A library under test: the byte entries as safe functions on byte slices, and the typed entries,
+//! those of large lists too.
 //! The port, the plain Rust and the mock each give one of these. A function on bytes takes the code,
 //! if there is one, or the station and the number of columns of a recipe, then the input slices and
 //! the output slices in the order in which `entry.rs` lists them, then the counts; between them come
 //! the starting bits of the bitmaps among the inputs. A library may lack entries.
 
-use crate::entry::Entry;
+use crate::entry::{Entry, Kind};
+use crate::model::Width;
 use crate::typed::Typed;
 
 /// An entry of so many input slices, bitmaps among them, and output slices.
@@ -24,7 +26,8 @@ pub struct Library {
     pub list_with: Option<Coded<10, 5, 4>>,
     pub list_repeat: Option<Plain<6, 3, 6>>,
     pub recipe: Option<OfStation<11, 5, 13>>,
-    pub typed: Option<Typed>,
+    pub typed: Option<Typed<i32>>,
+    pub large: Option<Typed<i64>>,
 }
 
 fn inputs<'a, const N: usize>(slices: &[&'a [u8]]) -> [&'a [u8]; N] {
@@ -65,28 +68,31 @@ impl Library {
         list_repeat: None,
         recipe: None,
         typed: None,
+        large: None,
     };
 
     pub fn has(&self, entry: Entry) -> bool {
-        match entry {
-            Entry::List(_) => self.list.is_some(),
-            Entry::AnyValue => self.any_value.is_some(),
-            Entry::Element => self.element.is_some(),
-            Entry::Lists(_) => self.lists.is_some(),
-            Entry::ListWith(_) => self.list_with.is_some(),
-            Entry::ListRepeat => self.list_repeat.is_some(),
-            Entry::Recipe { .. } => self.recipe.is_some(),
+        match entry.kind {
+            _ if entry.is_wide() => self.large.is_some(),
+            Kind::List(_) => self.list.is_some(),
+            Kind::AnyValue => self.any_value.is_some(),
+            Kind::Element => self.element.is_some(),
+            Kind::Lists(_) => self.lists.is_some(),
+            Kind::ListWith(_) => self.list_with.is_some(),
+            Kind::ListRepeat => self.list_repeat.is_some(),
+            Kind::Recipe { .. } => self.recipe.is_some(),
         }
     }
 
     /// The operations that the library has an entry for.
     pub fn operations(&self) -> impl Iterator<Item = Entry> + use<'_> {
-        Entry::all().filter(|entry| self.has(*entry))
+        Width::ALL.into_iter().flat_map(Entry::all).filter(|entry| self.has(*entry))
     }
 
     /// Names the operations that the library has no entry for, if there are any, or recipes.
     pub fn print_absent(&self) {
-        let entries = Entry::all().chain([Entry::RECIPE]);
+        let of_width = |width: Width| Entry::all(width).chain([Entry::recipes(width)]);
+        let entries = Width::ALL.into_iter().flat_map(of_width);
         let absent = entries.filter(|entry| !self.has(*entry)).map(Entry::name);
         let absent: Vec<&str> = absent.collect();
         if !absent.is_empty() {
@@ -103,26 +109,26 @@ impl Library {
         results: &mut [&mut [u8]],
         counts: &mut [u8],
     ) -> u32 {
-        match entry {
-            Entry::List(code) => {
+        match entry.kind {
+            Kind::List(code) => {
                 present(self.list)(code, inputs(lent), bits(starts), outputs(results), counts)
             }
-            Entry::AnyValue => {
+            Kind::AnyValue => {
                 present(self.any_value)(inputs(lent), bits(starts), outputs(results), counts)
             }
-            Entry::Element => {
+            Kind::Element => {
                 present(self.element)(inputs(lent), bits(starts), outputs(results), counts)
             }
-            Entry::Lists(code) => {
+            Kind::Lists(code) => {
                 present(self.lists)(code, inputs(lent), bits(starts), outputs(results), counts)
             }
-            Entry::ListWith(code) => {
+            Kind::ListWith(code) => {
                 present(self.list_with)(code, inputs(lent), bits(starts), outputs(results), counts)
             }
-            Entry::ListRepeat => {
+            Kind::ListRepeat => {
                 present(self.list_repeat)(inputs(lent), bits(starts), outputs(results), counts)
             }
-            Entry::Recipe { station, columns } => {
+            Kind::Recipe { station, columns } => {
                 let (columns, lent, bits) = (narrow(columns), inputs(lent), bits(starts));
                 present(self.recipe)(station, columns, lent, bits, outputs(results), counts)
             }

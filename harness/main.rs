@@ -2,11 +2,12 @@
 //! call with an independent reading of document 01 and of the notes of document 02 that change it.
 //!
 //!     harness                        the gate's amount
-//!     harness --calls N --seed S     N random calls beside the exhaustive ones
+//!     harness --calls N --seed S     N random calls of each width beside the exhaustive ones
 //!     harness --group NAME           one group alone, with its calls of the whole run
 //!     harness --operation NAME       the groups of one operation
 //!     harness --typed-groups         the groups for what typed calls alone meet
 //!     harness --lending              the groups for how much to lend
+//!     harness --large                the groups of large lists
 //!     harness --bytes | --typed      the byte entries alone, or the typed ones
 //!     harness --plain                the plain Rust instead of the port
 //!     harness --decoded              the plain Rust that decodes inside instead of the port
@@ -39,6 +40,10 @@
 //!
 //! Every call of these groups is made over bytes and typed. What typed calls alone meet is in
 //! typed_groups.rs and, for large columns, in large.rs.
+//!
+//! An entry has a width: lists have offsets of 32 bits, large lists of 64. The groups run once for
+//! each, over the one reading in model.rs; those of large lists, which have typed entries alone, are
+//! named "large ..", and what they alone meet is in wide.rs.
 
 mod bench;
 mod compare;
@@ -83,6 +88,7 @@ mod typed;
 mod typed_groups;
 #[cfg(not(mock))]
 mod typed_port;
+mod wide;
 mod worked;
 
 use compare::{Checker, Manner};
@@ -105,6 +111,8 @@ struct Options {
     typed_groups: bool,
     /// Whether the groups for how much to lend are.
     lending: bool,
+    /// Whether the groups of large lists are.
+    large: bool,
     library: &'static Library,
     routes: Vec<Route>,
     alone: bool,
@@ -122,7 +130,7 @@ fn parse(mut words: impl Iterator<Item = String>) -> Result<Options, String> {
     let (calls, seed) = (DEFAULT_CALLS, DEFAULT_SEED);
     let (group, operation) = (None, None);
     let (library, routes) = (&port::LIBRARY, vec![Route::Bytes, Route::Typed]);
-    let (typed_groups, lending) = (false, false);
+    let (typed_groups, lending, large) = (false, false, false);
     let (alone, stop, trace, apart) = (false, false, false, false);
     let mut options = Options {
         calls,
@@ -131,6 +139,7 @@ fn parse(mut words: impl Iterator<Item = String>) -> Result<Options, String> {
         operation,
         typed_groups,
         lending,
+        large,
         library,
         routes,
         alone,
@@ -150,6 +159,7 @@ fn parse(mut words: impl Iterator<Item = String>) -> Result<Options, String> {
             "--decoded" => options.library = &decoded::LIBRARY,
             "--typed-groups" => options.typed_groups = true,
             "--lending" => options.lending = true,
+            "--large" => options.large = true,
             "--bytes" => options.routes = vec![Route::Bytes],
             "--typed" => options.routes = vec![Route::Typed],
             "--alone" => options.alone = true,
@@ -165,7 +175,8 @@ fn parse(mut words: impl Iterator<Item = String>) -> Result<Options, String> {
 impl Options {
     /// Whether only some groups are to be run, or one way of making calls.
     fn is_part(&self) -> bool {
-        let one_way = self.typed_groups || self.lending || self.routes.len() == 1;
+        let some = self.typed_groups || self.lending || self.large;
+        let one_way = some || self.routes.len() == 1;
         self.group.is_some() || self.operation.is_some() || one_way
     }
 
@@ -184,6 +195,7 @@ impl Options {
             && self.operation.as_ref().is_none_or(|name| group.is_of(name))
             && (group.typed || !self.typed_groups)
             && (group.is_lending() || !self.lending)
+            && (group.is_large() || !self.large)
     }
 }
 
@@ -248,8 +260,8 @@ impl Display for Counts {
     }
 }
 
-/// The benchmark's baselines must be right too: all groups once, with a tenth of the random calls.
-/// What they reach is not recorded.
+/// The benchmark's baselines must be right too: all groups once but those of large lists, which have
+/// none, with a tenth of the random calls. What they reach is not recorded.
 fn check_plain(name: &str, library: &Library, option: &str, options: &Options, tally: &mut Tally) {
     let (seed, random_calls) = (options.seed, options.calls / 10);
     let replay = format!("{option} --seed {seed} --calls {random_calls}");
@@ -257,7 +269,8 @@ fn check_plain(name: &str, library: &Library, option: &str, options: &Options, t
     checker.records = false;
     let mut counts = Counts::default();
     let typed = checker.makes(Route::Typed);
-    for group in groups::all().into_iter().filter(|group| typed || !group.typed) {
+    let all = groups::all().into_iter().filter(|group| typed || !group.typed);
+    for group in all.filter(|group| !group.is_large()) {
         group.run(&mut checker, seed, random_calls);
         counts.add(&checker);
     }
@@ -274,7 +287,7 @@ fn check_coverage(coverage: &Coverage, library: &Library, tally: &mut Tally) {
 }
 
 fn run(options: &Options) -> ExitCode {
-    println!("seed {}, {} random calls", options.seed, options.calls);
+    println!("seed {}, {} random calls of each width", options.seed, options.calls);
     let mut tally = Tally::default();
     let library = options.library;
     let replay = format!("--seed {} --calls {}", options.seed, options.calls);

@@ -9,7 +9,8 @@ use crate::mock_recipe::recipe;
 use crate::mock_rows::{
     distinct, intersect, is_beyond, place_of, pop, remove, replace, resize, reverse, slice, union,
 };
-use crate::mock_typed::TYPED;
+use crate::mock_typed::typed;
+use crate::model::Width;
 use crate::plain;
 use std::ops::Range;
 
@@ -23,13 +24,36 @@ pub const LIBRARY: Library = Library {
     list_with: Some(list_with),
     list_repeat: Some(list_repeat),
     recipe: Some(recipe),
-    typed: Some(TYPED),
+    typed: Some(typed()),
+    large: Some(typed()),
 };
 
-/// How many lists an entry takes, with argument columns behind them, and the kind of its answer.
+/// How many lists an entry takes, with argument columns behind them, the kind of its answer, and the
+/// width of its offsets.
+#[derive(Clone, Copy)]
 pub struct Shape {
     pub lists: usize,
     pub answer: Answer,
+    pub width: Width,
+}
+
+impl Shape {
+    const fn narrow(lists: usize, answer: Answer) -> Shape {
+        Shape { lists, answer, width: Width::Narrow }
+    }
+}
+
+/// Whether a number fits the offsets; in large lists all do, but for the version of this name.
+pub fn fits(width: Width, number: i64, wrong: &str) -> bool {
+    width == Width::Wide && !is(wrong) || i32::try_from(number).is_ok()
+}
+
+/// A number of large lists as it is, or cut to 32 bits by the version of this name.
+pub fn cut(width: Width, number: i64, wrong: &str) -> i64 {
+    match width {
+        Width::Wide if is(wrong) => i64::from(number as i32),
+        _ => number,
+    }
 }
 
 #[derive(Clone, Copy, PartialEq)]
@@ -62,7 +86,7 @@ pub fn list(
     if defect().is_empty() {
         return plain::list(op, inputs, starts, outputs, counts);
     }
-    let shape = Shape { lists: 1, answer: Answer::Lists };
+    let shape = Shape::narrow(1, Answer::Lists);
     answer(op, 0..=3, shape, &inputs, &wide(starts), &mut outputs, counts)
 }
 
@@ -76,7 +100,7 @@ pub fn lists(
     if defect().is_empty() {
         return plain::lists(op, inputs, starts, outputs, counts);
     }
-    let shape = Shape { lists: 2, answer: Answer::Lists };
+    let shape = Shape::narrow(2, Answer::Lists);
     answer(op, 9..=10, shape, &inputs, &wide(starts), &mut outputs, counts)
 }
 
@@ -90,7 +114,7 @@ pub fn list_with(
     if defect().is_empty() {
         return plain::list_with(op, inputs, starts, outputs, counts);
     }
-    let shape = Shape { lists: 1, answer: Answer::Lists };
+    let shape = Shape::narrow(1, Answer::Lists);
     let codes = if op == RESIZE_WITHOUT_FILL { 11..=11 } else { 4..=8 };
     answer(op, codes, shape, &inputs, &wide(starts), &mut outputs, counts)
 }
@@ -104,7 +128,7 @@ pub fn any_value(
     if defect().is_empty() {
         return plain::any_value(inputs, starts, outputs, counts);
     }
-    let shape = Shape { lists: 1, answer: Answer::Values };
+    let shape = Shape::narrow(1, Answer::Values);
     answer(ANY_VALUE, ANY_VALUE..=ANY_VALUE, shape, &inputs, &wide(starts), &mut outputs, counts)
 }
 
@@ -117,7 +141,7 @@ pub fn element(
     if defect().is_empty() {
         return plain::element(inputs, starts, outputs, counts);
     }
-    let shape = Shape { lists: 1, answer: Answer::Values };
+    let shape = Shape::narrow(1, Answer::Values);
     answer(ELEMENT, ELEMENT..=ELEMENT, shape, &inputs, &wide(starts), &mut outputs, counts)
 }
 
@@ -130,7 +154,7 @@ pub fn list_repeat(
     if defect().is_empty() {
         return plain::list_repeat(inputs, starts, outputs, counts);
     }
-    let shape = Shape { lists: 1, answer: Answer::Nested };
+    let shape = Shape::narrow(1, Answer::Nested);
     answer(
         LIST_REPEAT,
         LIST_REPEAT..=LIST_REPEAT,
@@ -182,15 +206,16 @@ pub fn answer_after(
 ) -> u32 {
     let (lists, arguments) = inputs.split_at(4 * shape.lists);
     let (list_starts, starts) = starts.split_at(2 * shape.lists);
-    let list = |(at, part)| Column::new(at, part, &list_starts[2 * at..][..2]);
+    let width = shape.width;
+    let list = |(at, part)| Column::new(at, part, &list_starts[2 * at..][..2], width);
     let lists: Vec<Column> = lists.chunks(4).enumerate().map(list).collect();
     let argument = |(at, part)| Argument::new(at, part, starts[at]);
     let mut arguments: Vec<Argument> = arguments.chunks(2).enumerate().map(argument).collect();
     if is("start-of-the-first-argument-for-all") {
         arguments.iter_mut().for_each(|one| one.bits.read = starts[0]);
     }
-    let call = Call { op, lists, arguments };
-    let mut output = Output::new(shape.answer, outputs, counts);
+    let call = Call { op, lists, arguments, width };
+    let mut output = Output::new(shape.answer, width, outputs, counts);
     let number = match own.map_or(Ok(()), Err).and_then(|()| call.made(&output)) {
         Ok(made) => output.write(&call, made),
         Err(number) => number,
@@ -417,8 +442,10 @@ pub struct Column<'a> {
 }
 
 impl<'a> Column<'a> {
-    pub fn new(at: usize, part: &[&'a [u8]], starts: &[usize]) -> Self {
-        let (offsets, values) = (numbers(part[0], 4), numbers(part[2], 8));
+    pub fn new(at: usize, part: &[&'a [u8]], starts: &[usize], width: Width) -> Self {
+        let offsets = numbers(part[0], width.bytes()).into_iter();
+        let offsets = offsets.map(|offset| cut(width, offset, "large-offsets-read-as-32-bits"));
+        let (offsets, values) = (offsets.collect(), numbers(part[2], 8));
         let ignored = at == 1 && is("right-starts-ignored");
         let mut rows = Bits::new(part[1], starts[0]).ignored(ignored || is("row-start-ignored"));
         let mut elements =
@@ -548,6 +575,7 @@ pub struct Call<'a> {
     pub lists: Vec<Column<'a>>,
     /// All that are lent.
     pub arguments: Vec<Argument<'a>>,
+    pub width: Width,
 }
 
 impl Call<'_> {
@@ -740,7 +768,7 @@ impl Call<'_> {
             (SLICE | SLICE_WITHOUT_STRIDE, "4-for-null-row") => {
                 let arguments: Vec<Item> =
                     (0..taken(self.op)).map(|at| self.argument(at, row)).collect();
-                let bound = |item: &Item| item.valid && i32::try_from(item.number).is_err();
+                let bound = |item: &Item| item.valid && is_beyond(self.width, item.number);
                 if arguments[..2].iter().any(bound) && arguments.iter().all(|item| item.valid) {
                     return Err(4);
                 }
@@ -774,12 +802,17 @@ impl Call<'_> {
                 Ok(resize(items, argument(0), Some(argument(1)), most))
             }
             RESIZE_WITHOUT_FILL => Ok(resize(items, argument(0), None, most)),
-            REPLACE => Ok(replace(items, argument(0), argument(1), argument(2), used)),
-            REMOVE => Ok(remove(items, argument(0), argument(1), used)),
+            REPLACE => Ok(replace(items, argument(0), argument(1), self.limit(2, row), used)),
+            REMOVE => Ok(remove(items, argument(0), self.limit(1, row), used)),
             UNION => Ok(Some(union(items, self.lists[1].items(row)))),
             INTERSECT => Ok(Some(intersect(items, self.lists[1].items(row)))),
             _ => Ok(Some(items)),
         }
+    }
+
+    fn limit(&self, at: usize, row: usize) -> Item {
+        let limit = self.argument(at, row);
+        Item { number: cut(self.width, limit.number, "large-limits-cut-to-32-bits"), ..limit }
     }
 
     // Values.
@@ -814,7 +847,7 @@ impl Call<'_> {
             "index-wraps-to-32-bits" => false,
             "index-smallest-refused" => index.number <= -2147483648 || index.number > 2147483647,
             "index-largest-refused" => index.number < -2147483648 || index.number >= 2147483647,
-            _ => i32::try_from(index.number).is_err(),
+            _ => !fits(self.width, index.number, "large-4-given"),
         };
         let skipped = is("4-not-over-empty-row") && self.lists[0].range(row).is_empty()
             || is("4-only-in-first-row") && row > 0;
@@ -827,8 +860,11 @@ impl Call<'_> {
             return None;
         }
         let items = self.lists[0].items(row);
-        let place = place_of(items.len() as i64, i64::from(index.number as i32))?;
-        Some(items[place])
+        let number = match self.width {
+            Width::Narrow => i64::from(index.number as i32),
+            Width::Wide => cut(self.width, index.number, "large-indexes-cut-to-32-bits"),
+        };
+        Some(items[place_of(items.len() as i64, number)?])
     }
 
     // Slices.
@@ -854,7 +890,8 @@ impl Call<'_> {
             },
         };
         let (Some(from), Some(to), Some(stride)) = (from, to, stride) else {
-            let beyond = |bound: Option<i64>| bound.is_some_and(is_beyond);
+            let beyond =
+                |bound: Option<i64>| bound.is_some_and(|bound| is_beyond(self.width, bound));
             return match defect() {
                 "null-argument-of-empty-row-is-empty" if items.is_empty() => Ok(Some(items)),
                 "null-argument-gives-empty" => Ok(Some(Vec::new())),
@@ -866,7 +903,7 @@ impl Call<'_> {
         if is("slice-of-empty-is-null") && items.is_empty() {
             return Ok(None);
         }
-        let mut made = slice(&items, from, to, stride, row)?;
+        let mut made = slice(&items, from, to, stride, row, self.width)?;
         if is("slice-bits-from-the-start") {
             for (item, first) in made.iter_mut().zip(&items) {
                 item.valid = first.valid;
@@ -905,14 +942,19 @@ impl Call<'_> {
                 "resize-running-sum-to-2-to-the-63" if sum > largest => return Err(8),
                 "resize-running-sum-largest-refused" if sum >= past => return Err(8),
                 "resize-8-at-the-row-past-2147483647" if sum > 2147483647 => return Err(8),
+                "large-running-sum-not-tested" if self.width == Width::Wide => (),
+                "large-running-sum-wraps" if self.width == Width::Wide => sum %= past + 1,
                 _ if sum > past => return Err(8),
                 _ => (),
             }
         }
+        let right = self.width.most_elements() as i128;
         let most = match defect() {
-            "resize-8-one-early" => 2147483646,
-            "resize-8-one-late" => 2147483648,
-            _ => 2147483647,
+            "resize-8-one-early" => right - 1,
+            "resize-8-one-late" => right + 1,
+            "large-limits-of-32-bits" => 2147483647,
+            "large-resize-to-the-largest-offset" => i128::from(self.width.largest_offset()),
+            _ => right,
         };
         let sum = if is("resize-sum-in-32-bits") { sum % (1 << 32) } else { sum };
         if negative && is("resize-7-only-at-the-end") {
@@ -952,21 +994,34 @@ impl Call<'_> {
                 lists += times;
             }
             if valid || is("repeat-8-by-values-of-null-lists") {
-                values += times * self.lists[0].range(row).len() as i128;
+                let length = self.lists[0].range(row).len() as i128;
+                values += match defect() {
+                    "large-product-wraps-at-64-bits" => times * length % (1 << 64),
+                    "large-product-wraps-at-63-bits" => times * length % (1 << 63),
+                    _ => times * length,
+                };
             }
             match defect() {
                 "repeat-sum-wraps-at-32-bits" => lists %= 1 << 32,
                 "repeat-sum-wraps-at-64-bits" => lists %= 1 << 64,
+                "large-values-wrap-at-64-bits" => values %= 1 << 64,
                 _ => (),
             }
         }
-        let most = match defect() {
-            "repeat-8-one-early" => 2147483646,
-            "repeat-8-one-late" => 2147483648,
-            _ => 2147483647,
+        let lists_right = self.width.most_outer_lists() as i128;
+        let values_right = self.width.most_elements() as i128;
+        let (most_lists, most_values) = match defect() {
+            "repeat-8-one-early" => (lists_right - 1, values_right - 1),
+            "repeat-8-one-late" => (lists_right + 1, values_right + 1),
+            "large-limits-of-32-bits" => (2147483647, 2147483647),
+            "large-lists-one-late" => (lists_right + 1, values_right),
+            "large-lists-one-early" => (lists_right - 1, values_right),
+            "large-values-one-late" => (lists_right, values_right + 1),
+            "large-values-as-lists" => (lists_right, lists_right),
+            _ => (lists_right, values_right),
         };
-        if lists > most && !is("repeat-8-by-lists-missing")
-            || values > most && !is("repeat-8-by-values-missing")
+        if lists > most_lists && !is("repeat-8-by-lists-missing")
+            || values > most_values && !is("repeat-8-by-values-missing")
         {
             return Err(8);
         }
@@ -1003,6 +1058,7 @@ impl Call<'_> {
 /// The outputs of a call; a value answer has only values and row bits.
 pub struct Output<'a> {
     answer: Answer,
+    width: Width,
     offsets: &'a mut [u8],
     rows: &'a mut [u8],
     inner_offsets: &'a mut [u8],
@@ -1075,7 +1131,12 @@ fn nulls(valid: &[bool]) -> u64 {
 }
 
 impl<'a> Output<'a> {
-    pub fn new(answer: Answer, outputs: &'a mut [&mut [u8]], counts: &'a mut [u8]) -> Self {
+    pub fn new(
+        answer: Answer,
+        width: Width,
+        outputs: &'a mut [&mut [u8]],
+        counts: &'a mut [u8],
+    ) -> Self {
         let mut slices: Vec<&mut [u8]> = outputs.iter_mut().map(|slice| &mut **slice).collect();
         let order: &[usize] = match answer {
             Answer::Values => &[4, 1],
@@ -1087,7 +1148,7 @@ impl<'a> Output<'a> {
             all[*at] = slice;
         }
         let [offsets, rows, inner_offsets, inner_rows, values, elements] = all;
-        Output { answer, offsets, rows, inner_offsets, inner_rows, values, elements, counts }
+        Output { answer, width, offsets, rows, inner_offsets, inner_rows, values, elements, counts }
     }
 
     pub fn refused(&mut self, number: u32) {
@@ -1126,7 +1187,7 @@ impl<'a> Output<'a> {
     fn has_room_for_rows(&self, rows: usize) -> bool {
         match self.answer {
             Answer::Values => self.values.len() / 8 >= rows,
-            _ => self.offsets.len() / 4 > rows,
+            _ => self.offsets.len() / self.width.bytes() > rows,
         }
     }
 
@@ -1138,11 +1199,20 @@ impl<'a> Output<'a> {
         }
     }
 
+    /// The bytes of an offset, by which room is counted.
+    fn slot(&self) -> usize {
+        if is("large-room-counted-by-32-bits") {
+            4
+        } else {
+            self.width.bytes()
+        }
+    }
+
     fn rows_fit(&self, call: &Call, rows: usize) -> bool {
         let more = usize::from(is("exact-room-refused"));
         let no_offsets = call.lists[0].offsets.is_empty() && is("no-slot-where-no-offsets");
         let no_rows = rows == 0 && is("no-offset-for-no-rows") || no_offsets;
-        (self.offsets.len() / 4 >= rows + 1 + more || no_rows)
+        (self.offsets.len() / self.slot() >= rows + 1 + more || no_rows)
             && (self.rows.len() >= rows.div_ceil(8) || is("short-row-bitmap-accepted"))
     }
 
@@ -1155,7 +1225,7 @@ impl<'a> Output<'a> {
     }
 
     fn inner_rows_fit(&self, rows: usize) -> bool {
-        (self.inner_offsets.len() / 4 > rows || is("short-inner-offsets-accepted"))
+        (self.inner_offsets.len() / self.slot() > rows || is("short-inner-offsets-accepted"))
             && !(rows > 16384 && is("typed-9-for-over-16384-lists"))
             && (self.inner_rows.len() >= rows.div_ceil(8) || is("short-inner-bitmap-accepted"))
     }
@@ -1183,7 +1253,7 @@ impl<'a> Output<'a> {
         if !self.rows_fit(call, rows.len()) || !self.elements_fit(call, items.len()) {
             return 9;
         }
-        put_offsets(self.offsets, rows.iter().map(|row| row.items.len()));
+        put_offsets(self.offsets, self.width, rows.iter().map(|row| row.items.len()));
         let valid: Vec<bool> = rows.iter().map(|row| row.valid).collect();
         let lent = call.lists[0].rows;
         put_bits(self.rows, &moved(&valid, lent), lent.bytes.is_empty());
@@ -1212,6 +1282,7 @@ impl<'a> Output<'a> {
         }
         put_offsets(
             self.offsets,
+            self.width,
             rows.iter().map(|(_, lists)| match defect() {
                 "repeat-outer-offsets-of-values" => lists.iter().map(|row| row.items.len()).sum(),
                 _ => lists.len(),
@@ -1221,16 +1292,19 @@ impl<'a> Output<'a> {
             let mut at = 0;
             for (_, lists) in rows {
                 put_offsets(
-                    &mut self.inner_offsets[4 * at..],
+                    &mut self.inner_offsets[self.width.bytes() * at..],
+                    self.width,
                     lists.iter().map(|row| row.items.len()),
                 );
                 at += lists.len();
             }
         } else {
-            put_offsets(self.inner_offsets, inner.iter().map(|row| row.items.len()));
+            let lengths = inner.iter().map(|row| row.items.len());
+            put_offsets(self.inner_offsets, self.width, lengths);
         }
         if is("tail-inner-offset-cleared") {
-            put(self.inner_offsets, 4 * (inner.len() + 1), &[0; 4]);
+            let bytes = self.width.bytes();
+            put(self.inner_offsets, bytes * (inner.len() + 1), &[0; 4]);
         }
         let valid: Vec<bool> = rows.iter().map(|(valid, _)| *valid).collect();
         let inner_valid: Vec<bool> = inner.iter().map(|row| row.valid).collect();
@@ -1294,11 +1368,16 @@ impl<'a> Output<'a> {
 }
 
 /// Offsets from 0 for rows of these lengths.
-fn put_offsets(slice: &mut [u8], lengths: impl Iterator<Item = usize>) {
-    let mut end = 0;
-    put(slice, 0, &[0; 4]);
+fn put_offsets(slice: &mut [u8], width: Width, lengths: impl Iterator<Item = usize>) {
+    let (bytes, written) = match (width, defect()) {
+        (Width::Wide, "large-offsets-written-as-32-bits") => (8, 4),
+        (Width::Wide, "large-offsets-packed-as-32-bits") => (4, 4),
+        _ => (width.bytes(), width.bytes()),
+    };
+    let mut end = 0i64;
+    put(slice, 0, &[0; 8][..written]);
     for (at, length) in lengths.enumerate() {
-        end += length as i32;
-        put(slice, 4 * (at + 1), &end.to_le_bytes());
+        end += length as i64;
+        put(slice, bytes * (at + 1), &end.to_le_bytes()[..written]);
     }
 }

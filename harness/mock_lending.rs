@@ -2,40 +2,50 @@
 //! limits of its own, each right or wrong in one way.
 
 use crate::defects::{defect, is};
-use crate::plain;
+use crate::model::Width;
+use crate::numbers::Number;
+use crate::plain::{self, Offset};
 use crate::typed::{Lending, List, Recipe, Values};
 
-pub const LENDING: Lending = Lending { list, lists, any_value, element, list_repeat, limits };
+/// Those of one width.
+pub const fn lending<O: Offset + Number>() -> Lending<O> {
+    Lending { list, lists, any_value, element, list_repeat, limits }
+}
 
-fn plain() -> Lending {
-    plain::LIBRARY.typed.expect("the plain Rust has typed entries").lending
+fn plain<O: Offset + Number>() -> Lending<O> {
+    plain::typed().lending
 }
 
 fn is_valid(bits: &[u8], place: usize) -> bool {
     bits.is_empty() || bits[place / 8] >> (place % 8) & 1 == 1
 }
 
-fn row_count(list: &List) -> usize {
+fn row_count<O>(list: &List<O>) -> usize {
     list.offsets.len().saturating_sub(1)
 }
 
-fn row_is_valid(list: &List, row: usize) -> bool {
+fn row_is_valid<O>(list: &List<O>, row: usize) -> bool {
     is_valid(list.rows, list.rows_start + row)
 }
 
-fn length(list: &List, row: usize) -> u128 {
-    (list.offsets[row + 1] - list.offsets[row]) as u128
+fn length<O: Offset>(list: &List<O>, row: usize) -> u128 {
+    (list.offsets[row + 1].number() - list.offsets[row].number()) as u128
 }
 
 /// The values under null rows, wrongly among the elements.
-fn hidden(list: &List) -> u64 {
+fn hidden<O: Offset>(list: &List<O>) -> u64 {
     let null = (0..row_count(list)).filter(|row| !row_is_valid(list, *row));
     null.map(|row| length(list, row) as u64).sum()
 }
 
 // Operations.
 
-fn list(op: u32, list: List, arguments: [Values; 3], lengths: &mut [u64]) -> u32 {
+fn list<O: Offset + Number>(
+    op: u32,
+    list: List<O>,
+    arguments: [Values; 3],
+    lengths: &mut [u64],
+) -> u32 {
     let op = match (op, defect()) {
         (12, "lending-code-12-served") | (9 | 10, "lending-set-codes-served-by-list") => 0,
         (2, "lending-pop-front-keeps-all") => 0,
@@ -44,26 +54,26 @@ fn list(op: u32, list: List, arguments: [Values; 3], lengths: &mut [u64]) -> u32
     answer(&list, lengths, 4, |lengths| (plain().list)(op, list, arguments, lengths))
 }
 
-fn lists(op: u32, lists: [List; 2], lengths: &mut [u64]) -> u32 {
+fn lists<O: Offset + Number>(op: u32, lists: [List<O>; 2], lengths: &mut [u64]) -> u32 {
     let op = if is("lending-list-codes-served-by-lists") && op < 9 { 9 } else { op };
     answer(&lists[0], lengths, 4, |lengths| (plain().lists)(op, lists, lengths))
 }
 
-fn any_value(list: List, lengths: &mut [u64]) -> u32 {
+fn any_value<O: Offset + Number>(list: List<O>, lengths: &mut [u64]) -> u32 {
     answer(&list, lengths, 2, |lengths| (plain().any_value)(list, lengths))
 }
 
-fn element(list: List, indexes: Values, lengths: &mut [u64]) -> u32 {
+fn element<O: Offset + Number>(list: List<O>, indexes: Values, lengths: &mut [u64]) -> u32 {
     answer(&list, lengths, 2, |lengths| (plain().element)(list, indexes, lengths))
 }
 
-fn list_repeat(list: List, times: Values, lengths: &mut [u64]) -> u32 {
+fn list_repeat<O: Offset + Number>(list: List<O>, times: Values, lengths: &mut [u64]) -> u32 {
     answer(&list, lengths, 6, |lengths| (plain().list_repeat)(list, times, lengths))
 }
 
 /// The answer with this many places needed, right or wrong.
-fn answer(
-    list: &List,
+fn answer<O: Offset>(
+    list: &List<O>,
     lengths: &mut [u64],
     needed: usize,
     ask: impl Fn(&mut [u64]) -> u32,
@@ -81,8 +91,16 @@ fn answer(
         return refused(number, lengths);
     }
     spoil_lengths(list, &mut own[..needed]);
+    spoil_large(O::LARGEST > 2147483647, &mut own[..needed]);
     give(&own[..needed], lengths);
     0
+}
+
+/// Lengths of large lists that are cut to 32 bits.
+fn spoil_large(wide: bool, own: &mut [u64]) {
+    if wide && is("large-lengths-cut-to-32-bits") {
+        own.iter_mut().for_each(|length| *length &= 0xffff_ffff);
+    }
 }
 
 fn spoilt_number(number: u32) -> u32 {
@@ -121,7 +139,7 @@ fn give(own: &[u64], lengths: &mut [u64]) {
     }
 }
 
-fn spoil_lengths(list: &List, own: &mut [u64]) {
+fn spoil_lengths<O: Offset>(list: &List<O>, own: &mut [u64]) {
     let values = if own.len() == 2 { 0 } else { own.len() - 2 };
     let bits = |slots: u64| slots.div_ceil(8);
     match defect() {
@@ -148,17 +166,27 @@ fn spoil_lengths(list: &List, own: &mut [u64]) {
 
 // Recipes.
 
-struct Limits<'a> {
-    lists: [List<'a>; 2],
+struct Limits<'a, O> {
+    lists: [List<'a, O>; 2],
     arguments: Values<'a>,
     /// Whether each row is still valid, for the wrong versions that look at what is carried.
     carried: Vec<bool>,
     limit: u128,
 }
 
-const CAP: u128 = 2147483647;
+/// A limit stops here.
+fn cap<O: Offset>() -> u128 {
+    let wide = O::LARGEST > 2147483647;
+    match defect() {
+        "limits-cap-one-more" => u128::from(O::LARGEST) + 1,
+        "large-limits-stop-at-2147483647" => 2147483647,
+        "large-limits-stop-as-resize" if wide => Width::Wide.most_elements(),
+        "large-limits-stop-at-2-to-the-64" if wide => u128::from(u64::MAX),
+        _ => u128::from(O::LARGEST),
+    }
+}
 
-impl Limits<'_> {
+impl<O: Offset> Limits<'_, O> {
     /// The elements of a list's rows, of those that are counted.
     fn elements(&self, list: usize, counted: impl Fn(usize) -> bool) -> u128 {
         let list = &self.lists[list];
@@ -214,15 +242,13 @@ impl Limits<'_> {
                 came_in + self.elements(1, |row| row_is_valid(&self.lists[0], row))
             }
             9 => came_in + self.elements(1, |_| true),
-            10 if is("limits-intersect-by-the-second") => {
-                came_in.min(self.elements(1, |_| true))
-            }
+            10 if is("limits-intersect-by-the-second") => came_in.min(self.elements(1, |_| true)),
             2 | 3 if is("limits-pops-counted") => came_in.saturating_sub(1),
             1 if is("limits-by-levels") => came_in.min(self.distinct_levels()),
             _ => came_in,
         };
         if !is("limits-cap-left-out") {
-            self.limit = self.limit.min(if is("limits-cap-one-more") { CAP + 1 } else { CAP });
+            self.limit = self.limit.min(cap::<O>());
         }
         self.carry(step);
     }
@@ -251,7 +277,7 @@ impl Limits<'_> {
     }
 }
 
-fn limits(recipe: Recipe, given: &mut [u64]) -> u32 {
+fn limits<O: Offset + Number>(recipe: Recipe<O>, given: &mut [u64]) -> u32 {
     let mut right = [0; 3];
     let mut number = (plain().limits)(recipe, &mut right);
     number = match (number, defect()) {
@@ -279,7 +305,7 @@ fn limits(recipe: Recipe, given: &mut [u64]) -> u32 {
 }
 
 /// 7 where the first step's first count is negative.
-fn refusal_7(recipe: &Recipe) -> u32 {
+fn refusal_7<O>(recipe: &Recipe<O>) -> u32 {
     let rows = row_count(&recipe.lists[0]);
     let at = recipe.numbers[1] as usize * rows;
     match recipe.arguments.values.get(at) {
@@ -289,7 +315,7 @@ fn refusal_7(recipe: &Recipe) -> u32 {
 }
 
 /// The mock's own limits; none where the columns are not such as have any, and yet not refused.
-fn own_limits(recipe: &Recipe) -> Option<[u64; 3]> {
+fn own_limits<O: Offset + Number>(recipe: &Recipe<O>) -> Option<[u64; 3]> {
     let mut right = [0; 3];
     if (plain().limits)(*recipe, &mut right) != 0 {
         return None;

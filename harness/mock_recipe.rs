@@ -3,6 +3,7 @@
 use crate::defects::{defect, is};
 use crate::mock::{numbers, taken, Answer, Argument, Bits, Call, Column, MadeRow, Output};
 use crate::mock::{INTERSECT, UNION};
+use crate::model::Width;
 use crate::plain;
 
 /// The four slices of a list, a tray or the output, copied.
@@ -21,12 +22,15 @@ pub fn recipe(
     }
     let own = own_answer(&inputs, &outputs, counts.len());
     let starts = starts.map(|start| start as usize);
-    recipe_after(own, station, columns as usize, inputs, starts, &mut outputs, counts)
+    let columns = columns as usize;
+    recipe_after(own, Width::Narrow, station, columns, inputs, starts, &mut outputs, counts)
 }
 
 /// The call after the entry's own answer, if it has one.
+#[allow(clippy::too_many_arguments)]
 pub fn recipe_after(
     mut own: Option<u32>,
+    width: Width,
     station: u32,
     columns: usize,
     inputs: [&[u8]; 11],
@@ -47,7 +51,7 @@ pub fn recipe_after(
     if station > most && is("recipe-15-before-own-answers") {
         own = Some(15);
     }
-    let run = Run { no_station: station > most, ..Run::new(columns, &inputs, starts) };
+    let run = Run { no_station: station > most, ..Run::new(width, columns, &inputs, starts) };
     let (trays, results) = outputs.split_at_mut(8);
     let (output, tally) = results.split_at_mut(4);
     let mut written = [false; 2];
@@ -56,11 +60,12 @@ pub fn recipe_after(
         None => run.answer(trays, output, counts, &mut written),
     };
     if number != 0 {
-        Output::new(Answer::Lists, output, counts).refused(number);
+        Output::new(Answer::Lists, width, output, counts).refused(number);
     }
     let many = run.numbers.len() > 1024;
     if !(many && is("recipe-many-numbers-leave-trays")) {
-        clear(trays, number, own.is_some(), written, run.list[0].len() / 4);
+        let offsets = run.list[0].len();
+        clear(trays, number, own.is_some(), written, offsets);
     }
     let left_out = own.is_some() || many && is("recipe-many-numbers-not-in-tally");
     if !left_out || is("recipe-tally-counts-own-answers") {
@@ -127,7 +132,8 @@ fn clear(trays: &mut [&mut [u8]], number: u32, own: bool, written: [bool; 2], of
             _ => false,
         };
         let from = match defect() {
-            "recipe-tray-tail-not-zeroed" if at % 4 == 0 => (4 * offsets).min(slice.len()),
+            "recipe-tray-tail-not-zeroed" if at % 4 == 0 => offsets.min(slice.len()),
+            "large-tray-offsets-cleared-as-32-bits" if at % 4 == 0 => slice.len() / 2,
             _ => slice.len(),
         };
         if !kept {
@@ -197,6 +203,7 @@ fn add_one(tally: &mut [u8], slot: usize) {
 // Steps.
 
 struct Run<'a> {
+    width: Width,
     no_station: bool,
     columns: usize,
     numbers: Vec<u32>,
@@ -208,12 +215,13 @@ struct Run<'a> {
 }
 
 impl<'a> Run<'a> {
-    fn new(columns: usize, inputs: &[&'a [u8]; 11], starts: [usize; 5]) -> Self {
+    fn new(width: Width, columns: usize, inputs: &[&'a [u8]; 11], starts: [usize; 5]) -> Self {
         let number = |number: i64| match defect() {
             "recipe-numbers-cut-to-a-byte" => number as u32 % 256,
             _ => number as u32,
         };
         Run {
+            width,
             no_station: false,
             columns,
             numbers: numbers(inputs[0], 4).into_iter().map(number).collect(),
@@ -225,11 +233,11 @@ impl<'a> Run<'a> {
     }
 
     fn first_list(&self) -> Column<'a> {
-        Column::new(0, &self.list, &self.starts[0])
+        Column::new(0, &self.list, &self.starts[0], self.width)
     }
 
     fn second_list(&self) -> Column<'a> {
-        Column::new(1, &self.second, &self.starts[1])
+        Column::new(1, &self.second, &self.starts[1], self.width)
     }
 
     fn steps(&self) -> Vec<[u32; 4]> {
@@ -237,7 +245,7 @@ impl<'a> Run<'a> {
     }
 
     fn row_count(&self) -> usize {
-        (self.list[0].len() / 4).max(1) - 1
+        (self.list[0].len() / self.width.bytes()).max(1) - 1
     }
 
     // Refusals before the steps.
@@ -413,11 +421,14 @@ impl<'a> Run<'a> {
             }
             _ => [0, 0],
         };
-        let mut lists = vec![Column::new(0, &carried, &starts)];
+        let width = self.width;
+        let mut lists = vec![Column::new(0, &carried, &starts, width)];
         if matches!(code, UNION | INTERSECT) {
             lists.push(match defect() {
-                "recipe-second-list-is-the-first" => Column::new(1, &self.list, &self.starts[0]),
-                "recipe-second-list-is-the-carried" => Column::new(1, &carried, &starts),
+                "recipe-second-list-is-the-first" => {
+                    Column::new(1, &self.list, &self.starts[0], width)
+                }
+                "recipe-second-list-is-the-carried" => Column::new(1, &carried, &starts, width),
                 _ => self.second_list(),
             });
             let exchanged = code == UNION && is("recipe-union-sides-exchanged")
@@ -426,14 +437,15 @@ impl<'a> Run<'a> {
                 lists.swap(0, 1);
             }
         }
-        Call { op: code, lists, arguments: arguments.collect() }.made_lists()
+        Call { op: code, lists, arguments: arguments.collect(), width }.made_lists()
     }
 
     /// The four slices that the rows take, as they would be written into this room.
     fn write(&self, rows: &[MadeRow], room: &mut [&mut [u8]], counts: &mut [u8]) -> u32 {
         let carried: Vec<Column> = vec![self.first_list()];
-        let call = Call { op: COPY, lists: carried, arguments: Vec::new() };
-        Output::new(Answer::Lists, room, counts).write_lists(&call, rows)
+        let width = self.width;
+        let call = Call { op: COPY, lists: carried, arguments: Vec::new(), width };
+        Output::new(Answer::Lists, width, room, counts).write_lists(&call, rows)
     }
 
     // All steps.
@@ -550,7 +562,8 @@ impl<'a> Run<'a> {
         if number == 0 {
             return Ok(self.carried(at, rows, tray));
         }
-        let two_short = tray[0].len() / 4 + 1 == rows.len() && !tray[0].is_empty();
+        let offsets = tray[0].len() / self.width.bytes();
+        let two_short = offsets + 1 == rows.len() && offsets > 0;
         if is("recipe-tray-room-not-tested")
             || is("recipe-room-of-the-output-for-trays")
             || two_short && is("recipe-tray-two-offsets-short-accepted")
@@ -566,8 +579,8 @@ impl<'a> Run<'a> {
     /// The rows that a tray holds after a step.
     fn carried(&self, at: usize, rows: &[MadeRow], tray: &[&mut [u8]]) -> Copied {
         let elements: usize = rows.iter().map(|row| row.items.len()).sum();
-        let lengths =
-            [4 * (rows.len() + 1), rows.len().div_ceil(8), 8 * elements, elements.div_ceil(8)];
+        let offsets = self.width.bytes() * (rows.len() + 1);
+        let lengths = [offsets, rows.len().div_ceil(8), 8 * elements, elements.div_ceil(8)];
         let part = |at: usize| tray[at][..lengths[at].min(tray[at].len())].to_vec();
         let mut carried = [part(0), part(1), part(2), part(3)];
         if at == 0 && is("recipe-null-row-values-counted-when-carried") {
@@ -596,9 +609,10 @@ impl<'a> Run<'a> {
         let mut end = 0;
         for (row, made) in rows.iter().enumerate() {
             let hidden = if made.valid { 0 } else { list.range(row).len() };
-            end += (made.items.len() + hidden) as i32;
-            if let Some(slot) = offsets.get_mut(4 * (row + 1)..4 * (row + 2)) {
-                slot.copy_from_slice(&end.to_le_bytes());
+            end += (made.items.len() + hidden) as i64;
+            let bytes = self.width.bytes();
+            if let Some(slot) = offsets.get_mut(bytes * (row + 1)..bytes * (row + 2)) {
+                slot.copy_from_slice(&end.to_le_bytes()[..bytes]);
             }
         }
     }
@@ -656,7 +670,7 @@ const SMALLEST: [u8; 8] = i64::MIN.to_le_bytes();
 
 /// Slices in which every result has room.
 fn large_slices() -> Copied {
-    [4 * 4097, 600, 8 * 50_000, 7000].map(|bytes| vec![0; bytes])
+    [8 * 4097, 600, 8 * 50_000, 7000].map(|bytes| vec![0; bytes])
 }
 
 fn accepted(number: u32) -> Result<(), u32> {

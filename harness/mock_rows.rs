@@ -1,7 +1,8 @@
 //! What each row becomes in the mock, right or wrong in one way.
 
 use crate::defects::{defect, is};
-use crate::mock::{Item, NULL};
+use crate::mock::{cut, fits, Item, NULL};
+use crate::model::Width;
 
 pub fn reverse(mut items: Vec<Item>) -> Vec<Item> {
     let valid: Vec<bool> = items.iter().map(|item| item.valid).collect();
@@ -103,12 +104,12 @@ pub fn intersect(left: Vec<Item>, right: Vec<Item>) -> Vec<Item> {
     distinct(common, &mut Vec::new())
 }
 
-pub fn is_beyond(bound: i64) -> bool {
+pub fn is_beyond(width: Width, bound: i64) -> bool {
     match defect() {
         "bounds-wrap-to-32-bits" => false,
         "bound-smallest-refused" => bound <= -2147483648 || bound > 2147483647,
         "bound-largest-refused" => bound < -2147483648 || bound >= 2147483647,
-        _ => i32::try_from(bound).is_err(),
+        _ => !fits(width, bound, "large-4-given"),
     }
 }
 
@@ -144,8 +145,10 @@ pub fn slice(
     to: i64,
     stride: i64,
     row: usize,
+    width: Width,
 ) -> Result<Vec<Item>, u32> {
     let length = items.len() as i64;
+    let is_beyond = |bound: i64| is_beyond(width, bound);
     if items.is_empty() {
         return match defect() {
             "4-over-empty-row" if is_beyond(from) || is_beyond(to) => Err(4),
@@ -165,25 +168,28 @@ pub fn slice(
             return Err(4);
         }
     }
-    let wrap =
-        |bound: i64| if is("bounds-wrap-to-32-bits") { i64::from(bound as i32) } else { bound };
+    let wrap = |bound: i64| match defect() {
+        "bounds-wrap-to-32-bits" => i64::from(bound as i32),
+        _ => cut(width, bound, "large-bounds-cut-to-32-bits"),
+    };
     let first = from_place(length, wrap(from));
     let last = to_place(length, wrap(to));
     if stride == 0 && is("stride-0-before-bounds") {
         return Err(5);
     }
-    if i32::try_from(stride).is_err() && is("stride-size-before-bounds") {
+    if !fits(width, stride, "large-6-given") && is("stride-size-before-bounds") {
         return Err(6);
     }
     if outside(first) || outside(last) {
         return Ok(Vec::new());
     }
-    places(first, last, stride)
+    places(first, last, stride, width)
         .map(|places| places.into_iter().filter_map(|place| items.get(place).copied()).collect())
 }
 
 /// The places from one bound to the other, both in the row.
-fn places(first: i64, last: i64, stride: i64) -> Result<Vec<usize>, u32> {
+fn places(first: i64, last: i64, stride: i64, width: Width) -> Result<Vec<usize>, u32> {
+    let is_beyond = |stride: i64| !fits(width, stride, "large-6-given");
     let mut stride = match (stride, defect()) {
         (0, "stride-0-gives-empty") => return Ok(Vec::new()),
         (0, "stride-0-is-1") => 1,
@@ -192,10 +198,10 @@ fn places(first: i64, last: i64, stride: i64) -> Result<Vec<usize>, u32> {
     };
     let beyond = match defect() {
         "stride-beyond-accepted" | "stride-wraps-to-32-bits" => false,
-        "stride-size-not-for-equal-bounds" => i32::try_from(stride).is_err() && first != last,
-        "stride-smallest-refused" => i32::try_from(stride).is_err() || stride == -2147483648,
-        "stride-largest-refused" => i32::try_from(stride).is_err() || stride == 2147483647,
-        _ => i32::try_from(stride).is_err(),
+        "stride-size-not-for-equal-bounds" => is_beyond(stride) && first != last,
+        "stride-smallest-refused" => is_beyond(stride) || stride == -2147483648,
+        "stride-largest-refused" => is_beyond(stride) || stride == 2147483647,
+        _ => is_beyond(stride),
     };
     if beyond && is("stride-size-before-direction") {
         return Err(6);
@@ -217,6 +223,10 @@ fn places(first: i64, last: i64, stride: i64) -> Result<Vec<usize>, u32> {
     if is("stride-wraps-to-32-bits") && i32::try_from(stride).is_err() {
         stride = i64::from(stride as i32);
         stride = if stride == 0 { 1 } else { stride };
+    }
+    if is("large-strides-cut-to-32-bits") {
+        let cut = cut(width, stride, "large-strides-cut-to-32-bits");
+        stride = if cut == 0 { stride.signum() } else { cut };
     }
     if is("stride-1-always") {
         stride = stride.signum();

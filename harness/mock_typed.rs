@@ -3,21 +3,36 @@
 
 use crate::defects::{defect, is};
 use crate::mock::{answer_after, Answer, Shape, ANY_VALUE, ELEMENT, LIST_REPEAT, UNION};
-use crate::mock_lending::LENDING;
+use crate::mock_lending::lending;
 use crate::mock_recipe::recipe_after;
-use crate::numbers::{bytes_of, bytes_of_mut};
-use crate::plain;
+use crate::model::Width;
+use crate::numbers::{bytes_of, bytes_of_mut, Number};
+use crate::plain::{self, Offset};
 use crate::typed::{List, OuterRoom, Recipe, Room, Typed, Values};
 
-pub const TYPED: Typed =
-    Typed { list, lists, any_value, element, list_repeat, recipe, lending: LENDING };
-
-/// The plain Rust, where no wrong version is wanted.
-fn plain() -> Option<Typed> {
-    plain::LIBRARY.typed.filter(|_| defect().is_empty())
+/// Those of one width.
+pub const fn typed<O: Offset + Number>() -> Typed<O> {
+    Typed { list, lists, any_value, element, list_repeat, recipe, lending: lending() }
 }
 
-fn list_bytes<'a>(list: &List<'a>) -> [&'a [u8]; 4] {
+/// The plain Rust, where no wrong version is wanted.
+fn plain<O: Offset + Number>() -> Option<Typed<O>> {
+    defect().is_empty().then(plain::typed)
+}
+
+/// The width of these offsets.
+fn width_of<O>() -> Width {
+    match size_of::<O>() {
+        8 => Width::Wide,
+        _ => Width::Narrow,
+    }
+}
+
+fn shape<O>(lists: usize, answer: Answer) -> Shape {
+    Shape { lists, answer, width: width_of::<O>() }
+}
+
+fn list_bytes<'a, O: Number>(list: &List<'a, O>) -> [&'a [u8]; 4] {
     [bytes_of(list.offsets), list.rows, bytes_of(list.values), list.elements]
 }
 
@@ -25,13 +40,19 @@ fn values_bytes<'a>(column: &Values<'a>) -> [&'a [u8]; 2] {
     [bytes_of(column.values), column.bits]
 }
 
-fn room_bytes<'a>(room: Room<'a>) -> [&'a mut [u8]; 4] {
+fn room_bytes<'a, O: Number>(room: Room<'a, O>) -> [&'a mut [u8]; 4] {
     [bytes_of_mut(room.offsets), room.rows, bytes_of_mut(room.values), room.elements]
 }
 
 // Operations.
 
-fn list(op: u32, list: List, arguments: [Values; 3], room: Room, counts: &mut [u64]) -> u32 {
+fn list<O: Offset + Number>(
+    op: u32,
+    list: List<O>,
+    arguments: [Values; 3],
+    room: Room<O>,
+    counts: &mut [u64],
+) -> u32 {
     if let Some(plain) = plain() {
         return (plain.list)(op, list, arguments, room, counts);
     }
@@ -45,11 +66,16 @@ fn list(op: u32, list: List, arguments: [Values; 3], room: Room, counts: &mut [u
     let [x, y, z] = arguments.map(|one| one.start);
     let starts = [list.rows_start, list.elements_start, x, y, z];
     let inputs = [&list_bytes(&list)[..], &columns].concat();
-    let shape = Shape { lists: 1, answer: Answer::Lists };
+    let shape = shape::<O>(1, Answer::Lists);
     answer(op, served, shape, &inputs, &starts, &mut room_bytes(room), counts)
 }
 
-fn lists(op: u32, [left, right]: [List; 2], room: Room, counts: &mut [u64]) -> u32 {
+fn lists<O: Offset + Number>(
+    op: u32,
+    [left, right]: [List<O>; 2],
+    room: Room<O>,
+    counts: &mut [u64],
+) -> u32 {
     if let Some(plain) = plain() {
         return (plain.lists)(op, [left, right], room, counts);
     }
@@ -61,12 +87,12 @@ fn lists(op: u32, [left, right]: [List; 2], room: Room, counts: &mut [u64]) -> u
     };
     let starts = [left.rows_start, left.elements_start, right.rows_start, right.elements_start];
     let inputs = [list_bytes(&left), list_bytes(&right)].concat();
-    let shape = Shape { lists: 2, answer: Answer::Lists };
+    let shape = shape::<O>(2, Answer::Lists);
     answer(op, served, shape, &inputs, &starts, &mut room_bytes(room), counts)
 }
 
 /// Two lists whose values are one slice, wrongly refused.
-fn are_refused([left, right]: &[List; 2]) -> bool {
+fn are_refused<O>([left, right]: &[List<O>; 2]) -> bool {
     let are_one = std::ptr::eq(left.values, right.values) && !left.values.is_empty();
     are_one && is("typed-list-beside-itself-refused")
 }
@@ -79,18 +105,23 @@ fn cut_code(op: u32) -> u32 {
     }
 }
 
-fn any_value(list: List, values: &mut [i64], rows: &mut [u8], counts: &mut [u64]) -> u32 {
+fn any_value<O: Offset + Number>(
+    list: List<O>,
+    values: &mut [i64],
+    rows: &mut [u8],
+    counts: &mut [u64],
+) -> u32 {
     if let Some(plain) = plain() {
         return (plain.any_value)(list, values, rows, counts);
     }
     let starts = [list.rows_start, list.elements_start];
-    let shape = Shape { lists: 1, answer: Answer::Values };
+    let shape = shape::<O>(1, Answer::Values);
     let outputs = &mut [bytes_of_mut(values), rows];
     answer(ANY_VALUE, true, shape, &list_bytes(&list), &starts, outputs, counts)
 }
 
-fn element(
-    list: List,
+fn element<O: Offset + Number>(
+    list: List<O>,
     indexes: Values,
     values: &mut [i64],
     rows: &mut [u8],
@@ -101,16 +132,16 @@ fn element(
     }
     let starts = [list.rows_start, list.elements_start, indexes.start];
     let inputs = [&list_bytes(&list)[..], &values_bytes(&indexes)].concat();
-    let shape = Shape { lists: 1, answer: Answer::Values };
+    let shape = shape::<O>(1, Answer::Values);
     let outputs = &mut [bytes_of_mut(values), rows];
     answer(ELEMENT, true, shape, &inputs, &starts, outputs, counts)
 }
 
-fn list_repeat(
-    list: List,
+fn list_repeat<O: Offset + Number>(
+    list: List<O>,
     times: Values,
-    outer: OuterRoom,
-    inner: Room,
+    outer: OuterRoom<O>,
+    inner: Room<O>,
     counts: &mut [u64],
 ) -> u32 {
     if let Some(plain) = plain() {
@@ -118,7 +149,7 @@ fn list_repeat(
     }
     let starts = [list.rows_start, list.elements_start, times.start];
     let inputs = [&list_bytes(&list)[..], &values_bytes(&times)].concat();
-    let shape = Shape { lists: 1, answer: Answer::Nested };
+    let shape = shape::<O>(1, Answer::Nested);
     let [offsets, rows, values, elements] = room_bytes(inner);
     let outputs = &mut [bytes_of_mut(outer.offsets), outer.rows, offsets, rows, values, elements];
     answer(LIST_REPEAT, true, shape, &inputs, &starts, outputs, counts)
@@ -155,8 +186,7 @@ fn answer(
 fn tried(op: u32, shape: &Shape, inputs: &[&[u8]], starts: &[usize], outputs: &[&mut [u8]]) -> u32 {
     let mut copies: Vec<Vec<u8>> = outputs.iter().map(|slice| slice.to_vec()).collect();
     let mut copies: Vec<&mut [u8]> = copies.iter_mut().map(Vec::as_mut_slice).collect();
-    let shape = Shape { lists: shape.lists, answer: shape.answer };
-    answer_after(op, None, shape, inputs, starts, &mut copies, &mut [0; 48])
+    answer_after(op, None, *shape, inputs, starts, &mut copies, &mut [0; 48])
 }
 
 /// 100, or wrongly 101 for lists of this many bytes of offsets and of values.
@@ -235,7 +265,12 @@ fn cut(count: &mut u64) {
 
 // Recipes.
 
-fn recipe(recipe: Recipe, rooms: [Room; 3], counts: &mut [u64], tally: &mut [u64]) -> u32 {
+fn recipe<O: Offset + Number>(
+    recipe: Recipe<O>,
+    rooms: [Room<O>; 3],
+    counts: &mut [u64],
+    tally: &mut [u64],
+) -> u32 {
     if let Some(plain) = plain() {
         return (plain.recipe)(recipe, rooms, counts, tally);
     }
@@ -255,7 +290,7 @@ fn recipe(recipe: Recipe, rooms: [Room; 3], counts: &mut [u64], tally: &mut [u64
             second.elements_start,
             arguments.start,
         ],
-        &Shape { lists: 2, answer: Answer::Lists },
+        &shape::<O>(2, Answer::Lists),
     );
     let starts = starts.try_into().expect("the starting bits of a recipe");
     let own = recipe_own_answer(&recipe, counts.len(), tally.len());
@@ -266,14 +301,15 @@ fn recipe(recipe: Recipe, rooms: [Room; 3], counts: &mut [u64], tally: &mut [u64
         slices.into_iter().flatten().collect::<Vec<_>>().try_into().expect("thirteen outputs");
     let trays: Vec<Vec<u8>> = outputs[..8].iter().map(|slice| slice.to_vec()).collect();
     let bytes = bytes_of_mut(counts);
-    let number = recipe_after(own, station, columns, inputs, starts, &mut outputs, bytes);
+    let width = width_of::<O>();
+    let number = recipe_after(own, width, station, columns, inputs, starts, &mut outputs, bytes);
     spoil_trays(number, &trays, &mut outputs);
     spoil_counts(number, &counts_before, counts, 4);
     spoil_tally(number, &before, tally);
     number
 }
 
-fn recipe_own_answer(recipe: &Recipe, counts: usize, tally: usize) -> Option<u32> {
+fn recipe_own_answer<O>(recipe: &Recipe<O>, counts: usize, tally: usize) -> Option<u32> {
     let tally_needed = match defect() {
         "typed-tally-one-short-accepted" => 31,
         "typed-tally-of-exact-length-refused" => 33,

@@ -1,6 +1,7 @@
 //! An independent reading of document 01 and of the notes that change it, row by row: which rows a
 //! column shows, when a call is refused, what each row becomes, and the form of the result. Plain
-//! and slow on purpose; sums are taken in 128 bits.
+//! and slow on purpose; sums are taken in 128 bits. The width of the offsets is a parameter, and
+//! `Width` says all that depends on it.
 //!
 //! An operation is added by a variant of `Operation`, its columns and refusals, an arm of `make`
 //! or of the row functions, and the function that says what one row becomes.
@@ -16,6 +17,58 @@ pub type Row = Option<Vec<Element>>;
 
 /// The number of a refusal.
 pub type Refusal = u32;
+
+/// The width of signed offsets: lists have 32 bits, large lists 64.
+#[derive(Clone, Copy, PartialEq, Eq, Debug, PartialOrd, Ord)]
+pub enum Width {
+    Narrow,
+    Wide,
+}
+
+impl Width {
+    pub const ALL: [Width; 2] = [Width::Narrow, Width::Wide];
+
+    /// The bytes of an offset.
+    pub const fn bytes(self) -> usize {
+        match self {
+            Width::Narrow => 4,
+            Width::Wide => 8,
+        }
+    }
+
+    /// A limit of a recipe stops here, and so does the result of a union.
+    pub const fn largest_offset(self) -> i64 {
+        match self {
+            Width::Narrow => 2147483647,
+            Width::Wide => 9223372036854775807,
+        }
+    }
+
+    pub const fn smallest_offset(self) -> i64 {
+        -self.largest_offset() - 1
+    }
+
+    /// The most elements of resize's result, and the most values that list-repeat repeats.
+    pub const fn most_elements(self) -> u128 {
+        match self {
+            Width::Narrow => 2147483647,
+            Width::Wide => 1152921504606846975,
+        }
+    }
+
+    /// The most lists in the outer rows of list-repeat.
+    pub const fn most_outer_lists(self) -> u128 {
+        match self {
+            Width::Narrow => 2147483647,
+            Width::Wide => 1152921504606846974,
+        }
+    }
+
+    /// Whether an index, a bound or a stride fits the offsets; of 64 bits all do.
+    fn fits(self, number: i64) -> bool {
+        (self.smallest_offset()..=self.largest_offset()).contains(&number)
+    }
+}
 
 #[derive(Clone, Copy, PartialEq, Eq, Debug)]
 pub enum Operation {
@@ -68,13 +121,15 @@ impl Operation {
         }
     }
 
-    /// The refusals that the operation gives after 3 and before 9.
-    pub fn refusals(self) -> &'static [Refusal] {
-        match self {
-            Operation::Element | Operation::SliceWithoutStride => &[4],
-            Operation::Slice => &[4, 5, 6],
-            Operation::Union | Operation::ListRepeat => &[8],
-            Operation::Resize | Operation::ResizeWithoutFill => &[7, 8],
+    /// The refusals that the operation gives after 3 and before 9; 4 and 6 never occur in large
+    /// lists.
+    pub fn refusals(self, width: Width) -> &'static [Refusal] {
+        match (self, width) {
+            (Operation::Element | Operation::SliceWithoutStride, Width::Narrow) => &[4],
+            (Operation::Slice, Width::Narrow) => &[4, 5, 6],
+            (Operation::Slice, Width::Wide) => &[5],
+            (Operation::Union | Operation::ListRepeat, _) => &[8],
+            (Operation::Resize | Operation::ResizeWithoutFill, _) => &[7, 8],
             _ => &[],
         }
     }
@@ -87,10 +142,10 @@ pub struct Bitmap {
     pub start: usize,
 }
 
-/// A list column as it is lent.
+/// A list column as it is lent, its offsets of one width or the other.
 #[derive(Clone, Debug, Default)]
 pub struct ListColumn {
-    pub offsets: Vec<i32>,
+    pub offsets: Vec<i64>,
     pub rows: Bitmap,
     pub values: Vec<i64>,
     pub elements: Bitmap,
@@ -134,7 +189,7 @@ pub enum Made {
 /// One slice of a result, as slots.
 #[derive(Clone, Debug, PartialEq)]
 pub enum Slots {
-    Offsets(Vec<i32>),
+    Offsets(Vec<i64>),
     Bits(Vec<u8>),
     Values(Vec<i64>),
 }
@@ -145,9 +200,6 @@ pub struct ResultForm {
     pub slices: Vec<Slots>,
     pub counts: Vec<u64>,
 }
-
-/// The most elements of a list answer, and the most lists inside one.
-const MOST_ELEMENTS: u128 = 2147483647;
 
 /// What a null slot of a result holds; a valid element may hold it too.
 pub const UNDER_NULL: i64 = -9223372036854775808;
@@ -247,7 +299,7 @@ fn has_bad_offsets(column: &ListColumn) -> bool {
         return false;
     };
     let falling = offsets.windows(2).any(|pair| pair[1] < pair[0]);
-    first < 0 || falling || i64::from(last) > column.values.len() as i64
+    first < 0 || falling || last > column.values.len() as i64
 }
 
 /// Condition of 2 for a list: the rows, and all the values lent.
@@ -332,15 +384,11 @@ fn any_value(row: &[Element]) -> Element {
     row.iter().copied().find(|element| element.is_some()).flatten()
 }
 
-fn fits_32_bits(number: i64) -> bool {
-    (-2147483648..=2147483647).contains(&number)
-}
-
-/// 1 is first, -1 last; 0 or outside gives null; 4 for an index that does not fit 32 signed bits,
-/// even over an empty row.
-fn element(row: &[Element], index: i64) -> Result<Element, Refusal> {
+/// 1 is first, -1 last; 0 or outside gives null; 4 for an index that does not fit the offsets, even
+/// over an empty row.
+fn element(width: Width, row: &[Element], index: i64) -> Result<Element, Refusal> {
     let length = row.len() as i64;
-    if !fits_32_bits(index) {
+    if !width.fits(index) {
         return Err(4);
     }
     if 1 <= index && index <= length {
@@ -386,14 +434,20 @@ fn bound_places(length: i64, from: i64, to: i64) -> (i64, i64) {
 }
 
 /// The elements from one bound to the other, both included.
-fn slice(row: &[Element], from: i64, to: i64, stride: i64) -> Result<Vec<Element>, Refusal> {
+fn slice(
+    width: Width,
+    row: &[Element],
+    from: i64,
+    to: i64,
+    stride: i64,
+) -> Result<Vec<Element>, Refusal> {
     if row.is_empty() {
         return Ok(Vec::new());
     }
-    if !fits_32_bits(from) {
+    if !width.fits(from) {
         return Err(4);
     }
-    if !fits_32_bits(to) {
+    if !width.fits(to) {
         return Err(4);
     }
     let length = row.len() as i64;
@@ -408,16 +462,17 @@ fn slice(row: &[Element], from: i64, to: i64, stride: i64) -> Result<Vec<Element
     if stride > 0 && first > last || stride < 0 && first < last {
         return Ok(Vec::new());
     }
-    if !fits_32_bits(stride) {
+    if !width.fits(stride) {
         return Err(6);
     }
     let mut made = Vec::new();
+    let (first, last, stride) = (i128::from(first), i128::from(last), i128::from(stride));
     let mut place = first;
     while first.min(last) <= place && place <= first.max(last) {
         made.push(row[place as usize - 1]);
         place += stride;
     }
-    assert_eq!(made.len() as i64, (last - first).abs() / stride.abs() + 1, "places of a slice");
+    assert_eq!(made.len() as i128, (last - first).abs() / stride.abs() + 1, "places of a slice");
     Ok(made)
 }
 
@@ -457,7 +512,12 @@ fn remove(row: &[Element], old: i64, limit: i64) -> Vec<Element> {
 
 /// What the rows of the lists become beside one value of each argument column. A null list gives
 /// null, and so does a null argument, but for a fill and for old and new of replace.
-fn list_row(operation: Operation, rows: &[&Row], arguments: &[Element]) -> Result<Row, Refusal> {
+fn list_row(
+    width: Width,
+    operation: Operation,
+    rows: &[&Row],
+    arguments: &[Element],
+) -> Result<Row, Refusal> {
     let Some(row) = rows[0] else {
         return Ok(None);
     };
@@ -471,9 +531,11 @@ fn list_row(operation: Operation, rows: &[&Row], arguments: &[Element]) -> Resul
             return Ok(rows[1].as_ref().map(|right| intersect(row, right)));
         }
         (Operation::Slice, [Some(from), Some(to), Some(stride)]) => {
-            slice(row, *from, *to, *stride)?
+            slice(width, row, *from, *to, *stride)?
         }
-        (Operation::SliceWithoutStride, [Some(from), Some(to)]) => slice(row, *from, *to, 1)?,
+        (Operation::SliceWithoutStride, [Some(from), Some(to)]) => {
+            slice(width, row, *from, *to, 1)?
+        }
         (Operation::Resize, [Some(count), fill]) => resize(row, *count, *fill),
         (Operation::ResizeWithoutFill, [Some(count)]) => resize(row, *count, None),
         (Operation::Replace, [old, new, Some(limit)]) => replace(row, *old, *new, *limit),
@@ -483,10 +545,15 @@ fn list_row(operation: Operation, rows: &[&Row], arguments: &[Element]) -> Resul
     Ok(Some(made))
 }
 
-fn value_row(operation: Operation, row: &Row, arguments: &[Element]) -> Result<Element, Refusal> {
+fn value_row(
+    width: Width,
+    operation: Operation,
+    row: &Row,
+    arguments: &[Element],
+) -> Result<Element, Refusal> {
     match (operation, row, arguments) {
         (Operation::AnyValue, Some(row), []) => Ok(any_value(row)),
-        (Operation::Element, Some(row), [Some(index)]) => element(row, *index),
+        (Operation::Element, Some(row), [Some(index)]) => element(width, row, *index),
         _ => Ok(None),
     }
 }
@@ -498,28 +565,28 @@ fn row_arguments(shown: &Shown, row: usize) -> Vec<Element> {
 }
 
 /// Every row in turn: the first bad one decides.
-fn each_list(operation: Operation, shown: &Shown) -> Result<Vec<Row>, Refusal> {
+fn each_list(width: Width, operation: Operation, shown: &Shown) -> Result<Vec<Row>, Refusal> {
     let rows = 0..shown.lists[0].len();
     rows.map(|row| {
         let rows: Vec<&Row> = shown.lists.iter().map(|list| &list[row]).collect();
-        list_row(operation, &rows, &row_arguments(shown, row))
+        list_row(width, operation, &rows, &row_arguments(shown, row))
     })
     .collect()
 }
 
-fn each_value(operation: Operation, shown: &Shown) -> Result<Vec<Element>, Refusal> {
+fn each_value(width: Width, operation: Operation, shown: &Shown) -> Result<Vec<Element>, Refusal> {
     let rows = shown.lists[0].iter().enumerate();
-    rows.map(|(at, row)| value_row(operation, row, &row_arguments(shown, at))).collect()
+    rows.map(|(at, row)| value_row(width, operation, row, &row_arguments(shown, at))).collect()
 }
 
 fn elements_in(rows: &[Row]) -> u128 {
     rows.iter().flatten().map(|row| row.len() as u128).sum()
 }
 
-/// 8 if the result exceeds 2147483647 elements.
-fn union_of_each(shown: &Shown) -> Result<Made, Refusal> {
-    let rows = each_list(Operation::Union, shown)?;
-    if elements_in(&rows) > MOST_ELEMENTS {
+/// 8 if the result exceeds the largest offset.
+fn union_of_each(width: Width, shown: &Shown) -> Result<Made, Refusal> {
+    let rows = each_list(width, Operation::Union, shown)?;
+    if elements_in(&rows) > width.largest_offset() as u128 {
         return Err(8);
     }
     Ok(Made::Lists(rows))
@@ -527,7 +594,7 @@ fn union_of_each(shown: &Shown) -> Result<Made, Refusal> {
 
 /// The sum of the counts over rows with list and count valid: 7 at a negative count, or 8 where
 /// the running sum passes its largest, whichever row comes first; then 8 if the sum is too large.
-fn resized_elements(shown: &Shown) -> Result<u128, Refusal> {
+fn resized_elements(width: Width, shown: &Shown) -> Result<u128, Refusal> {
     let mut sum = 0;
     for (row, count) in shown.lists[0].iter().zip(&shown.arguments[0]) {
         let (Some(_), Some(count)) = (row, count) else {
@@ -541,23 +608,23 @@ fn resized_elements(shown: &Shown) -> Result<u128, Refusal> {
             return Err(8);
         }
     }
-    if sum > MOST_ELEMENTS {
+    if sum > width.most_elements() {
         return Err(8);
     }
     Ok(sum)
 }
 
-fn resize_of_each(operation: Operation, shown: &Shown) -> Result<Made, Refusal> {
-    let elements = resized_elements(shown)?;
+fn resize_of_each(width: Width, operation: Operation, shown: &Shown) -> Result<Made, Refusal> {
+    let elements = resized_elements(width, shown)?;
     if elements > MOST_HELD as u128 {
         return Ok(Made::TooLong(list_slots(shown.lists[0].len() as u128, elements)));
     }
-    each_list(operation, shown).map(Made::Lists)
+    each_list(width, operation, shown).map(Made::Lists)
 }
 
 /// A null count gives null, 0 or less an empty outer row; a null list repeats as null lists of no
 /// values. 8 if the lists in all outer rows, or the values they repeat, are too many.
-fn list_repeat(shown: &Shown) -> Result<Made, Refusal> {
+fn list_repeat(width: Width, shown: &Shown) -> Result<Made, Refusal> {
     let (rows, times) = (&shown.lists[0], &shown.arguments[0]);
     let (mut inner_rows, mut elements) = (0, 0);
     for (row, times) in rows.iter().zip(times) {
@@ -565,7 +632,7 @@ fn list_repeat(shown: &Shown) -> Result<Made, Refusal> {
         inner_rows += times;
         elements += times * row.as_ref().map_or(0, |row| row.len() as u128);
     }
-    if inner_rows > MOST_ELEMENTS || elements > MOST_ELEMENTS {
+    if inner_rows > width.most_outer_lists() || elements > width.most_elements() {
         return Err(8);
     }
     if inner_rows.max(elements) > MOST_HELD as u128 {
@@ -580,18 +647,21 @@ fn list_repeat(shown: &Shown) -> Result<Made, Refusal> {
 
 /// The rows that an operation makes of well-formed columns of equally many rows, or the refusal
 /// that comes after 3 and before 9.
-pub fn make(operation: Operation, shown: &Shown) -> Result<Made, Refusal> {
+pub fn make(width: Width, operation: Operation, shown: &Shown) -> Result<Made, Refusal> {
     match operation {
-        Operation::AnyValue | Operation::Element => each_value(operation, shown).map(Made::Values),
-        Operation::Union => union_of_each(shown),
-        Operation::Resize | Operation::ResizeWithoutFill => resize_of_each(operation, shown),
-        Operation::ListRepeat => list_repeat(shown),
-        _ => each_list(operation, shown).map(Made::Lists),
+        Operation::AnyValue | Operation::Element => {
+            each_value(width, operation, shown).map(Made::Values)
+        }
+        Operation::Union => union_of_each(width, shown),
+        Operation::Resize | Operation::ResizeWithoutFill => resize_of_each(width, operation, shown),
+        Operation::ListRepeat => list_repeat(width, shown),
+        _ => each_list(width, operation, shown).map(Made::Lists),
     }
 }
 
 /// The same for columns of one row.
 pub fn make_row(
+    width: Width,
     operation: Operation,
     rows: &[&Row],
     arguments: &[Element],
@@ -600,18 +670,19 @@ pub fn make_row(
         lists: rows.iter().map(|row| vec![(*row).clone()]).collect(),
         arguments: arguments.iter().map(|argument| vec![*argument]).collect(),
     };
-    make(operation, &shown)
+    make(width, operation, &shown)
 }
 
 /// The rows that a call makes, or the refusal that comes before 9.
 pub fn rows_made(
+    width: Width,
     operation: Operation,
     lists: &[ListColumn],
     arguments: &[ArgumentColumn],
 ) -> Result<Made, Refusal> {
     match column_refusal(operation, lists, arguments) {
         Some(number) => Err(number),
-        None => make(operation, &shown(lists, arguments)),
+        None => make(width, operation, &shown(lists, arguments)),
     }
 }
 
@@ -641,7 +712,7 @@ fn laid_out<T: Clone>(rows: &[Option<Vec<T>>]) -> ([Slots; 2], Vec<T>) {
     let mut items: Vec<T> = Vec::new();
     for row in rows {
         items.extend(row.iter().flatten().cloned());
-        offsets.push(items.len() as i32);
+        offsets.push(items.len() as i64);
     }
     let bits = bitmap_of(rows.iter().map(Option::is_some));
     ([Slots::Offsets(offsets), Slots::Bits(bits)], items)
@@ -720,12 +791,13 @@ pub fn slots_needed(made: &Made) -> Vec<u64> {
 
 /// The whole call: the result that is written, or the refusal; 9 comes last.
 pub fn outcome(
+    width: Width,
     operation: Operation,
     lists: &[ListColumn],
     arguments: &[ArgumentColumn],
     lengths: &[usize],
 ) -> Result<ResultForm, Refusal> {
-    let made = rows_made(operation, lists, arguments)?;
+    let made = rows_made(width, operation, lists, arguments)?;
     let mut slices = slots_needed(&made).into_iter().zip(lengths);
     if slices.all(|(needed, lent)| needed <= *lent as u64) {
         Ok(result_form(&made))
@@ -755,11 +827,12 @@ pub const MOST_STEPS: usize = 32;
 
 pub const MOST_COLUMNS: usize = 8;
 
-/// A recipe as it is lent: the station that it is run for, the numbers of its steps, how many
-/// argument columns there are, its two lists, and the one slice in which all its argument columns
-/// lie.
+/// A recipe as it is lent: the width of its offsets, the station that it is run for, the numbers of
+/// its steps, how many argument columns there are, its two lists, and the one slice in which all its
+/// argument columns lie.
 #[derive(Clone, Copy)]
 pub struct Recipe<'a> {
+    pub width: Width,
     pub station: u32,
     pub numbers: &'a [u32],
     pub columns: usize,
@@ -767,9 +840,11 @@ pub struct Recipe<'a> {
     pub arguments: &'a ArgumentColumn,
 }
 
-/// What a recipe shows: its steps, what both lists show, and its argument columns.
+/// What a recipe shows: its steps, what both lists show, and its argument columns; and the width of
+/// the offsets.
 #[derive(Clone, Debug)]
 pub struct RecipeShown {
+    pub width: Width,
     pub steps: Vec<[u32; 4]>,
     pub lists: [Vec<Row>; 2],
     pub columns: Vec<Vec<Element>>,
@@ -853,6 +928,7 @@ pub fn recipe_shown(recipe: &Recipe) -> RecipeShown {
     let arguments = shown_arguments(recipe.arguments);
     let column = |number: usize| arguments[number * rows.len()..][..rows.len()].to_vec();
     RecipeShown {
+        width: recipe.width,
         steps: recipe.numbers.chunks(4).map(|step| [step[0], step[1], step[2], step[3]]).collect(),
         columns: (0..recipe.columns).map(column).collect(),
         lists: [rows, shown_rows(&recipe.lists[1])],
@@ -879,7 +955,7 @@ pub fn step_made(shown: &RecipeShown, step: &[u32; 4], carried: &[Row]) -> Resul
     }
     let used = &step[1..1 + operation.roles().len()];
     let arguments = used.iter().map(|number| shown.columns[*number as usize].clone()).collect();
-    make(operation, &Shown { lists, arguments })
+    make(shown.width, operation, &Shown { lists, arguments })
 }
 
 /// Carries rows from step to step, and gives those that the last one makes. The result form of what

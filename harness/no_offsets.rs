@@ -3,7 +3,7 @@
 //! each such call stands the same call with one offset in these lists: both must answer alike.
 
 use crate::compare::Checker;
-use crate::entry::{Case, Content, Entry, Input};
+use crate::entry::{Case, Content, Entry, Input, Kind};
 use crate::generate::{input_of, lend, random_element, random_layouts, Column, Room};
 use crate::model::{self, Bitmap, ListColumn, Role, Shown};
 use crate::recipe_generate::{code_of, random_station, RecipeCall};
@@ -50,7 +50,8 @@ fn recipe_without_rows(entry: Entry, steps: usize, rng: &mut Rng) -> Input {
     let numbers = (0..steps).flat_map(step).collect();
     let lists = [Vec::new(), Vec::new()];
     let station = random_station(rng);
-    let call = RecipeCall { station, numbers, columns, lists, arguments: Vec::new() };
+    let (width, arguments) = (entry.width, Vec::new());
+    let call = RecipeCall { width, station, numbers, columns, lists, arguments };
     call.laid_out(&random_layouts(entry, rng), rng)
 }
 
@@ -107,7 +108,7 @@ fn check_rooms(checker: &mut Checker, none: &Input, lists: &[usize], rng: &mut R
     let mut one = none.clone();
     for at in lists {
         let first = rng.below(none.lists[*at].values.len() + 1);
-        one.lists[*at].offsets = vec![first as i32];
+        one.lists[*at].offsets = vec![first as i64];
     }
     let slices = none.entry.outputs().iter().enumerate();
     let slices = slices.filter(|(_, kind)| kind.content == Content::Offsets);
@@ -116,7 +117,7 @@ fn check_rooms(checker: &mut Checker, none: &Input, lists: &[usize], rng: &mut R
         let mut case = lend(none, Room::Longer(rng.below(3)), rng);
         for (place, at) in slices.iter().enumerate() {
             let slots = if lent >> place & 1 == 1 { 1 + rng.below(2) } else { 0 };
-            case.outputs[*at] = rng.bytes(4 * slots);
+            case.outputs[*at] = rng.bytes(none.entry.width.bytes() * slots);
         }
         check_both(checker, &case, &one, wanted(none, &case));
     }
@@ -129,10 +130,10 @@ fn wanted(none: &Input, case: &Case) -> u32 {
     let has_rows = none.lists.iter().any(|list| list.offsets.len() > 1)
         || none.taken().iter().any(|argument| argument.values.len() > 1);
     let offsets = |at: usize| case.outputs[at].is_empty();
-    let no_slot = match none.entry {
-        Entry::AnyValue | Entry::Element => false,
-        Entry::ListRepeat => offsets(0) || offsets(2),
-        Entry::Recipe { .. } => {
+    let no_slot = match none.entry.kind {
+        Kind::AnyValue | Kind::Element => false,
+        Kind::ListRepeat => offsets(0) || offsets(2),
+        Kind::Recipe { .. } => {
             let steps = none.numbers.len() / 4;
             steps > 1 && offsets(0) || steps > 2 && offsets(4) || offsets(8)
         }

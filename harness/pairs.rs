@@ -6,7 +6,7 @@ use crate::compare::{Checker, Observed};
 use crate::coverage;
 use crate::entry::{Case, Entry, Input, MOST_ARGUMENTS, TALLY, TALLY_BYTES, TRAYS};
 use crate::generate::*;
-use crate::model::{self, RecipeShown, Role, Row, Shown};
+use crate::model::{self, RecipeShown, Role, Row, Shown, Width};
 use crate::recipe_generate::*;
 use crate::recipe_groups::{columns_of, shape_with_rows, WAYS};
 use crate::rng::Rng;
@@ -39,7 +39,7 @@ impl Wanted {
     /// way to be malformed that it can come from.
     fn all(entry: Entry) -> Vec<Wanted> {
         let (numbers, steps, slices) = if entry.is_recipe() {
-            (vec![4, 5, 6, 7, 8], &STEPS[..], TALLY)
+            (refusals_of_steps(entry.width).to_vec(), &STEPS[..], TALLY)
         } else {
             (coverage::answers(entry), &STEPS[..1], entry.outputs().len())
         };
@@ -84,7 +84,7 @@ pub fn same_rows(checker: &mut Checker, entry: Entry, rng: &mut Rng, calls: u64)
     while checker.calls < calls.max(300) {
         for wanted in Wanted::all(entry).into_iter().flat_map(|wanted| [wanted, Wanted::Any]) {
             if entry.is_recipe() {
-                let call = recipe_call(wanted, rng);
+                let call = recipe_call(entry.width, wanted, rng);
                 check_set(checker, entry, wanted, rng, |layouts, rng| call.laid_out(layouts, rng));
             } else {
                 let shown = operation_shown(entry, wanted, rng);
@@ -172,7 +172,7 @@ fn refused_shown(entry: Entry, number: u32, rng: &mut Rng) -> Shown {
         let shape = RowShape { count: 1 + rng.below(20), ..small_shape(rng) };
         let mut shown = random_shown(entry, shape, rng);
         let row = rng.below(shape.count);
-        if refuse_row(entry.known_operation(), &mut shown, row, number, rng) {
+        if refuse_row(entry, &mut shown, row, number, rng) {
             return shown;
         }
     }
@@ -206,24 +206,26 @@ fn make_unequal(entry: Entry, shown: &mut Shown, column: Column, rng: &mut Rng) 
 
 // Recipes.
 
-fn recipe_call(wanted: Wanted, rng: &mut Rng) -> RecipeCall {
+fn recipe_call(width: Width, wanted: Wanted, rng: &mut Rng) -> RecipeCall {
     let shape = shape_with_rows(rng);
     match wanted {
         Wanted::Any if rng.chance(1, 400) => {
-            RecipeCall::new(&random_recipe(large_shape(rng), rng), rng)
+            RecipeCall::new(&random_recipe(width, large_shape(rng), rng), rng)
         }
-        Wanted::Any => RecipeCall::new(&random_recipe(shape, rng), rng),
-        Wanted::Accepted => RecipeCall::new(&accepted_recipe(shape, random_steps(rng), rng), rng),
-        Wanted::Refused(number, steps) => refused_call(number, steps, rng),
-        Wanted::Short(slice, step) => filling_call(slice, step, rng),
+        Wanted::Any => RecipeCall::new(&random_recipe(width, shape, rng), rng),
+        Wanted::Accepted => {
+            RecipeCall::new(&accepted_recipe(width, shape, random_steps(rng), rng), rng)
+        }
+        Wanted::Refused(number, steps) => refused_call(width, number, steps, rng),
+        Wanted::Short(slice, step) => filling_call(width, slice, step, rng),
         Wanted::Unequal(column) => {
-            let mut call = RecipeCall::new(&random_recipe(shape, rng), rng);
+            let mut call = RecipeCall::new(&random_recipe(width, shape, rng), rng);
             make_call_unequal(&mut call, column, rng);
             call
         }
-        Wanted::Malformed(way, both) => malformed_call(way, both, rng),
+        Wanted::Malformed(way, both) => malformed_call(width, way, both, rng),
         Wanted::NoStation(malformed) => {
-            let mut call = RecipeCall::new(&random_recipe(shape, rng), rng);
+            let mut call = RecipeCall::new(&random_recipe(width, shape, rng), rng);
             call.numbers.extend(malformed.then_some(0));
             RecipeCall { station: no_station(rng), ..call }
         }
@@ -231,10 +233,15 @@ fn recipe_call(wanted: Wanted, rng: &mut Rng) -> RecipeCall {
 }
 
 /// A recipe of which one step is refused with this number, behind so many steps and before others.
-fn refused_call(number: u32, [before, behind]: [usize; 2], rng: &mut Rng) -> RecipeCall {
+fn refused_call(
+    width: Width,
+    number: u32,
+    [before, behind]: [usize; 2],
+    rng: &mut Rng,
+) -> RecipeCall {
     loop {
         let shape = RowShape { longest: 4, ..shape_with_rows(rng) };
-        if let Some(shown) = refused_recipe(shape, before, number, behind, rng) {
+        if let Some(shown) = refused_recipe(width, shape, before, number, behind, rng) {
             return RecipeCall::new(&shown, rng);
         }
     }
@@ -242,7 +249,7 @@ fn refused_call(number: u32, [before, behind]: [usize; 2], rng: &mut Rng) -> Rec
 
 /// A recipe that is accepted, of which something comes into this slice of a tray or of the output;
 /// if a step is given, that one is the first to take the most of it.
-fn filling_call(slice: usize, step: Option<usize>, rng: &mut Rng) -> RecipeCall {
+fn filling_call(width: Width, slice: usize, step: Option<usize>, rng: &mut Rng) -> RecipeCall {
     loop {
         let steps = match step {
             Some(0) => 0,
@@ -250,7 +257,7 @@ fn filling_call(slice: usize, step: Option<usize>, rng: &mut Rng) -> RecipeCall 
             None if TRAYS.contains(&slice) => 3 + rng.below(3),
             None => random_steps(rng),
         };
-        let shown = accepted_recipe(shape_with_rows(rng), steps, rng);
+        let shown = accepted_recipe(width, shape_with_rows(rng), steps, rng);
         let (slots, first) = most_slots(&shown, slice);
         if slots > 0 && step.is_none_or(|step| step == first) {
             return RecipeCall::new(&shown, rng);
@@ -293,11 +300,11 @@ fn make_call_unequal(call: &mut RecipeCall, column: Column, rng: &mut Rng) {
 
 /// A recipe that is malformed in this way alone, with the condition of 3 besides or without it;
 /// without it, over more rows than random bytes and short recipes have.
-fn malformed_call(way: usize, both: bool, rng: &mut Rng) -> RecipeCall {
+fn malformed_call(width: Width, way: usize, both: bool, rng: &mut Rng) -> RecipeCall {
     loop {
         let count = if both { rng.below(10) } else { 7 + rng.below(20) };
         let shape = RowShape { count, ..shape_with_rows(rng) };
-        let mut call = RecipeCall::new(&random_recipe(shape, rng), rng);
+        let mut call = RecipeCall::new(&random_recipe(width, shape, rng), rng);
         let mut input = call.laid_out(&[Layout::default()], rng);
         WAYS[way](&mut input, rng);
         (call.columns, call.numbers) = (columns_of(&input), input.numbers);

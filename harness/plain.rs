@@ -5,7 +5,7 @@
 //! entries arrays of bytes, and those of `decoded.rs` integers that they decode.
 
 use crate::library::Library;
-use crate::numbers::bytes_of;
+use crate::numbers::{bytes_of, Number};
 use crate::typed::{Lending, List, OuterRoom, Recipe, Room, Typed, Values};
 use std::collections::HashSet;
 use std::hash::Hash;
@@ -19,7 +19,8 @@ pub const LIBRARY: Library = Library {
     list_with: Some(list_with),
     list_repeat: Some(list_repeat),
     recipe: Some(recipe),
-    typed: Some(TYPED),
+    typed: Some(typed()),
+    large: Some(typed()),
 };
 
 type Bytes4 = [u8; 4];
@@ -42,14 +43,20 @@ const DISTINCT_BY_SET: u32 = 100;
 /// What a recipe of no steps does; no entry takes this code.
 const COPY: u32 = 101;
 
-const MOST_ELEMENTS: u64 = 2147483647;
-
 // Numbers.
 
 /// An offset as a column holds it.
 pub trait Offset: Copy {
-    fn of(number: i32) -> Self;
-    fn number(self) -> i32;
+    const LARGEST: u64;
+    /// The most elements of resize's result, and the most values that are repeated.
+    const MOST_ELEMENTS: u64;
+    /// The most lists in the outer rows of list-repeat.
+    const MOST_OUTER: u64;
+
+    fn of(number: usize) -> Self;
+    fn number(self) -> i64;
+    /// Whether an index, a bound or a stride fits the width of an offset.
+    fn fits(number: i64) -> bool;
 }
 
 /// A value as a column holds it, and what a null slot of a result holds.
@@ -60,22 +67,56 @@ pub trait Value: Copy + Eq + Hash {
 }
 
 impl Offset for Bytes4 {
-    fn of(number: i32) -> Self {
-        number.to_le_bytes()
+    const LARGEST: u64 = i32::LARGEST;
+    const MOST_ELEMENTS: u64 = i32::MOST_ELEMENTS;
+    const MOST_OUTER: u64 = i32::MOST_OUTER;
+
+    fn of(number: usize) -> Self {
+        (number as i32).to_le_bytes()
     }
 
-    fn number(self) -> i32 {
-        i32::from_le_bytes(self)
+    fn number(self) -> i64 {
+        i32::from_le_bytes(self).into()
+    }
+
+    fn fits(number: i64) -> bool {
+        i32::fits(number)
     }
 }
 
 impl Offset for i32 {
-    fn of(number: i32) -> Self {
-        number
+    const LARGEST: u64 = 2147483647;
+    const MOST_ELEMENTS: u64 = 2147483647;
+    const MOST_OUTER: u64 = 2147483647;
+
+    fn of(number: usize) -> Self {
+        number as i32
     }
 
-    fn number(self) -> i32 {
+    fn number(self) -> i64 {
+        self.into()
+    }
+
+    fn fits(number: i64) -> bool {
+        i32::try_from(number).is_ok()
+    }
+}
+
+impl Offset for i64 {
+    const LARGEST: u64 = 9223372036854775807;
+    const MOST_ELEMENTS: u64 = 1152921504606846975;
+    const MOST_OUTER: u64 = 1152921504606846974;
+
+    fn of(number: usize) -> Self {
+        number as i64
+    }
+
+    fn number(self) -> i64 {
         self
+    }
+
+    fn fits(_: i64) -> bool {
+        true
     }
 }
 
@@ -156,7 +197,7 @@ impl<'a> Column<'a, Bytes4, Bytes8> {
 }
 
 impl<'a, O: Offset, V: Value> Column<'a, O, V> {
-    fn offset(&self, row: usize) -> i32 {
+    fn offset(&self, row: usize) -> i64 {
         self.offsets[row].number()
     }
 
@@ -360,10 +401,10 @@ impl<O: Offset, V: Value> Call<'_, O, V> {
             (POP_BACK, _) => sink.run(row, 0..row.len().saturating_sub(1)),
             (SLICE, [from, to, stride]) => {
                 let (from, to) = (from.number(at)?, to.number(at)?);
-                return Some(slice(row, from, to, stride.number(at)?, sink));
+                return Some(slice::<O, V>(row, from, to, stride.number(at)?, sink));
             }
             (SLICE_WITHOUT_STRIDE, [from, to]) => {
-                return Some(slice(row, from.number(at)?, to.number(at)?, 1, sink));
+                return Some(slice::<O, V>(row, from.number(at)?, to.number(at)?, 1, sink));
             }
             (RESIZE, [count, fill]) => resize(row, count.number(at)?, fill.element(at), sink),
             (RESIZE_WITHOUT_FILL, [count]) => resize(row, count.number(at)?, None, sink),
@@ -440,7 +481,7 @@ impl<O: Offset, V: Value> Call<'_, O, V> {
                 for row in rows {
                     self.make::<CODE>(row, &mut counter).unwrap_or(Ok(()))?;
                 }
-                if CODE == UNION && counter.elements as u64 > MOST_ELEMENTS {
+                if CODE == UNION && counter.elements as u64 > O::LARGEST {
                     return Err(8);
                 }
                 Ok(counter.elements)
@@ -456,7 +497,7 @@ impl<O: Offset, V: Value> Call<'_, O, V> {
             };
             sum = sum.checked_add(u64::try_from(count).map_err(|_| 7u32)?).ok_or(8u32)?;
         }
-        if sum > MOST_ELEMENTS {
+        if sum > O::MOST_ELEMENTS {
             return Err(8);
         }
         Ok(sum as usize)
@@ -470,12 +511,12 @@ struct SlicePlan {
     count: usize,
 }
 
-fn slice_plan(length: usize, from: i64, to: i64, stride: i64) -> Result<SlicePlan, u32> {
+fn slice_plan<O: Offset>(length: usize, from: i64, to: i64, stride: i64) -> Result<SlicePlan, u32> {
     const NOTHING: SlicePlan = SlicePlan { start: 0, stride: 1, count: 0 };
     if length == 0 {
         return Ok(NOTHING);
     }
-    if i32::try_from(from).is_err() || i32::try_from(to).is_err() {
+    if !O::fits(from) || !O::fits(to) {
         return Err(4);
     }
     let length = length as i64;
@@ -487,21 +528,21 @@ fn slice_plan(length: usize, from: i64, to: i64, stride: i64) -> Result<SlicePla
         Err(5)
     } else if start != end && (start < end) != (stride > 0) {
         Ok(NOTHING)
-    } else if i32::try_from(stride).is_err() {
+    } else if !O::fits(stride) {
         Err(6)
     } else {
         Ok(SlicePlan { start, stride, count: ((end - start) / stride + 1) as usize })
     }
 }
 
-fn slice<V: Value>(
+fn slice<O: Offset, V: Value>(
     row: Row<V>,
     from: i64,
     to: i64,
     stride: i64,
     sink: &mut impl Sink<V>,
 ) -> Result<(), u32> {
-    let SlicePlan { start, stride, count } = slice_plan(row.len(), from, to, stride)?;
+    let SlicePlan { start, stride, count } = slice_plan::<O>(row.len(), from, to, stride)?;
     if stride == 1 {
         sink.run(row, start as usize..start as usize + count);
     } else {
@@ -659,7 +700,7 @@ impl<'a, O: Offset> RowWriter<'a, O> {
     fn push(&mut self, valid: bool, end: usize) {
         self.bits.push_bit(valid);
         self.rows += 1;
-        self.offsets[self.rows] = O::of(end as i32);
+        self.offsets[self.rows] = O::of(end);
     }
 }
 
@@ -764,7 +805,7 @@ impl<V: Value> Sink<V> for ElementWriter<'_, V> {
             let mut bits = 0;
             for at in 0..slots.len() {
                 bits |= u64::from(bit(row.elements, place as usize)) << at;
-                place += stride;
+                place = place.wrapping_add(stride);
             }
             write_nulls(slots, bits);
             self.bits.push_bits(bits, slots.len());
@@ -956,7 +997,7 @@ pub fn write_any_values<O: Offset, V: Value>(
 }
 
 /// The place that an index names in a row of this length.
-fn place_of(length: usize, index: i32) -> Option<usize> {
+fn place_of(length: usize, index: i64) -> Option<usize> {
     let distance = index.unsigned_abs() as usize;
     if index == 0 || distance > length {
         None
@@ -973,7 +1014,7 @@ fn check_indexes<O: Offset, V: Value>(
 ) -> Result<(), u32> {
     check_beside(column, indexes)?;
     let both_valid = |row: usize| column.is_valid(row) && indexes.is_valid(row);
-    let fits = |row: usize| i32::try_from(indexes.values[row].number()).is_ok();
+    let fits = |row: usize| O::fits(indexes.values[row].number());
     if (0..column.row_count()).any(|row| both_valid(row) && !fits(row)) {
         return Err(4);
     }
@@ -991,8 +1032,7 @@ pub fn write_elements<O: Offset, V: Value>(
     let rows = column.row_count();
     let value = |at| {
         let row = column.row(at)?;
-        let index = indexes.number(at)? as i32;
-        row.element(place_of(row.len(), index)?)
+        row.element(place_of(row.len(), indexes.number(at)?)?)
     };
     write_values(rows, value, out_values, out_rows)
 }
@@ -1020,7 +1060,7 @@ fn check_repeated<O: Offset, V: Value>(
 ) -> Result<(u64, u64), u32> {
     check_beside(column, times)?;
     let (inner_rows, elements) = repeated(column, times);
-    if inner_rows > MOST_ELEMENTS || elements > MOST_ELEMENTS {
+    if inner_rows > O::MOST_OUTER || elements > O::MOST_ELEMENTS {
         return Err(8);
     }
     Ok((inner_rows, elements))
@@ -1527,15 +1567,25 @@ pub fn recipe(
 
 // Typed entries.
 
-const TYPED: Typed = Typed {
-    list: typed_list,
-    lists: typed_lists,
-    any_value: typed_any_value,
-    element: typed_element,
-    list_repeat: typed_list_repeat,
-    recipe: typed_recipe,
-    lending: LENDING,
-};
+/// Those of one width.
+pub const fn typed<O: Offset + Number>() -> Typed<O> {
+    Typed {
+        list: typed_list,
+        lists: typed_lists,
+        any_value: typed_any_value,
+        element: typed_element,
+        list_repeat: typed_list_repeat,
+        recipe: typed_recipe,
+        lending: Lending {
+            list: list_lengths,
+            lists: lists_lengths,
+            any_value: any_value_lengths,
+            element: element_lengths,
+            list_repeat: list_repeat_lengths,
+            limits: recipe_limits,
+        },
+    }
+}
 
 /// A typed entry's only number of its own.
 const NOT_SERVED: u32 = 100;
@@ -1555,11 +1605,11 @@ fn tell<const N: usize>(counts: &mut [u64], result: impl FnOnce() -> Result<[u64
     }
 }
 
-fn typed_list(
+fn typed_list<O: Offset>(
     code: u32,
-    list: List,
+    list: List<O>,
     arguments: [Values; 3],
-    room: Room,
+    room: Room<O>,
     counts: &mut [u64],
 ) -> u32 {
     let Some(taken) = columns_taken_by_list(code) else {
@@ -1579,18 +1629,23 @@ fn columns_taken_by_list(code: u32) -> Option<usize> {
 }
 
 /// Distinct with a set on the heap, for the benchmark.
-pub fn typed_distinct_by_set(
+pub fn typed_distinct_by_set<O: Offset>(
     _: u32,
-    list: List,
+    list: List<O>,
     _: [Values; 3],
-    room: Room,
+    room: Room<O>,
     counts: &mut [u64],
 ) -> u32 {
     let call = Call { code: DISTINCT_BY_SET, list, right: None, arguments: &[] };
     tell(counts, || write_lists(&call, room))
 }
 
-fn typed_lists(code: u32, [list, right]: [List; 2], room: Room, counts: &mut [u64]) -> u32 {
+fn typed_lists<O: Offset>(
+    code: u32,
+    [list, right]: [List<O>; 2],
+    room: Room<O>,
+    counts: &mut [u64],
+) -> u32 {
     if code != UNION && code != INTERSECT {
         return NOT_SERVED;
     }
@@ -1598,12 +1653,17 @@ fn typed_lists(code: u32, [list, right]: [List; 2], room: Room, counts: &mut [u6
     tell(counts, || write_lists(&call, room))
 }
 
-fn typed_any_value(list: List, values: &mut [i64], rows: &mut [u8], counts: &mut [u64]) -> u32 {
+fn typed_any_value<O: Offset>(
+    list: List<O>,
+    values: &mut [i64],
+    rows: &mut [u8],
+    counts: &mut [u64],
+) -> u32 {
     tell(counts, || write_any_values(list, values, rows))
 }
 
-fn typed_element(
-    list: List,
+fn typed_element<O: Offset>(
+    list: List<O>,
     indexes: Values,
     values: &mut [i64],
     rows: &mut [u8],
@@ -1612,19 +1672,19 @@ fn typed_element(
     tell(counts, || write_elements(list, indexes, values, rows))
 }
 
-fn typed_list_repeat(
-    list: List,
+fn typed_list_repeat<O: Offset>(
+    list: List<O>,
     times: Values,
-    outer: OuterRoom,
-    inner: Room,
+    outer: OuterRoom<O>,
+    inner: Room<O>,
     counts: &mut [u64],
 ) -> u32 {
     tell(counts, || write_repeated(list, times, outer, inner))
 }
 
-fn typed_recipe(
-    recipe: Recipe,
-    [mut one, mut two, output]: [Room; 3],
+fn typed_recipe<O: Offset>(
+    recipe: Recipe<O>,
+    [mut one, mut two, output]: [Room<O>; 3],
     counts: &mut [u64],
     tally: &mut [u64],
 ) -> u32 {
@@ -1645,7 +1705,7 @@ fn typed_recipe(
         })
     };
     for Lists { offsets, rows, values, elements } in [one, two] {
-        offsets.fill(0);
+        offsets.fill(O::of(0));
         rows.fill(0);
         values.fill(0);
         elements.fill(0);
@@ -1655,15 +1715,6 @@ fn typed_recipe(
 
 // How much to lend.
 
-const LENDING: Lending = Lending {
-    list: list_lengths,
-    lists: lists_lengths,
-    any_value: any_value_lengths,
-    element: element_lengths,
-    list_repeat: list_repeat_lengths,
-    limits: recipe_limits,
-};
-
 fn row_slots(rows: u64) -> [u64; 2] {
     [rows + 1, rows.div_ceil(8)]
 }
@@ -1672,14 +1723,19 @@ fn element_slots(elements: u64) -> [u64; 2] {
     [elements, elements.div_ceil(8)]
 }
 
-fn list_slots(call: &Call<i32, i64>) -> Result<[u64; 4], u32> {
+fn list_slots<O: Offset>(call: &Call<O, i64>) -> Result<[u64; 4], u32> {
     call.refusal().map_or(Ok(()), Err)?;
     let [offsets, rows] = row_slots(call.list.row_count() as u64);
     let [values, elements] = element_slots(count_elements(call)? as u64);
     Ok([offsets, rows, values, elements])
 }
 
-fn list_lengths(code: u32, list: List, arguments: [Values; 3], lengths: &mut [u64]) -> u32 {
+fn list_lengths<O: Offset>(
+    code: u32,
+    list: List<O>,
+    arguments: [Values; 3],
+    lengths: &mut [u64],
+) -> u32 {
     let Some(taken) = columns_taken_by_list(code) else {
         return NOT_SERVED;
     };
@@ -1687,22 +1743,22 @@ fn list_lengths(code: u32, list: List, arguments: [Values; 3], lengths: &mut [u6
     tell(lengths, || list_slots(&call))
 }
 
-fn lists_lengths(code: u32, [list, right]: [List; 2], lengths: &mut [u64]) -> u32 {
+fn lists_lengths<O: Offset>(code: u32, [list, right]: [List<O>; 2], lengths: &mut [u64]) -> u32 {
     if code != UNION && code != INTERSECT {
         return NOT_SERVED;
     }
     tell(lengths, || list_slots(&Call { code, list, right: Some(right), arguments: &[] }))
 }
 
-fn any_value_lengths(list: List, lengths: &mut [u64]) -> u32 {
+fn any_value_lengths<O: Offset>(list: List<O>, lengths: &mut [u64]) -> u32 {
     tell(lengths, || check_column(list).map(|()| element_slots(list.row_count() as u64)))
 }
 
-fn element_lengths(list: List, indexes: Values, lengths: &mut [u64]) -> u32 {
+fn element_lengths<O: Offset>(list: List<O>, indexes: Values, lengths: &mut [u64]) -> u32 {
     tell(lengths, || check_indexes(list, indexes).map(|()| element_slots(list.row_count() as u64)))
 }
 
-fn list_repeat_lengths(list: List, times: Values, lengths: &mut [u64]) -> u32 {
+fn list_repeat_lengths<O: Offset>(list: List<O>, times: Values, lengths: &mut [u64]) -> u32 {
     tell(lengths, || {
         let (inner_rows, elements) = check_repeated(list, times)?;
         let [offsets, rows] = row_slots(list.row_count() as u64);
@@ -1712,7 +1768,7 @@ fn list_repeat_lengths(list: List, times: Values, lengths: &mut [u64]) -> u32 {
     })
 }
 
-impl RecipeColumns<'_, i32, i64> {
+impl<O: Offset> RecipeColumns<'_, O, i64> {
     /// Whatever the levels are, no step has more elements; each limit stops at the most.
     fn limits(&self, steps: &[[Bytes4; 4]]) -> [u64; 3] {
         let mut limit = elements_shown(self.list);
@@ -1721,7 +1777,7 @@ impl RecipeColumns<'_, i32, i64> {
             let [code, count, ..] = step_numbers(step);
             limit = match code {
                 RESIZE => self.resized_at_most(self.argument(count)),
-                UNION => (limit + elements_shown(self.second)).min(MOST_ELEMENTS),
+                UNION => (limit + elements_shown(self.second)).min(O::LARGEST),
                 _ => limit,
             };
             let written = &mut limits[if at + 1 == steps.len() { 2 } else { at % 2 }];
@@ -1734,16 +1790,16 @@ impl RecipeColumns<'_, i32, i64> {
         let rows = (0..self.list.row_count()).filter(|row| self.list.is_valid(*row));
         let counts = rows.filter_map(|row| counts.number(row));
         let sum = counts.fold(0u64, |sum, count| sum.saturating_add(count.max(0) as u64));
-        sum.min(MOST_ELEMENTS)
+        sum.min(O::LARGEST)
     }
 }
 
-fn elements_shown(column: List) -> u64 {
+fn elements_shown<O: Offset>(column: List<O>) -> u64 {
     let rows = (0..column.row_count()).filter_map(|row| column.row(row));
-    rows.map(|row| row.len() as u64).sum::<u64>().min(MOST_ELEMENTS)
+    rows.map(|row| row.len() as u64).sum::<u64>().min(O::LARGEST)
 }
 
-fn recipe_limits(recipe: Recipe, limits: &mut [u64]) -> u32 {
+fn recipe_limits<O: Offset>(recipe: Recipe<O>, limits: &mut [u64]) -> u32 {
     let Recipe { numbers, columns, lists: [list, second], arguments, .. } = recipe;
     tell(limits, || {
         let lent = RecipeColumns { list, second, arguments };

@@ -11,7 +11,7 @@ pub use crate::mock::LIBRARY;
 #[cfg(not(mock))]
 use crate::library::Library;
 #[cfg(not(mock))]
-use crate::typed_port::TYPED;
+use crate::typed_port::{large, narrow};
 
 /// The safe function of an entry: the code, if it takes one, or the station and the number of
 /// columns, then the names of its input slices, those of bitmaps with that of their starting bit,
@@ -110,8 +110,12 @@ macro_rules! archive {
 
         $(entry! { $name })+
 
-        pub const LIBRARY: Library =
-            Library { $($name: Some($name),)+ typed: Some(TYPED), ..Library::EMPTY };
+        pub const LIBRARY: Library = Library {
+            $($name: Some($name),)+
+            typed: Some(narrow::TYPED),
+            large: Some(large::TYPED),
+            ..Library::EMPTY
+        };
     };
 }
 

@@ -6,6 +6,7 @@ use crate::coverage::{shared_3, shared_9, ARGUMENT_LAYOUTS, LIST_LAYOUTS, ROW_CO
 use crate::entry::{Case, Entry, Expected, Input, RECIPE_RESULT, TALLY, TALLY_BYTES, TRAYS};
 use crate::generate::{Column, Harm};
 use crate::model::{self, Malformed, Place, RecipeRefusal, RecipeShown, CODES, STATIONS};
+use crate::recipe_generate::refusals_of_steps;
 
 /// A kind and a subject.
 type Met = (&'static str, String);
@@ -392,6 +393,12 @@ fn lent_as(steps: &str, slice: &str, name: &str) -> Met {
 /// the counts of its resizes can.
 const ANSWERS: [u32; 15] = [0, 1, 2, 3, 4, 5, 6, 7, 8, 9, 10, 13, 15, 100, 101];
 
+/// Those at this width: large lists have no byte entry, and no 4 or 6.
+fn answers(entry: Entry) -> Vec<u32> {
+    let is_given = |number: &u32| !entry.is_wide() || !matches!(number, 4 | 6 | 101);
+    ANSWERS.into_iter().filter(is_given).collect()
+}
+
 /// The order in which they come where several conditions hold; 4 to 8 are those of one step.
 fn demanded_orders(entry: Entry) -> Vec<String> {
     let rank = |number: u32| match number {
@@ -404,15 +411,16 @@ fn demanded_orders(entry: Entry) -> Vec<String> {
         _ => 8,
     };
     let mut orders = Vec::new();
-    for first in &ANSWERS[1..] {
-        for then in &ANSWERS[1..] {
+    let answers = answers(entry);
+    for first in &answers[1..] {
+        for then in &answers[1..] {
             if rank(*first) < rank(*then) {
                 orders.push(format!("{first} before {then}"));
             }
         }
     }
-    let later = [4, 5, 6, 7, 8].map(|number| format!("9 before {number} of a later step"));
-    orders.extend(later);
+    let later = refusals_of_steps(entry.width).iter();
+    orders.extend(later.map(|number| format!("9 before {number} of a later step")));
     orders.extend(crate::coverage::demanded_column_orders(entry));
     orders
 }
@@ -428,9 +436,9 @@ fn demanded_steps() -> Vec<Met> {
     all
 }
 
-fn demanded_refusals() -> Vec<Met> {
+fn demanded_refusals(entry: Entry) -> Vec<Met> {
     let mut all = Vec::new();
-    for number in 4..=9 {
+    for number in refusals_of_steps(entry.width).iter().copied().chain([9]) {
         let places = ["at step 1", "at the last step", "at a later even step"];
         for at in places.into_iter().chain(["at a later odd step"]) {
             all.push(("refused", format!("{number} {at}")));
@@ -448,13 +456,16 @@ fn demanded_refusals() -> Vec<Met> {
 
 fn demanded_slices(entry: Entry) -> Vec<Met> {
     let mut all = Vec::new();
-    for kind in entry.inputs().into_iter().chain(entry.outputs().iter().copied()) {
+    let kinds = entry.inputs().into_iter().chain(entry.outputs().iter().copied());
+    for kind in kinds.filter(|_| !entry.is_wide()) {
         all.extend((kind.width > 1).then(|| ("ragged", kind.name.to_string())));
         if kind.most.is_some() {
             all.extend(["over size", "at size"].map(|way| (way, kind.name.to_string())));
         }
     }
-    all.extend(["counts", "tally"].map(|name| ("ragged", name.to_string())));
+    if !entry.is_wide() {
+        all.extend(["counts", "tally"].map(|name| ("ragged", name.to_string())));
+    }
     let written = entry.outputs()[..TALLY].iter();
     all.extend(written.map(|kind| ("one slot short", kind.name.to_string())));
     all
@@ -491,15 +502,15 @@ fn demanded_lent(entry: Entry) -> Vec<Met> {
 }
 
 /// The answers that pairs of layouts must share: all but 13, 1, 2 and the entry's own.
-fn shared_answers() -> Vec<u32> {
-    ANSWERS.into_iter().filter(|number| matches!(number, 0 | 3..=10 | 15)).collect()
+fn shared_answers(entry: Entry) -> Vec<u32> {
+    answers(entry).into_iter().filter(|number| matches!(number, 0 | 3..=10 | 15)).collect()
 }
 
 fn demanded_shared(entry: Entry) -> Vec<Met> {
-    let mut all: Vec<String> = shared_answers().iter().map(u32::to_string).collect();
+    let mut all: Vec<String> = shared_answers(entry).iter().map(u32::to_string).collect();
     all.extend([Column::List(1), Column::Argument(0)].map(|column| shared_3(column, entry)));
     all.extend(entry.outputs()[..TALLY].iter().map(|kind| shared_9(kind.name)));
-    for (kind, subject) in demanded_refusals() {
+    for (kind, subject) in demanded_refusals(entry) {
         match kind {
             "refused" => all.push(subject),
             "malformed" if subject.ends_with("alone") || subject.ends_with("beside 3") => {
@@ -512,10 +523,9 @@ fn demanded_shared(entry: Entry) -> Vec<Met> {
 }
 
 /// Everything that a whole run must reach for recipes.
-pub fn demanded() -> Vec<Met> {
-    let entry = Entry::RECIPE;
+pub fn demanded(entry: Entry) -> Vec<Met> {
     let mut all: Vec<Met> = Vec::new();
-    for number in ANSWERS {
+    for number in answers(entry) {
         all.push(("answer", number.to_string()));
         all.push(("trays dirty before", number.to_string()));
     }
@@ -530,15 +540,17 @@ pub fn demanded() -> Vec<Met> {
     all.extend(Harm::of(entry).iter().map(|harm| ("damage", harm.name(entry))));
     all.extend(demanded_orders(entry).into_iter().map(|order| ("order", order)));
     all.extend(demanded_steps());
-    all.extend(demanded_refusals());
+    all.extend(demanded_refusals(entry));
     all.extend(demanded_slices(entry));
     all.extend(demanded_room());
     all.extend(demanded_lent(entry));
     all.extend(demanded_shared(entry));
     all.extend(crate::coverage::demanded_no_offsets(entry));
     all.extend(crate::coverage::demanded_null_slots());
-    all.extend(crate::coverage::demanded_starts(entry, &shared_answers()));
-    all.extend(crate::coverage::demanded_typed(entry, &ANSWERS));
-    all.extend(MANY_NUMBERS.map(|(_, name)| ("numbers", name.to_string())));
+    all.extend(crate::coverage::demanded_starts(entry, &shared_answers(entry)));
+    all.extend(crate::coverage::demanded_typed(entry, &answers(entry)));
+    if !entry.is_wide() {
+        all.extend(MANY_NUMBERS.map(|(_, name)| ("numbers", name.to_string())));
+    }
     all
 }

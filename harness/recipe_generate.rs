@@ -1,12 +1,12 @@
 //! Makes recipes: steps that carry rows on, steps that are refused, argument columns that several
 //! steps share, and trays and outputs as long as they need, longer, or one slot short.
 
-use crate::entry::{Case, Entry, Input, SliceKind, MOST_VALUES, TALLY, TALLY_BYTES};
+use crate::entry::{Case, Entry, Input, Kind, SliceKind, MOST_VALUES, TALLY, TALLY_BYTES};
 use crate::generate::{columns_within, full_columns, lay_out, lay_out_argument};
 use crate::generate::{random_element, random_lists, refuse_row, room_for, shuffle};
 use crate::generate::{Layout, Left, Room, RowShape, MOST_BITMAP_BYTES};
 use crate::model::{self, Element, Made, Operation, RecipeShown, Row, Shown, Tally};
-use crate::model::{CODES, STATIONS};
+use crate::model::{Width, CODES, STATIONS};
 use crate::rng::Rng;
 
 // Steps.
@@ -38,24 +38,30 @@ pub fn code_of(operation: Operation) -> u32 {
 impl Draft {
     /// No steps yet, over lists of this shape; every other recipe has few nulls, so that rows stay
     /// valid through many steps.
-    pub fn new(shape: RowShape, columns: usize, rng: &mut Rng) -> Draft {
-        let mut lists = random_lists(Entry::of(Operation::Union), shape, rng);
+    pub fn new(width: Width, shape: RowShape, columns: usize, rng: &mut Rng) -> Draft {
+        let mut lists = random_lists(Entry::of(Operation::Union, width), shape, rng);
         let lively = rng.chance(1, 2);
         let (mut second, first) = (lists.pop().expect("two lists"), lists.pop().expect("two"));
         if lively {
             second.iter_mut().for_each(|row| *row = row.take().or(Some(vec![Some(1)])));
         }
         let null_eighths = if lively { 0 } else { rng.pick(&[0, 1, 4]) };
-        Draft::over([first, second], columns, null_eighths, rng)
+        Draft::over(width, [first, second], columns, null_eighths, rng)
     }
 
     /// No steps yet, over these lists.
-    pub fn over(lists: [Vec<Row>; 2], columns: usize, null_eighths: usize, rng: &mut Rng) -> Draft {
+    pub fn over(
+        width: Width,
+        lists: [Vec<Row>; 2],
+        columns: usize,
+        null_eighths: usize,
+        rng: &mut Rng,
+    ) -> Draft {
         let mut free: Vec<usize> = (0..columns).collect();
         shuffle(&mut free, rng);
         let carried = lists[0].clone();
         let columns = vec![vec![None; carried.len()]; columns];
-        let shown = RecipeShown { steps: Vec::new(), lists, columns };
+        let shown = RecipeShown { width, steps: Vec::new(), lists, columns };
         let (kept, most) = (0, MOST_VALUES);
         Draft { shown, carried, free, kept, null_eighths, most, refused: Vec::new() }
     }
@@ -74,7 +80,8 @@ impl Draft {
     fn add(&mut self, operation: Operation, rng: &mut Rng) -> bool {
         let lists = self.lists_of(operation);
         let left = Left { inner_rows: 0, elements: self.most as u64 };
-        let columns = columns_within(operation, &lists, self.null_eighths, left, rng);
+        let entry = Entry::of(operation, self.shown.width);
+        let columns = columns_within(entry, &lists, self.null_eighths, left, rng);
         let used: Vec<usize> =
             (0..self.shown.columns.len()).filter(|at| !self.free.contains(at)).collect();
         let mut step = [code_of(operation), 0, 0, 0];
@@ -136,16 +143,17 @@ impl Draft {
             return false;
         }
         let lists = self.lists_of(operation);
-        let accepted = full_columns(operation, &lists, self.null_eighths, rng);
+        let entry = Entry::of(operation, self.shown.width);
+        let accepted = full_columns(entry, &lists, self.null_eighths, rng);
         let mut shown = Shown { lists, arguments: accepted.clone() };
         let row = rng.pick(&rows);
-        if !refuse_row(operation, &mut shown, row, number, rng) {
+        if !refuse_row(entry, &mut shown, row, number, rng) {
             return false;
         }
         let later: Vec<usize> = rows.into_iter().filter(|other| *other > row).collect();
         if number <= 6 && !later.is_empty() && rng.chance(1, 2) {
-            let other = rng.pick(operation.refusals());
-            refuse_row(operation, &mut shown, rng.pick(&later), other, rng);
+            let other = rng.pick(entry.refusals());
+            refuse_row(entry, &mut shown, rng.pick(&later), other, rng);
         }
         let mut step = [code_of(operation), 0, 0, 0];
         let numbers: Vec<usize> = self.free.drain(..accepted.len()).collect();
@@ -197,25 +205,34 @@ pub struct Finished {
 }
 
 /// A recipe of this many steps, none of them refused.
-pub fn accepted_recipe(shape: RowShape, steps: usize, rng: &mut Rng) -> RecipeShown {
+pub fn accepted_recipe(width: Width, shape: RowShape, steps: usize, rng: &mut Rng) -> RecipeShown {
     let columns = rng.pick(&[0, 1, 2, 3, 5, 8, 8]);
-    let mut draft = Draft::new(shape, columns, rng);
+    let mut draft = Draft::new(width, shape, columns, rng);
     for _ in 0..steps {
         draft.add_some(rng);
     }
     draft.finish(rng).accepted
 }
 
+/// The refusals that a step can be made to give before 9.
+pub fn refusals_of_steps(width: Width) -> &'static [u32] {
+    match width {
+        Width::Narrow => &[4, 5, 6, 7, 8],
+        Width::Wide => &[5, 7, 8],
+    }
+}
+
 /// A recipe one of whose steps is refused with this number, with steps behind it; None where no row
 /// is left that could be refused.
 pub fn refused_recipe(
+    width: Width,
     shape: RowShape,
     before: usize,
     number: u32,
     behind: usize,
     rng: &mut Rng,
 ) -> Option<RecipeShown> {
-    let mut draft = Draft::new(shape, 3 + rng.below(6), rng);
+    let mut draft = Draft::new(width, shape, 3 + rng.below(6), rng);
     draft.kept = 3;
     for _ in 0..before {
         draft.add_some(rng);
@@ -239,21 +256,21 @@ pub fn random_steps(rng: &mut Rng) -> usize {
 }
 
 /// A random recipe: none of its steps is refused, or one, or any.
-pub fn random_recipe(shape: RowShape, rng: &mut Rng) -> RecipeShown {
+pub fn random_recipe(width: Width, shape: RowShape, rng: &mut Rng) -> RecipeShown {
     let steps = random_steps(rng);
     let of_any_steps = |rng: &mut Rng| {
-        let mut draft = Draft::new(shape, rng.below(9), rng);
+        let mut draft = Draft::new(width, shape, rng.below(9), rng);
         (0..steps).for_each(|_| draft.add_any(rng));
         draft.finish(rng).accepted
     };
     match rng.below(8) {
         0 | 1 if steps > 0 => {
-            let (before, number) = (rng.below(steps), rng.pick(&[4, 5, 6, 7, 8]));
-            let refused = refused_recipe(shape, before, number, steps - before - 1, rng);
+            let (before, number) = (rng.below(steps), rng.pick(refusals_of_steps(width)));
+            let refused = refused_recipe(width, shape, before, number, steps - before - 1, rng);
             refused.unwrap_or_else(|| of_any_steps(rng))
         }
         2 => of_any_steps(rng),
-        _ => accepted_recipe(shape, steps, rng),
+        _ => accepted_recipe(width, shape, steps, rng),
     }
 }
 
@@ -274,6 +291,7 @@ pub fn no_station(rng: &mut Rng) -> u32 {
 /// numbers, how many argument columns it has, what both lists show, and the values in the one slice
 /// of its argument columns.
 pub struct RecipeCall {
+    pub width: Width,
     pub station: u32,
     pub numbers: Vec<u32>,
     pub columns: usize,
@@ -285,6 +303,7 @@ impl RecipeCall {
     /// The call for some station.
     pub fn new(shown: &RecipeShown, rng: &mut Rng) -> RecipeCall {
         RecipeCall {
+            width: shown.width,
             station: random_station(rng),
             numbers: shown.steps.concat(),
             columns: shown.columns.len(),
@@ -304,7 +323,7 @@ impl RecipeCall {
         let mut next = || turns.next().expect("at least one layout");
         let lists = self.lists.iter().map(|rows| lay_out(rows, next(), rng)).collect();
         Input {
-            entry: Entry::Recipe { station: self.station, columns: self.columns },
+            entry: Kind::Recipe { station: self.station, columns: self.columns }.at(self.width),
             numbers: self.numbers.clone(),
             lists,
             arguments: vec![lay_out_argument(&self.arguments, next(), rng)],

@@ -2,14 +2,15 @@
 
 use crate::compare::Checker;
 use crate::entry::{
-    encode_u32, Case, Entry, Input, SliceKind, MOST_ARGUMENTS, MOST_ROWS, MOST_VALUES,
+    encode_u32, Case, Entry, Input, Kind, SliceKind, MOST_ARGUMENTS, MOST_ROWS, MOST_VALUES,
 };
 use crate::entry::{TALLY, TALLY_BYTES, TRAYS};
 use crate::generate::*;
+use crate::groups::random_starts;
 use crate::groups::{check_answer, check_first, counts_of_every_length, damage_some_column};
-use crate::groups::{grow, make_ragged, over_size, ragged_slice, random_slice, random_starts};
+use crate::groups::{grow, make_ragged, not_served, over_size, ragged_slice, random_slice};
 use crate::groups::{ragged_end, slice_over_size, Holding, NumberSlice, Run};
-use crate::model::{self, Element, RecipeShown, Row, CODES, UNDER_NULL};
+use crate::model::{self, Element, RecipeShown, Row, Width, CODES, UNDER_NULL};
 use crate::no_offsets;
 use crate::pairs;
 use crate::recipe_generate::*;
@@ -59,7 +60,7 @@ fn some_shape(rng: &mut Rng) -> RowShape {
 }
 
 pub fn laid_out(shown: &RecipeShown, rng: &mut Rng) -> Input {
-    let layouts = random_layouts(Entry::RECIPE, rng);
+    let layouts = random_layouts(Entry::recipes(shown.width), rng);
     recipe_input(shown, &layouts, rng)
 }
 
@@ -72,14 +73,16 @@ pub fn require_number(checker: &mut Checker, case: &Case, number: u32, what: &st
 
 fn random_recipes(checker: &mut Checker, entry: Entry, rng: &mut Rng, calls: u64) {
     for steps in (0..=32).flat_map(|steps| [steps; 3]) {
-        let shown = accepted_recipe(RowShape { longest: 4, ..shape_with_rows(rng) }, steps, rng);
+        let shape = RowShape { longest: 4, ..shape_with_rows(rng) };
+        let shown = accepted_recipe(entry.width, shape, steps, rng);
         let room = rng.pick(&[Room::Exact, Room::Longer(1)]);
         let case = lend_recipe(&laid_out(&shown, rng), room, rng);
         require_number(checker, &case, 0, "made to be accepted, and yet refused");
     }
     for count in [0, 1, 7, 8, 9, 15, 16, 17, 4095, 4096] {
         let shape = RowShape { count, most_values: MOST_VALUES, ..shape_with_rows(rng) };
-        let shown = accepted_recipe(RowShape { longest: 2, ..shape }, rng.below(5), rng);
+        let shape = RowShape { longest: 2, ..shape };
+        let shown = accepted_recipe(entry.width, shape, rng.below(5), rng);
         checker.check(&lend_recipe(&laid_out(&shown, rng), Room::Exact, rng));
     }
     while checker.calls < calls {
@@ -92,13 +95,14 @@ fn random_recipes(checker: &mut Checker, entry: Entry, rng: &mut Rng, calls: u64
 
 /// Each refusal of a step at each of the first steps, with steps behind it; now and then a tray or
 /// the output is short besides.
-fn refused_steps(checker: &mut Checker, _entry: Entry, rng: &mut Rng, calls: u64) {
+fn refused_steps(checker: &mut Checker, entry: Entry, rng: &mut Rng, calls: u64) {
     while checker.calls < calls.max(1000) {
-        for number in [4, 5, 6, 7, 8] {
+        for number in refusals_of_steps(entry.width).iter().copied() {
             let (before, behind) = (rng.pick(&[0, 1, 2, 3, 4, 9, 30]), rng.pick(&[0, 0, 1, 4]));
             let behind = behind.min(31 - before);
             let shape = RowShape { longest: 4, ..shape_with_rows(rng) };
-            let Some(shown) = refused_recipe(shape, before, number, behind, rng) else {
+            let Some(shown) = refused_recipe(entry.width, shape, before, number, behind, rng)
+            else {
                 continue;
             };
             let input = laid_out(&shown, rng);
@@ -202,10 +206,10 @@ fn spoil_unused_number(input: &mut Input, rng: &mut Rng) {
     input.numbers[place] = rng.pick(&[1, 1, 2, 8, 256, 1 << 16, 1 << 24, 1 << 31, u32::MAX]);
 }
 
-fn malformed_recipes(checker: &mut Checker, _entry: Entry, rng: &mut Rng, calls: u64) {
+fn malformed_recipes(checker: &mut Checker, entry: Entry, rng: &mut Rng, calls: u64) {
     while checker.calls < calls.max(1200) {
         for spoil in WAYS {
-            let mut input = damageable_recipe(rng.below(5), rng);
+            let mut input = damageable_recipe(entry.width, rng.below(5), rng);
             spoil(&mut input, rng);
             suit_arguments(&mut input);
             if rng.chance(1, 8) {
@@ -224,16 +228,16 @@ fn malformed_recipes(checker: &mut Checker, _entry: Entry, rng: &mut Rng, calls:
 // Damage, and the order of refusals.
 
 /// Lists that every damage can be done to.
-fn damageable_lists(rng: &mut Rng) -> [Vec<Row>; 2] {
-    let shown = damageable_shown(Entry::of(model::Operation::Union), rng);
+fn damageable_lists(width: Width, rng: &mut Rng) -> [Vec<Row>; 2] {
+    let shown = damageable_shown(Entry::of(model::Operation::Union, width), rng);
     let [first, second] = &shown.lists[..] else { panic!("two lists of a union") };
     [first.clone(), second.clone()]
 }
 
 /// A recipe that every damage can be done to, with one argument column or more.
-pub fn damageable_recipe(steps: usize, rng: &mut Rng) -> Input {
+pub fn damageable_recipe(width: Width, steps: usize, rng: &mut Rng) -> Input {
     let columns = rng.pick(&[1, 2, 3, 8]);
-    let mut draft = Draft::over(damageable_lists(rng), columns, 1, rng);
+    let mut draft = Draft::over(width, damageable_lists(width, rng), columns, 1, rng);
     (0..steps).for_each(|_| draft.add_some(rng));
     let shown = draft.finish(rng).accepted;
     recipe_input(&shown, &[damageable_layout(rng)], rng)
@@ -243,7 +247,7 @@ fn damaged_columns(checker: &mut Checker, entry: Entry, rng: &mut Rng, calls: u6
     let harms = Harm::of(entry);
     while checker.calls < calls.max(harms.len() as u64 * 20) {
         for harm in &harms {
-            let mut input = damageable_recipe(rng.below(4), rng);
+            let mut input = damageable_recipe(entry.width, rng.below(4), rng);
             if !harm.is_possible(&input) {
                 continue;
             }
@@ -274,8 +278,8 @@ struct Refused {
 /// One condition is added after another, from the last refusal to the first.
 fn order_of_refusals(checker: &mut Checker, entry: Entry, rng: &mut Rng, calls: u64) {
     while checker.calls < calls.max(1500) {
-        let of_step = rng.pick(&[4, 5, 6, 7, 8]);
-        let Some(mut refused) = Refused::new(of_step, rng) else {
+        let of_step = rng.pick(refusals_of_steps(entry.width));
+        let Some(mut refused) = Refused::new(entry.width, of_step, rng) else {
             continue;
         };
         require_number(checker, &refused.case, 0, "made to be accepted, and yet refused");
@@ -290,8 +294,9 @@ fn order_of_refusals(checker: &mut Checker, entry: Entry, rng: &mut Rng, calls: 
 impl Refused {
     /// A call that is accepted, whose first step can be made to give this refusal; the others write
     /// behind it.
-    fn new(of_step: u32, rng: &mut Rng) -> Option<Refused> {
-        let mut draft = Draft::over(damageable_lists(rng), 3 + rng.below(6), 0, rng);
+    fn new(width: Width, of_step: u32, rng: &mut Rng) -> Option<Refused> {
+        let lists = damageable_lists(width, rng);
+        let mut draft = Draft::over(width, lists, 3 + rng.below(6), 0, rng);
         if !draft.add_refusable(of_step, rng) {
             return None;
         }
@@ -315,6 +320,8 @@ impl Refused {
             9 => shorten_some_slice(&mut self.case, rng),
             10 => rng.pick(&WAYS)(&mut self.input, rng),
             15 => self.input.entry = self.input.entry.with_station(no_station(rng)),
+            100 if self.case.entry.is_wide() => drop(not_served(&mut self.case, rng)),
+            101 if self.case.entry.is_wide() => return false,
             100 => drop(make_ragged(&mut self.case, rng)),
             101 => drop(over_size(&mut self.case, rng)),
             _ => self.input = recipe_input(&self.finished.refused, &[self.layout], rng),
@@ -340,10 +347,10 @@ fn shorten_some_slice(case: &mut Case, rng: &mut Rng) {
 
 /// Every slice that is written exactly long enough, longer and one slot short; those that no step
 /// writes are empty, or lent for nothing.
-fn lengths(checker: &mut Checker, _entry: Entry, rng: &mut Rng, calls: u64) {
+fn lengths(checker: &mut Checker, entry: Entry, rng: &mut Rng, calls: u64) {
     while checker.calls < calls.max(600) {
         let shape = if rng.chance(1, 200) { large_shape(rng) } else { shape_with_rows(rng) };
-        let shown = accepted_recipe(shape, random_steps(rng), rng);
+        let shown = accepted_recipe(entry.width, shape, random_steps(rng), rng);
         let input = laid_out(&shown, rng);
         for room in [Room::Exact, Room::Longer(1), Room::Longer(9)] {
             let case = lend_recipe(&input, room, rng);
@@ -373,11 +380,11 @@ const COUNTS: [u64; 10] = [
     u64::MAX,
 ];
 
-fn tallies(checker: &mut Checker, _entry: Entry, rng: &mut Rng, calls: u64) {
+fn tallies(checker: &mut Checker, entry: Entry, rng: &mut Rng, calls: u64) {
     while checker.calls < calls.max(300) {
         for finished in COUNTS {
             for refused in COUNTS {
-                let mut input = damageable_recipe(rng.below(3), rng);
+                let mut input = damageable_recipe(entry.width, rng.below(3), rng);
                 match rng.below(8) {
                     0 => rng.pick(&WAYS)(&mut input, rng),
                     1 => drop(damage_some_column(&mut input, 1 + rng.below(3) as u32, rng)),
@@ -439,7 +446,7 @@ fn sizes_met_exactly(checker: &mut Checker, rng: &mut Rng) {
         null_elements: 1,
     };
     for steps in [0, 1, 2, 5] {
-        let mut draft = Draft::new(shape, 8, rng);
+        let mut draft = Draft::new(Width::Narrow, shape, 8, rng);
         (0..steps).for_each(|_| draft.add_some(rng));
         let shown = draft.finish(rng).accepted;
         let layout = Layout { behind: MOST_VALUES, numbers_under_nulls: true, ..Layout::default() };
@@ -493,16 +500,16 @@ pub fn random_numbers(rng: &mut Rng) -> Vec<u8> {
     encode_u32(&numbers)
 }
 
-fn random_bytes(checker: &mut Checker, _entry: Entry, rng: &mut Rng, calls: u64) {
+fn random_bytes(checker: &mut Checker, entry: Entry, rng: &mut Rng, calls: u64) {
     while checker.calls < calls.max(500) {
-        checker.check(&random_case(rng));
+        checker.check(&random_case(entry.width, rng));
     }
 }
 
-fn random_case(rng: &mut Rng) -> Case {
+fn random_case(width: Width, rng: &mut Rng) -> Case {
     let (rows, columns) = (rng.below(4), rng.pick(&[0, 2, 4, 4, 4, 8, 9]));
     let station = if rng.chance(1, 16) { no_station(rng) } else { random_station(rng) };
-    let entry = Entry::Recipe { station, columns };
+    let entry = Kind::Recipe { station, columns }.at(width);
     let arguments = rows * columns;
     let slice = |(at, kind)| random_slice(kind, if at == 9 { arguments } else { rows }, rng);
     let inputs = entry.inputs().into_iter().enumerate().map(slice).collect();
@@ -535,13 +542,14 @@ fn short_list(rows: usize, rng: &mut Rng) -> Vec<Row> {
 
 /// Argument columns of every length beside no rows to five and no columns to eight; and second
 /// lists of every row count.
-fn every_length(checker: &mut Checker, _entry: Entry, rng: &mut Rng, _calls: u64) {
+fn every_length(checker: &mut Checker, entry: Entry, rng: &mut Rng, _calls: u64) {
     for (rows, columns) in (0..=5).flat_map(|rows| (0..=8).map(move |columns| (rows, columns))) {
         for values in 0..=rows * columns + 2 {
-            check_arguments(checker, rows, columns, values, rng);
+            check_arguments(checker, entry.width, [rows, columns, values], rng);
         }
         for second in (0..=6).filter(|second| *second != rows) {
-            let input = laid_out(&recipe_over([rows, second], columns, rng), rng);
+            let shown = recipe_over(entry.width, [rows, second], columns, rng);
+            let input = laid_out(&shown, rng);
             let case = lend_recipe(&input, Room::Longer(1), rng);
             require_number(checker, &case, 3, "the rows of the second list misjudged");
         }
@@ -551,13 +559,12 @@ fn every_length(checker: &mut Checker, _entry: Entry, rng: &mut Rng, _calls: u64
 /// So many argument values for these rows and columns, with bitmaps of every length.
 fn check_arguments(
     checker: &mut Checker,
-    rows: usize,
-    columns: usize,
-    values: usize,
+    width: Width,
+    [rows, columns, values]: [usize; 3],
     rng: &mut Rng,
 ) {
     for more in [0, 1, 2] {
-        let mut input = laid_out(&recipe_over([rows, rows], columns, rng), rng);
+        let mut input = laid_out(&recipe_over(width, [rows, rows], columns, rng), rng);
         let arguments = &mut input.arguments[0];
         arguments.values = (0..values).map(|_| rng.between(-1, 3)).collect();
         let needed = arguments.bits.needed(values);
@@ -576,37 +583,45 @@ fn check_arguments(
 }
 
 /// A recipe of no steps to two over short rows.
-fn recipe_over(rows: [usize; 2], columns: usize, rng: &mut Rng) -> RecipeShown {
+fn recipe_over(width: Width, rows: [usize; 2], columns: usize, rng: &mut Rng) -> RecipeShown {
     let lists = rows.map(|rows| short_list(rows, rng));
     let beside = [lists[0].clone(), short_list(rows[0], rng)];
-    let mut draft = Draft::over(beside, columns, 1, rng);
+    let mut draft = Draft::over(width, beside, columns, 1, rng);
     (0..rng.below(3)).for_each(|_| draft.add_some(rng));
     RecipeShown { lists, ..draft.finish(rng).accepted }
 }
 
 /// Every recipe of one step over a few numbers, beside each number of columns, well-formed or not;
 /// and reverses in every number, whole steps or not.
-fn short_recipes(checker: &mut Checker, _entry: Entry, rng: &mut Rng, _calls: u64) {
+fn short_recipes(checker: &mut Checker, entry: Entry, rng: &mut Rng, _calls: u64) {
     const NUMBERS: [u32; 5] = [0, 1, 2, 7, 8];
     for columns in [0, 1, 2, 3, 8, 9] {
         for code in (0..=11).chain([u32::MAX]) {
             for first in NUMBERS {
                 for second in NUMBERS {
                     for third in NUMBERS {
-                        check_short(checker, columns, &[code, first, second, third], rng);
+                        let numbers = [code, first, second, third];
+                        check_short(checker, entry.width, columns, &numbers, rng);
                     }
                 }
             }
         }
     }
     for length in 0..=140 {
-        check_short(checker, 1, &vec![0; length], rng);
+        check_short(checker, entry.width, 1, &vec![0; length], rng);
     }
 }
 
-fn check_short(checker: &mut Checker, columns: usize, numbers: &[u32], rng: &mut Rng) {
+fn check_short(
+    checker: &mut Checker,
+    width: Width,
+    columns: usize,
+    numbers: &[u32],
+    rng: &mut Rng,
+) {
     const VALUES: [Element; 6] = [None, Some(-1), Some(0), Some(1), Some(1), Some(2)];
     let shown = RecipeShown {
+        width,
         steps: Vec::new(),
         columns: (0..columns).map(|_| vec![rng.pick(&VALUES), rng.pick(&VALUES)]).collect(),
         lists: [short_list(2, rng), short_list(2, rng)],
@@ -644,19 +659,20 @@ const CHOICES: [&[Element]; 8] = [
 ];
 
 /// Every code, every two and every three of them one after another, over short rows.
-fn every_pair(checker: &mut Checker, _entry: Entry, rng: &mut Rng, _calls: u64) {
+fn every_pair(checker: &mut Checker, entry: Entry, rng: &mut Rng, _calls: u64) {
+    let width = entry.width;
     for first in 0..11 {
-        (0..10).for_each(|_| check_codes(checker, &[first], rng));
+        (0..10).for_each(|_| check_codes(checker, width, &[first], rng));
         for second in 0..11 {
-            (0..10).for_each(|_| check_codes(checker, &[first, second], rng));
+            (0..10).for_each(|_| check_codes(checker, width, &[first, second], rng));
             for third in 0..11 {
-                (0..2).for_each(|_| check_codes(checker, &[first, second, third], rng));
+                (0..2).for_each(|_| check_codes(checker, width, &[first, second, third], rng));
             }
         }
     }
 }
 
-fn check_codes(checker: &mut Checker, codes: &[u32], rng: &mut Rng) {
+fn check_codes(checker: &mut Checker, width: Width, codes: &[u32], rng: &mut Rng) {
     let step = |code: &u32| {
         let [first, second, third] = COLUMNS_OF[*code as usize];
         [*code, first, second, third]
@@ -665,6 +681,7 @@ fn check_codes(checker: &mut Checker, codes: &[u32], rng: &mut Rng) {
     let column = |choices: &&[Element]| (0..rows).map(|_| rng.pick(choices)).collect();
     let columns = CHOICES.iter().map(column).collect();
     let shown = RecipeShown {
+        width,
         steps: codes.iter().map(step).collect(),
         columns,
         lists: [short_list(rows, rng), short_list(rows, rng)],

@@ -60,9 +60,10 @@ fn columns() -> Vec<Vec<Element>> {
 /// Each slice from no slots to two more than the steps take, the others just as long as they take.
 /// Trays that no step writes take nothing: their slices go up to two more than the output takes,
 /// once with the other trays empty and once with them as long as the output.
-pub fn every_slice(checker: &mut Checker, _entry: Entry, rng: &mut Rng, _calls: u64) {
+pub fn every_slice(checker: &mut Checker, entry: Entry, rng: &mut Rng, _calls: u64) {
     for (steps, needed) in RECIPES.into_iter().flat_map(|recipe| [recipe; 4]) {
-        let shown = RecipeShown { steps: steps.to_vec(), lists: lists(), columns: columns() };
+        let (width, steps_taken) = (entry.width, steps.to_vec());
+        let shown = RecipeShown { width, steps: steps_taken, lists: lists(), columns: columns() };
         let input = laid_out(&shown, rng);
         let of_output = [needed[2]; 3].concat();
         let needed = needed.concat();

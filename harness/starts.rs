@@ -42,7 +42,7 @@ impl Shows {
     fn random(entry: Entry, rng: &mut Rng) -> Shows {
         let shape = RowShape { count: 1 + rng.below(20), longest: 3, ..small_shape(rng) };
         if entry.is_recipe() {
-            let shown = accepted_recipe(shape, rng.below(4), rng);
+            let shown = accepted_recipe(entry.width, shape, rng.below(4), rng);
             Shows::Recipe(RecipeCall::new(&shown, rng))
         } else {
             Shows::Operation(entry, random_shown(entry, shape, rng))
@@ -53,7 +53,7 @@ impl Shows {
     fn laid_out(&self, at: usize, start: usize, absent_bitmaps: bool, rng: &mut Rng) -> Input {
         let (entry, lists) = match self {
             Shows::Operation(entry, _) => (*entry, entry.lists()),
-            Shows::Recipe(_) => (Entry::RECIPE, 2),
+            Shows::Recipe(call) => (Entry::recipes(call.width), 2),
         };
         let layout =
             |rng: &mut Rng| Layout { absent_bitmaps, more_bitmap_bytes: 0, ..random_layout(rng) };

@@ -33,14 +33,14 @@ const NONE: [u32; 12] =
 
 /// Every station, finished and refused, from counts at and near their ends; and stations that there
 /// are not, whether the recipe is malformed or not.
-pub fn every_station(checker: &mut Checker, _entry: Entry, rng: &mut Rng, _calls: u64) {
+pub fn every_station(checker: &mut Checker, entry: Entry, rng: &mut Rng, _calls: u64) {
     for station in (0..STATIONS as u32).chain(NONE) {
         for count in [0, 1, 4294967295, u64::MAX - 1, u64::MAX] {
             for (number, counts) in [0, 9, 10].into_iter().flat_map(|number| {
                 [[count, 0], [0, count], [count, count], [u64::MAX, count]]
                     .map(|counts| (number, counts))
             }) {
-                let mut case = call_of(station, number, rng);
+                let mut case = call_of(entry, station, number, rng);
                 set_tally(&mut case, tally_with(station, counts, rng));
                 check_answer(checker, &case, if station < STATIONS as u32 { number } else { 15 });
             }
@@ -49,8 +49,8 @@ pub fn every_station(checker: &mut Checker, _entry: Entry, rng: &mut Rng, _calls
 }
 
 /// A recipe for this station that is accepted, or refused with 9 or with 10.
-fn call_of(station: u32, number: u32, rng: &mut Rng) -> Case {
-    let shown = accepted_recipe(shape_with_rows(rng), rng.below(4), rng);
+fn call_of(entry: Entry, station: u32, number: u32, rng: &mut Rng) -> Case {
+    let shown = accepted_recipe(entry.width, shape_with_rows(rng), rng.below(4), rng);
     let mut input = laid_out(&shown, rng);
     input.entry = input.entry.with_station(station);
     if number == 10 {

@@ -1,55 +1,56 @@
 //! A library of typed entries: safe functions on slices of numbers. The port, the plain Rust and the
-//! mock each give one of these. A list is lent as a column of `plain.rs`, and so is what is lent for
-//! results; counts and a tally are numbers too.
+//! mock each give one of these for offsets of 32 bits and one for offsets of 64, by the type of an
+//! offset. A list is lent as a column of `plain.rs`, and so is what is lent for results; counts and a
+//! tally are numbers too.
 
-use crate::entry::Entry;
+use crate::entry::{Entry, Kind};
 use crate::library::outputs;
-use crate::numbers::{of_bytes, of_bytes_mut};
+use crate::numbers::{of_bytes, of_bytes_mut, Number};
 use crate::plain::{Argument, Column, Lists, Outer};
 
 /// A list column, an argument column, and the room for a list answer and for the outer rows of
 /// list-repeat's, all of them numbers.
-pub type List<'a> = Column<'a, i32, i64>;
+pub type List<'a, O> = Column<'a, O, i64>;
 pub type Values<'a> = Argument<'a, i64>;
-pub type Room<'a> = Lists<'a, i32, i64>;
-pub type OuterRoom<'a> = Outer<'a, i32>;
+pub type Room<'a, O> = Lists<'a, O, i64>;
+pub type OuterRoom<'a, O> = Outer<'a, O>;
 
 /// A recipe as it is lent: its station, its numbers, how many argument columns it has, its lists,
 /// and the one slice of its arguments.
 #[derive(Clone, Copy)]
-pub struct Recipe<'a> {
+pub struct Recipe<'a, O> {
     pub station: u32,
     pub numbers: &'a [u32],
     pub columns: usize,
-    pub lists: [List<'a>; 2],
+    pub lists: [List<'a, O>; 2],
     pub arguments: Values<'a>,
 }
 
 #[derive(Clone, Copy)]
-pub struct Typed {
-    pub list: fn(u32, List, [Values; 3], Room, &mut [u64]) -> u32,
-    pub lists: fn(u32, [List; 2], Room, &mut [u64]) -> u32,
-    pub any_value: fn(List, &mut [i64], &mut [u8], &mut [u64]) -> u32,
-    pub element: fn(List, Values, &mut [i64], &mut [u8], &mut [u64]) -> u32,
-    pub list_repeat: fn(List, Values, OuterRoom, Room, &mut [u64]) -> u32,
+pub struct Typed<O> {
+    pub list: fn(u32, List<O>, [Values; 3], Room<O>, &mut [u64]) -> u32,
+    pub lists: fn(u32, [List<O>; 2], Room<O>, &mut [u64]) -> u32,
+    pub any_value: fn(List<O>, &mut [i64], &mut [u8], &mut [u64]) -> u32,
+    pub element: fn(List<O>, Values, &mut [i64], &mut [u8], &mut [u64]) -> u32,
+    pub list_repeat: fn(List<O>, Values, OuterRoom<O>, Room<O>, &mut [u64]) -> u32,
     /// The rooms are tray one, tray two and the output; the tally comes last.
-    pub recipe: fn(Recipe, [Room; 3], &mut [u64], &mut [u64]) -> u32,
-    pub lending: Lending,
+    pub recipe: fn(Recipe<O>, [Room<O>; 3], &mut [u64], &mut [u64]) -> u32,
+    pub lending: Lending<O>,
 }
 
 /// The entries that say how much to lend for these, and write it into the last slice. A recipe's
 /// limits name no station.
 #[derive(Clone, Copy)]
-pub struct Lending {
-    pub list: fn(u32, List, [Values; 3], &mut [u64]) -> u32,
-    pub lists: fn(u32, [List; 2], &mut [u64]) -> u32,
-    pub any_value: fn(List, &mut [u64]) -> u32,
-    pub element: fn(List, Values, &mut [u64]) -> u32,
-    pub list_repeat: fn(List, Values, &mut [u64]) -> u32,
-    pub limits: fn(Recipe, &mut [u64]) -> u32,
+pub struct Lending<O> {
+    pub list: fn(u32, List<O>, [Values; 3], &mut [u64]) -> u32,
+    pub lists: fn(u32, [List<O>; 2], &mut [u64]) -> u32,
+    pub any_value: fn(List<O>, &mut [u64]) -> u32,
+    pub element: fn(List<O>, Values, &mut [u64]) -> u32,
+    pub list_repeat: fn(List<O>, Values, &mut [u64]) -> u32,
+    pub limits: fn(Recipe<O>, &mut [u64]) -> u32,
 }
 
-fn list<'a>(slices: &[&'a [u8]], starts: &[usize]) -> List<'a> {
+fn list<'a, O: Number>(slices: &[&'a [u8]], starts: &[usize]) -> List<'a, O> {
     Column {
         offsets: of_bytes(slices[0]),
         rows: slices[1],
@@ -64,7 +65,7 @@ fn values<'a>(slices: &[&'a [u8]], start: usize) -> Values<'a> {
     Argument { values: of_bytes(slices[0]), bits: slices[1], start }
 }
 
-fn room<'a>([offsets, rows, values, elements]: [&'a mut [u8]; 4]) -> Room<'a> {
+fn room<'a, O: Number>([offsets, rows, values, elements]: [&'a mut [u8]; 4]) -> Room<'a, O> {
     Lists { offsets: of_bytes_mut(offsets), rows, values: of_bytes_mut(values), elements }
 }
 
@@ -72,7 +73,12 @@ fn three_arguments<'a>(lent: &[&'a [u8]], starts: &[usize]) -> [Values<'a>; 3] {
     [0, 1, 2].map(|at| values(&lent[4 + 2 * at..], starts[2 + at]))
 }
 
-fn recipe<'a>(station: u32, columns: usize, lent: &[&'a [u8]], starts: &[usize]) -> Recipe<'a> {
+fn recipe<'a, O: Number>(
+    station: u32,
+    columns: usize,
+    lent: &[&'a [u8]],
+    starts: &[usize],
+) -> Recipe<'a, O> {
     Recipe {
         station,
         numbers: of_bytes(lent[0]),
@@ -82,32 +88,32 @@ fn recipe<'a>(station: u32, columns: usize, lent: &[&'a [u8]], starts: &[usize])
     }
 }
 
-impl Lending {
+impl<O: Number> Lending<O> {
     /// Asks how much to lend for a call, in the same way.
     pub fn ask(&self, entry: Entry, lent: &[&[u8]], starts: &[usize], lengths: &mut [u8]) -> u32 {
         let lengths = of_bytes_mut(lengths);
         let first = |from: usize| list(&lent[from..], starts);
-        match entry {
-            Entry::List(_) => panic!("a typed list operation has argument columns"),
-            Entry::ListWith(code) => {
+        match entry.kind {
+            Kind::List(_) => panic!("a typed list operation has argument columns"),
+            Kind::ListWith(code) => {
                 (self.list)(code, first(0), three_arguments(lent, starts), lengths)
             }
-            Entry::Lists(code) => {
+            Kind::Lists(code) => {
                 (self.lists)(code, [first(0), list(&lent[4..], &starts[2..])], lengths)
             }
-            Entry::AnyValue => (self.any_value)(first(0), lengths),
-            Entry::Element => (self.element)(first(0), values(&lent[4..], starts[2]), lengths),
-            Entry::ListRepeat => {
+            Kind::AnyValue => (self.any_value)(first(0), lengths),
+            Kind::Element => (self.element)(first(0), values(&lent[4..], starts[2]), lengths),
+            Kind::ListRepeat => {
                 (self.list_repeat)(first(0), values(&lent[4..], starts[2]), lengths)
             }
-            Entry::Recipe { station, columns } => {
+            Kind::Recipe { station, columns } => {
                 (self.limits)(recipe(station, columns, lent, starts), lengths)
             }
         }
     }
 }
 
-impl Typed {
+impl<O: Number> Typed<O> {
     /// Calls an entry with slices of bytes that are aligned for their numbers. A list operation
     /// comes with three argument columns, whatever it takes.
     pub fn call(
@@ -119,32 +125,32 @@ impl Typed {
         counts: &mut [u8],
     ) -> u32 {
         let counts = of_bytes_mut(counts);
-        match entry {
-            Entry::List(_) => panic!("a typed list operation has argument columns"),
-            Entry::ListWith(code) => {
+        match entry.kind {
+            Kind::List(_) => panic!("a typed list operation has argument columns"),
+            Kind::ListWith(code) => {
                 let arguments = three_arguments(lent, starts);
                 (self.list)(code, list(lent, starts), arguments, room(outputs(results)), counts)
             }
-            Entry::Lists(code) => {
+            Kind::Lists(code) => {
                 let both = [list(lent, starts), list(&lent[4..], &starts[2..])];
                 (self.lists)(code, both, room(outputs(results)), counts)
             }
-            Entry::AnyValue => {
+            Kind::AnyValue => {
                 let [values, rows] = outputs(results);
                 (self.any_value)(list(lent, starts), of_bytes_mut(values), rows, counts)
             }
-            Entry::Element => {
+            Kind::Element => {
                 let (list, indexes) = (list(lent, starts), values(&lent[4..], starts[2]));
                 let [values, rows] = outputs(results);
                 (self.element)(list, indexes, of_bytes_mut(values), rows, counts)
             }
-            Entry::ListRepeat => {
+            Kind::ListRepeat => {
                 let (list, times) = (list(lent, starts), values(&lent[4..], starts[2]));
                 let [offsets, rows, inner @ ..]: [&mut [u8]; 6] = outputs(results);
                 let outer = Outer { offsets: of_bytes_mut(offsets), rows };
                 (self.list_repeat)(list, times, outer, room(inner), counts)
             }
-            Entry::Recipe { station, columns } => {
+            Kind::Recipe { station, columns } => {
                 let recipe = recipe(station, columns, lent, starts);
                 let [a, b, c, d, e, f, g, h, i, j, k, l, tally] = outputs(results);
                 let rooms = [[a, b, c, d], [e, f, g, h], [i, j, k, l]].map(room);

@@ -3,11 +3,11 @@
 //! entries, which refuse them.
 
 use crate::compare::Checker;
-use crate::entry::{Case, Content, Entry, Input, Route};
+use crate::entry::{Case, Content, Entry, Input, Kind, Route};
 use crate::entry::{MOST_ROWS, MOST_VALUES, NOT_SERVED, TALLY};
 use crate::generate::*;
 use crate::groups::{check_answer, damage_some_column};
-use crate::model::{ArgumentColumn, Row, Shown};
+use crate::model::{ArgumentColumn, Row, Shown, Width};
 use crate::recipe_generate::{accepted_recipe, no_station, recipe_input, Draft};
 use crate::recipe_groups::{laid_out, shape_with_rows};
 use crate::rng::Rng;
@@ -40,8 +40,8 @@ fn codes() -> Vec<u32> {
 
 /// Whether the typed entry of this one serves a code, by the table of codes.
 fn is_served(entry: Entry, code: u32) -> bool {
-    match entry {
-        Entry::Lists(_) => matches!(code, 9 | 10),
+    match entry.kind {
+        Kind::Lists(_) => matches!(code, 9 | 10),
         _ => matches!(code, 0..=8 | 11),
     }
 }
@@ -105,7 +105,7 @@ pub fn entry_answers(checker: &mut Checker, entry: Entry, rng: &mut Rng, _calls:
 
 /// Counts of every length to 6 and tallies of every length to 34 beside recipes that are accepted
 /// and refused, for a station or for none; the trays are dirty.
-pub fn recipe_answers(checker: &mut Checker, _entry: Entry, rng: &mut Rng, _calls: u64) {
+pub fn recipe_answers(checker: &mut Checker, entry: Entry, rng: &mut Rng, _calls: u64) {
     for counts in 0..=6 {
         for tally in 0..=34 {
             for otherwise in [
@@ -115,7 +115,7 @@ pub fn recipe_answers(checker: &mut Checker, _entry: Entry, rng: &mut Rng, _call
                 Otherwise::Refused(13),
                 Otherwise::Short,
             ] {
-                let mut case = recipe_call(otherwise, rng);
+                let mut case = recipe_call(entry.width, otherwise, rng);
                 case.counts = rng.bytes(8 * counts);
                 case.outputs[TALLY] = rng.bytes(8 * tally);
                 let short = counts < 4 || tally < 32;
@@ -131,9 +131,9 @@ pub fn recipe_answers(checker: &mut Checker, _entry: Entry, rng: &mut Rng, _call
     }
 }
 
-fn recipe_call(otherwise: Otherwise, rng: &mut Rng) -> Case {
+fn recipe_call(width: Width, otherwise: Otherwise, rng: &mut Rng) -> Case {
     let shape = RowShape { count: 1 + rng.below(12), ..shape_with_rows(rng) };
-    let mut input = laid_out(&accepted_recipe(shape, rng.below(4), rng), rng);
+    let mut input = laid_out(&accepted_recipe(width, shape, rng.below(4), rng), rng);
     match otherwise {
         Otherwise::Refused(10) => input.numbers.push(0),
         Otherwise::Refused(15) => input.entry = input.entry.with_station(no_station(rng)),
@@ -183,7 +183,7 @@ pub fn far_starts(checker: &mut Checker, entry: Entry, rng: &mut Rng, _calls: u6
 
 fn accepted_call(entry: Entry, rng: &mut Rng) -> Case {
     if entry.is_recipe() {
-        return recipe_call(Otherwise::Accepted, rng);
+        return recipe_call(entry.width, Otherwise::Accepted, rng);
     }
     let shape = RowShape { count: 1 + rng.below(9), longest: 3, ..small_shape(rng) };
     let layouts = random_layouts(entry, rng);
@@ -226,10 +226,11 @@ pub fn shared_inputs(checker: &mut Checker, entry: Entry, rng: &mut Rng, _calls:
 }
 
 /// The same for recipes, of up to three steps.
-pub fn shared_inputs_of_recipes(checker: &mut Checker, _entry: Entry, rng: &mut Rng, _calls: u64) {
+pub fn shared_inputs_of_recipes(checker: &mut Checker, entry: Entry, rng: &mut Rng, _calls: u64) {
     checker.shares = true;
     for _ in 0..200 {
-        let mut shown = accepted_recipe(shape_with_rows(rng), rng.below(4), rng);
+        let shape = shape_with_rows(rng);
+        let mut shown = accepted_recipe(entry.width, shape, rng.below(4), rng);
         shown.lists[1] = shown.lists[0].clone();
         let layout = Layout { absent_bitmaps: rng.chance(1, 2), ..Layout::default() };
         checker.check(&lend(&recipe_input(&shown, &[layout], rng), Room::Any, rng));
@@ -238,10 +239,11 @@ pub fn shared_inputs_of_recipes(checker: &mut Checker, _entry: Entry, rng: &mut 
 
 // Sizes.
 
-/// The typed call must be given this answer, whatever its sizes; the byte entry refuses them.
+/// The typed call must be given this answer, whatever its sizes; the byte entry, if there is one,
+/// refuses them.
 fn require_over(checker: &mut Checker, case: &Case, number: u32, what: &str) {
     require_typed(checker, case, number, what);
-    if checker.makes(Route::Bytes) {
+    if checker.makes(Route::Bytes) && !case.entry.is_wide() {
         check_answer(checker, case, 101);
     }
 }
@@ -260,8 +262,7 @@ fn shown_over(entry: Entry, shape: RowShape, rng: &mut Rng) -> Shown {
     let lists = random_lists(entry, shape, rng);
     let left = Left { inner_rows: 100_000, elements: 200_000 };
     let null_eighths = rng.pick(&[0, 1]);
-    let operation = entry.known_operation();
-    Shown { arguments: columns_within(operation, &lists, null_eighths, left, rng), lists }
+    Shown { arguments: columns_within(entry, &lists, null_eighths, left, rng), lists }
 }
 
 /// The same rows over size in each fixed layout: all calls share one answer.
@@ -326,11 +327,13 @@ fn hidden_over(entry: Entry, rng: &mut Rng) -> Input {
 }
 
 /// Recipes over more rows, values and arguments than the byte entry takes.
-pub fn recipes_over_sizes(checker: &mut Checker, _entry: Entry, rng: &mut Rng, _calls: u64) {
+pub fn recipes_over_sizes(checker: &mut Checker, entry: Entry, rng: &mut Rng, _calls: u64) {
     for steps in [0, 1, 2, 3, 5, 8] {
         for shape in [SHAPES_OVER[0], SHAPES_OVER[2], SHAPES_OVER[3]] {
-            let lists = random_lists(Entry::Lists(9), shape_over(shape, rng), rng);
-            let mut draft = Draft::over([lists[0].clone(), lists[1].clone()], 8, 0, rng);
+            let width = entry.width;
+            let lists = random_lists(Kind::Lists(9).at(width), shape_over(shape, rng), rng);
+            let lists = [lists[0].clone(), lists[1].clone()];
+            let mut draft = Draft::over(width, lists, 8, 0, rng);
             draft.most = 20 * MOST_VALUES;
             (0..steps).for_each(|_| draft.add_some(rng));
             let input = laid_out(&draft.finish(rng).accepted, rng);

@@ -5,9 +5,10 @@
 //! row that lies over values.
 
 use crate::compare::{Checker, Observed};
-use crate::entry::{encode_i32, encode_i64, Case as LentCase, Entry, Expected, Input};
+use crate::entry::{decode_offsets, Content, Input, Kind};
+use crate::entry::{encode_i32, encode_i64, encode_offsets, Case as LentCase, Entry, Expected};
 use crate::generate::{lend, Room};
-use crate::model::{ArgumentColumn, Bitmap, ListColumn, Operation, Tally, UNDER_NULL};
+use crate::model::{ArgumentColumn, Bitmap, ListColumn, Operation, Tally, Width, UNDER_NULL};
 use crate::rng::Rng;
 use crate::stations::set_tally;
 
@@ -102,7 +103,7 @@ fn numbers(items: &[Item], under_nulls: i64) -> Vec<i64> {
 }
 
 /// Offsets of the rows and all that they hold; what lies under null rows is left out or kept.
-fn rows_of(items: &[Item], keep_hidden: bool) -> (Vec<i32>, Vec<Item>) {
+fn rows_of(items: &[Item], keep_hidden: bool) -> (Vec<i64>, Vec<Item>) {
     let mut offsets = vec![0];
     let mut inside = Vec::new();
     for item in items {
@@ -112,7 +113,7 @@ fn rows_of(items: &[Item], keep_hidden: bool) -> (Vec<i32>, Vec<Item>) {
             Item::Null(_) => (),
             Item::Number(_) => panic!("a number among the rows of a worked case"),
         }
-        offsets.push(inside.len() as i32);
+        offsets.push(inside.len() as i64);
     }
     (offsets, inside)
 }
@@ -149,7 +150,7 @@ fn result(text: &str, outputs: usize) -> Observed {
     let mut lengths = Vec::new();
     for _ in 0..outputs / 2 - 1 {
         let (offsets, inside) = rows_of(&items, false);
-        written.extend([encode_i32(&offsets), bitmap(&items)]);
+        written.extend([encode_offsets(&offsets, Width::Narrow), bitmap(&items)]);
         nulls.push(null_count(&items));
         lengths.push(items.len() as u64);
         items = inside;
@@ -456,6 +457,25 @@ struct Worked {
     result: Observed,
 }
 
+impl Worked {
+    /// Whether it is the same at both widths, as it may not be where it is refused with 4, 6 or 8.
+    fn is_of_both_widths(&self) -> bool {
+        !matches!(self.result.number, 4 | 6 | 8)
+    }
+
+    fn at(mut self, width: Width) -> Worked {
+        let entry = self.input.entry;
+        let kinds = entry.outputs()[entry.results()].iter();
+        for (kind, bytes) in kinds.zip(&mut self.result.written) {
+            if kind.content == Content::Offsets {
+                *bytes = encode_offsets(&decode_offsets(bytes, entry.width), width);
+            }
+        }
+        self.input.entry = Entry { width, ..entry };
+        self
+    }
+}
+
 /// A column that is lent and not taken, and would be refused if it were.
 fn untaken() -> ArgumentColumn {
     ArgumentColumn { values: vec![0; 17], bits: Bitmap { bytes: vec![0], start: 8 } }
@@ -468,7 +488,7 @@ fn worked(
     mut arguments: Vec<ArgumentColumn>,
     wanted: &str,
 ) -> Worked {
-    let entry = Entry::of(operation);
+    let entry = Entry::of(operation, Width::Narrow);
     arguments.resize_with(entry.arguments(), untaken);
     Worked {
         name: format!("{} ({name})", entry.name()),
@@ -483,7 +503,7 @@ fn from_text((name, operation, lists, arguments, wanted): &Case) -> Worked {
     worked(name, *operation, lists, arguments, wanted)
 }
 
-fn list(offsets: &[i32], rows: &[u8], values: &[i64], elements: &[u8]) -> ListColumn {
+fn list(offsets: &[i64], rows: &[u8], values: &[i64], elements: &[u8]) -> ListColumn {
     ListColumn {
         offsets: offsets.to_vec(),
         rows: Bitmap::from_0(rows.to_vec()),
@@ -758,10 +778,39 @@ fn laid_out_cases() -> Vec<Worked> {
     ]
 }
 
+/// What lists of 32-bit offsets refuse with 4, 6 or 8.
+const OF_LARGE: &[Case] = &[
+    ("index past 32 bits", Element, &["[7]"], &["2147483648"], "-"),
+    ("index past 32 bits of an empty row", Element, &["[]"], &["2147483648"], "-"),
+    ("index 1 in its lowest 32 bits", Element, &["[7]"], &["4294967297"], "-"),
+    ("largest and smallest index", Element, &["[7], [8]"], &[ENDS], "-, -"),
+    ("to past 32 bits", Slice, &["[1,2,3]"], &["1", "2147483648", "1"], "[1,2,3]"),
+    ("from past 32 bits", Slice, &["[1,2,3]"], &["2147483648", "3", "1"], "[]"),
+    ("smallest from", Slice, &["[1,2,3]"], &[SMALLEST, "-1", "1"], "[1,2,3]"),
+    ("smallest to", Slice, &["[1,2,3]"], &["1", SMALLEST, "1"], "[]"),
+    ("largest to", SliceWithoutStride, &["[1,2,3]"], &["2", LARGEST], "[2,3]"),
+    ("largest stride", Slice, &["[1,2,3]"], &["2", "3", LARGEST], "[2]"),
+    ("smallest stride", Slice, &["[1,2,3]"], &["3", "1", SMALLEST], "[3]"),
+    ("stride 1 in its lowest 32 bits", Slice, &["[1,2,3]"], &["1", "3", "4294967297"], "[1]"),
+    ("far bounds, stride 0", Slice, &["[1,2,3]"], &[SMALLEST, LARGEST, "0"], "refusal 5"),
+    ("count past 32 bits", Resize, &["[1]"], &["2147483648", "1"], "refusal 9"),
+    ("count at the limit", Resize, &["[1]"], &["1152921504606846975", "1"], "refusal 9"),
+    ("count past the limit", Resize, &["[1]"], &["1152921504606846976", "1"], "refusal 8"),
+    ("times past 32 bits", ListRepeat, &["[]"], &["2147483648"], "refusal 9"),
+    ("times at the limit", ListRepeat, &["[]"], &["1152921504606846974"], "refusal 9"),
+    ("times past the limit", ListRepeat, &["[]"], &["1152921504606846975"], "refusal 8"),
+    ("values at the limit", ListRepeat, &["[1,2,3]"], &["384307168202282325"], "refusal 9"),
+    ("values past the limit", ListRepeat, &["[1,2,3]"], &["384307168202282326"], "refusal 8"),
+];
+
+const LARGEST: &str = "9223372036854775807";
+const SMALLEST: &str = "-9223372036854775808";
+const ENDS: &str = "9223372036854775807, -9223372036854775808";
+
 /// Case O as it lies in the slices.
 fn case_o() -> Worked {
     let input = Input {
-        entry: Entry::ListRepeat,
+        entry: Kind::ListRepeat.at(Width::Narrow),
         numbers: Vec::new(),
         lists: vec![list(&[0, 2, 3], &[0b10], &[8, 8, 4], &[])],
         arguments: vec![argument(&[1, 2], &[])],
@@ -778,11 +827,14 @@ fn case_o() -> Worked {
     Worked { name: "O, as bytes".to_string(), input, result }
 }
 
-pub fn cases(checker: &mut Checker, _entry: Entry, rng: &mut Rng, _calls: u64) {
+pub fn cases(checker: &mut Checker, entry: Entry, rng: &mut Rng, _calls: u64) {
     let tables =
         [OF_DOCUMENT_01, OF_ONE_LIST, OF_TWO_LISTS, OF_SLICES, OF_RESIZE, OF_MATCHES, OF_REPEAT];
     let written = tables.into_iter().flatten().map(from_text);
     let all = written.chain(laid_out_cases()).chain(cases_from_bits()).chain([case_o()]);
+    let all = all.filter(|worked| !entry.is_wide() || worked.is_of_both_widths());
+    let large = OF_LARGE.iter().filter(|_| entry.is_wide()).map(from_text);
+    let all = all.chain(large).map(|worked| worked.at(entry.width));
     let library = checker.library;
     for worked in all.filter(|worked| library.has(worked.input.entry)) {
         for room in [Room::Exact, Room::Longer(2)] {
@@ -924,7 +976,7 @@ const OF_REFUSED_STEPS: &[RecipeCase] = &[
 fn recipe_from_text((name, steps, lists, columns, wanted): &RecipeCase) -> Worked {
     let columns: Vec<Vec<Item>> = columns.iter().map(|text| parse(text)).collect();
     let items = columns.concat();
-    let entry = Entry::Recipe { station: 5, columns: columns.len() };
+    let entry = Kind::Recipe { station: 5, columns: columns.len() }.at(Width::Narrow);
     Worked {
         name: format!("recipe ({name})"),
         input: Input {
@@ -940,7 +992,8 @@ fn recipe_from_text((name, steps, lists, columns, wanted): &RecipeCase) -> Worke
 /// Recipes that the notation does not give.
 fn laid_out_recipes() -> Vec<Worked> {
     let recipe = |name: &str, columns: usize, numbers: &[u32], lists, arguments, wanted: &str| {
-        let (entry, numbers) = (Entry::Recipe { station: 5, columns }, numbers.to_vec());
+        let entry = Kind::Recipe { station: 5, columns }.at(Width::Narrow);
+        let numbers = numbers.to_vec();
         Worked {
             name: format!("recipe ({name})"),
             input: Input { entry, numbers, lists, arguments: vec![arguments] },
@@ -1030,7 +1083,7 @@ fn recipe_as_bytes(tray_values: usize) -> LentCase {
     let output = [dirty(20), dirty(1), dirty(40), dirty(1)];
     let tally = [tally_of_3(-1, 3), dirty(1)].concat();
     LentCase {
-        entry: Entry::Recipe { station: 3, columns: 1 },
+        entry: Kind::Recipe { station: 3, columns: 1 }.at(Width::Narrow),
         starts: vec![2, 1, 3, 5, 7],
         inputs: vec![
             encode_i32(&[9, 0, 0, 0, 6, 0, 0, 0]),
@@ -1087,9 +1140,11 @@ fn tally_of_5(finished: u64, refused: u64) -> Tally {
 
 /// Recipes for station 5, before which 41 were finished for it and 6 refused; once more each for a
 /// station that there is not.
-pub fn recipes(checker: &mut Checker, _entry: Entry, rng: &mut Rng, _calls: u64) {
+pub fn recipes(checker: &mut Checker, entry: Entry, rng: &mut Rng, _calls: u64) {
     let written = OF_STEPS.iter().chain(OF_REFUSED_STEPS).map(recipe_from_text);
-    for worked in written.chain(laid_out_recipes()) {
+    let all = written.chain(laid_out_recipes());
+    let all = all.filter(|worked| !entry.is_wide() || worked.is_of_both_widths());
+    for worked in all.map(|worked| worked.at(entry.width)) {
         for room in [Room::Exact, Room::Longer(2)] {
             let mut case = lend(&worked.input, room, rng);
             let before = tally_of_5(41, 6);
@@ -1105,7 +1160,7 @@ pub fn recipes(checker: &mut Checker, _entry: Entry, rng: &mut Rng, _calls: u64)
             checker.require(observed == wanted, &case, &format!("{}, station 16", worked.name));
         }
     }
-    for (case, wanted) in recipes_as_bytes() {
+    for (case, wanted) in recipes_as_bytes().into_iter().filter(|_| !entry.is_wide()) {
         checker.check(&case);
         checker.require(case.expected() == wanted, &case, "recipe (as bytes)");
     }

@@ -829,7 +829,7 @@ static inline const char *duthlan_refusal(uint32_t number) {
     case DUTHLAN_ZERO_STRIDE: return "a stride of 0 where both bounds fall in the row";
     case DUTHLAN_WIDE_STRIDE: return "a stride that does not fit 32 signed bits";
     case DUTHLAN_NEGATIVE_COUNT: return "a negative count";
-    case DUTHLAN_TOO_MANY: return "a result of more than 2147483647 elements or lists";
+    case DUTHLAN_TOO_MANY: return "a result of more elements or lists than its offsets may count";
     case DUTHLAN_SHORT_OUTPUT: return "an output or a tray too short for the result";
     case DUTHLAN_MALFORMED_RECIPE: return "a malformed recipe";
     case DUTHLAN_BAD_STARTING_BIT: return "a starting bit over 7";

@@ -1,11 +1,81 @@
-/* Calls every function of duthlan.h and compares what comes back. It is compiled as C and as C++; the last line is
- * 'N passed, M failed', and the status is 0 only where none failed. */
+/* Calls every function of duthlan.h, or with CALLS_LARGE defined of duthlan_large.h, and compares what comes back. It is compiled
+ * as C and as C++; the last line is 'N passed, M failed', and the status is 0 only where none failed. */
+#ifdef CALLS_LARGE
+#include "duthlan_large.h"
+#include "duthlan_large.h" /* a second time, which must change nothing */
+#else
 #include "duthlan.h"
-#include "duthlan.h" /* a second time, which must change nothing */
+#include "duthlan.h"
+#endif
 
 #include <inttypes.h>
 #include <stdio.h>
 #include <string.h>
+
+/* ---- What the two headers do not share ------------------------------------------------------------------------------------ */
+
+#ifdef CALLS_LARGE
+/* The calls below name what duthlan.h names. */
+#define duthlan_list duthlan_large
+#define duthlan_out duthlan_large_out
+#define duthlan_repeat_out duthlan_large_repeat_out
+#define duthlan_reverse duthlan_l_reverse
+#define duthlan_distinct duthlan_l_distinct
+#define duthlan_pop_front duthlan_l_pop_front
+#define duthlan_pop_back duthlan_l_pop_back
+#define duthlan_slice duthlan_l_slice
+#define duthlan_resize duthlan_l_resize
+#define duthlan_replace duthlan_l_replace
+#define duthlan_remove duthlan_l_remove
+#define duthlan_union duthlan_l_union
+#define duthlan_intersect duthlan_l_intersect
+#define duthlan_any_value duthlan_l_any_value
+#define duthlan_element duthlan_l_element
+#define duthlan_list_repeat duthlan_l_list_repeat
+#define duthlan_recipe duthlan_l_recipe
+#define duthlan_reverse_lengths duthlan_l_reverse_lengths
+#define duthlan_distinct_lengths duthlan_l_distinct_lengths
+#define duthlan_pop_front_lengths duthlan_l_pop_front_lengths
+#define duthlan_pop_back_lengths duthlan_l_pop_back_lengths
+#define duthlan_slice_lengths duthlan_l_slice_lengths
+#define duthlan_resize_lengths duthlan_l_resize_lengths
+#define duthlan_replace_lengths duthlan_l_replace_lengths
+#define duthlan_remove_lengths duthlan_l_remove_lengths
+#define duthlan_union_lengths duthlan_l_union_lengths
+#define duthlan_intersect_lengths duthlan_l_intersect_lengths
+#define duthlan_any_value_lengths duthlan_l_any_value_lengths
+#define duthlan_element_lengths duthlan_l_element_lengths
+#define duthlan_list_repeat_lengths duthlan_l_list_repeat_lengths
+#define duthlan_recipe_limits duthlan_l_recipe_limits
+#define duthlan_written duthlan_l_written
+#define duthlan_typed_list duthlan_large_list
+#define duthlan_typed_lists duthlan_large_lists
+#define duthlan_typed_any_value duthlan_large_any_value
+#define duthlan_typed_element duthlan_large_element
+#define duthlan_typed_list_repeat duthlan_large_list_repeat
+#define duthlan_typed_recipe duthlan_large_recipe
+#define duthlan_typed_list_lengths duthlan_large_list_lengths
+#define duthlan_typed_lists_lengths duthlan_large_lists_lengths
+#define duthlan_typed_any_value_lengths duthlan_large_any_value_lengths
+#define duthlan_typed_element_lengths duthlan_large_element_lengths
+#define duthlan_typed_list_repeat_lengths duthlan_large_list_repeat_lengths
+#define duthlan_typed_recipe_limits duthlan_large_recipe_limits
+
+typedef int64_t offset_number;
+static const int64_t far_number = INT64_MAX, most_elements = 1152921504606846975, largest_limit = INT64_MAX;
+static const offset_number kept_offset = 0x5555555555555555;
+#else
+typedef int32_t offset_number;
+static const int64_t far_number = 2147483648, most_elements = 2147483647, largest_limit = 2147483647;
+static const offset_number kept_offset = 0x55555555;
+#endif
+
+/* What a far index or bound, and a far stride, are answered. */
+#ifdef CALLS_LARGE
+static const uint32_t far_index = DUTHLAN_ACCEPTED, far_stride = DUTHLAN_ACCEPTED;
+#else
+static const uint32_t far_index = DUTHLAN_WIDE_INDEX, far_stride = DUTHLAN_WIDE_STRIDE;
+#endif
 
 static int passed, failed;
 
@@ -57,7 +127,7 @@ static const char *show_list(duthlan_list list) {
 
 enum { ROOM = 24 };
 
-static int32_t offsets[ROOM], inner_offsets[ROOM];
+static offset_number offsets[ROOM], inner_offsets[ROOM];
 static uint8_t rows[ROOM], inner_rows[ROOM], elements[ROOM];
 static int64_t values[ROOM];
 static const duthlan_out out = {offsets, ROOM, rows, ROOM, values, ROOM, elements, ROOM};
@@ -86,7 +156,7 @@ static int made_values(uint32_t number, const char *expected) {
 
 /* ---- The column [12, -3, null], a null row over 40 and 41, [], [7, 7, 9] --------------------------------------------------- */
 
-static const int32_t in_offsets[] = {0, 3, 5, 5, 8};
+static const offset_number in_offsets[] = {0, 3, 5, 5, 8};
 static const int64_t in_values[] = {12, -3, 99, 40, 41, 7, 7, 9};
 static const uint8_t row_bits[] = {0x0d}, element_bits[] = {0xfb};
 static const duthlan_list list = {in_offsets, 5, {row_bits, 1, 0}, in_values, 8, {element_bits, 1, 0}};
@@ -96,7 +166,7 @@ static const uint8_t row_bits_2[] = {0xf7}, element_bits_3[] = {0xdf, 0xff};
 static const duthlan_list shifted = {in_offsets, 5, {row_bits_2, 1, 2}, in_values, 8, {element_bits_3, 2, 3}};
 
 /* Another: [9, 12] [1] [3] [7] */
-static const int32_t other_offsets[] = {0, 2, 3, 4, 5};
+static const offset_number other_offsets[] = {0, 2, 3, 4, 5};
 static const int64_t other_values[] = {9, 12, 1, 3, 7};
 static const duthlan_list other = {other_offsets, 5, {0, 0, 0}, other_values, 5, {0, 0, 0}};
 
@@ -111,14 +181,15 @@ static const duthlan_values null_two = {twos, 4, {bits_4, 1, 4}};
 static const duthlan_values null_last = {lasts, 4, {bits_6, 2, 6}};
 
 /* Columns of four rows that are refused: by 1, by 2 and by 13. */
-static const int32_t falling[] = {0, 2, 1, 1, 1};
+static const offset_number falling[] = {0, 2, 1, 1, 1};
 static const uint8_t one_byte[] = {255};
 static const duthlan_list bad_offsets = {falling, 5, {0, 0, 0}, in_values, 8, {0, 0, 0}};
 static const duthlan_list short_bitmap = {in_offsets, 5, {one_byte, 1, 5}, in_values, 8, {0, 0, 0}};
 static const duthlan_list bad_start = {in_offsets, 5, {0, 0, 8}, in_values, 8, {0, 0, 0}};
 
 /* Argument columns of four values that some operations refuse. */
-static const int64_t zeros[] = {0, 0, 0, 0}, wide[] = {2147483648, 1, 1, 1}, many[] = {2147483647, 1, 1, 1};
+static const int64_t zeros[] = {0, 0, 0, 0};
+static int64_t wide[] = {0, 1, 1, 1}, many[] = {0, 1, 1, 1};
 static const duthlan_values plain_zero = {zeros, 4, {0, 0, 0}}, wides = {wide, 4, {0, 0, 0}}, manys = {many, 4, {0, 0, 0}};
 
 static void operations(void) {
@@ -157,7 +228,17 @@ static void operations(void) {
                                            repeat_counts.null_rows == 1 && repeat_counts.inner_rows == 6 && repeat_counts.elements == 12);
 }
 
-/* Each refusal, and that outputs and counts keep their content. */
+/* Far numbers, which give 4 and 6 where offsets have 32 bits. */
+static void far_numbers(void) {
+    check("a far bound", duthlan_slice(&list, &wides, &plain_one, 0, &out, &counts) == far_index &&
+                             (far_index != DUTHLAN_ACCEPTED || made(far_index, "[] null [] [7]")));
+    check("a far stride", duthlan_slice(&list, &plain_one, &plain_last, &wides, &out, &counts) == far_stride &&
+                              (far_stride != DUTHLAN_ACCEPTED || made(far_stride, "[12] null [] [7,7,9]")));
+    check("a far index", duthlan_element(&list, &wides, &value_out, &value_counts) == far_index &&
+                             (far_index != DUTHLAN_ACCEPTED || made_values(far_index, "null null null 7")));
+}
+
+/* Each other refusal, and that outputs and counts keep their content. */
 static void refusals(void) {
     const duthlan_values pair = {ones, 2, {0, 0, 0}};
     const duthlan_out one_short = {offsets, ROOM, rows, ROOM, values, 5, elements, ROOM};
@@ -169,16 +250,14 @@ static void refusals(void) {
     check("1", duthlan_reverse(&bad_offsets, &out, &counts) == DUTHLAN_BAD_OFFSETS);
     check("2", duthlan_reverse(&short_bitmap, &out, &counts) == DUTHLAN_SHORT_BITMAP);
     check("3", duthlan_remove(&list, &pair, &plain_one, &out, &counts) == DUTHLAN_ROW_COUNTS_DIFFER);
-    check("4", duthlan_slice(&list, &wides, &plain_one, 0, &out, &counts) == DUTHLAN_WIDE_INDEX);
     check("5", duthlan_slice(&list, &plain_one, &plain_one, &plain_zero, &out, &counts) == DUTHLAN_ZERO_STRIDE);
-    check("6", duthlan_slice(&list, &plain_one, &plain_one, &wides, &out, &counts) == DUTHLAN_WIDE_STRIDE);
     check("7", duthlan_resize(&list, &plain_last, 0, &out, &counts) == DUTHLAN_NEGATIVE_COUNT);
     check("8", duthlan_resize(&list, &manys, 0, &out, &counts) == DUTHLAN_TOO_MANY);
     check("9", duthlan_reverse(&list, &one_short, &counts) == DUTHLAN_SHORT_OUTPUT);
     check("13", duthlan_reverse(&bad_start, &out, &counts) == DUTHLAN_BAD_STARTING_BIT);
     check("kept counts", counts.rows == 0x5555555555555555 && counts.null_elements == counts.rows);
-    check("kept outputs", offsets[0] == 0x55555555 && rows[0] == 85 && values[0] == 0x5555555555555555 && elements[0] == 85);
-    check("past the result", made(duthlan_reverse(&list, &out, &counts), "[null,-3,12] null [] [9,7,7]") && offsets[5] == 0x55555555 &&
+    check("kept outputs", offsets[0] == kept_offset && rows[0] == 85 && values[0] == 0x5555555555555555 && elements[0] == 85);
+    check("past the result", made(duthlan_reverse(&list, &out, &counts), "[null,-3,12] null [] [9,7,7]") && offsets[5] == kept_offset &&
                                  rows[1] == 85 && values[6] == 0x5555555555555555 && elements[1] == 85);
 }
 
@@ -351,8 +430,8 @@ static void asked_repeat(const lent *in) {
 }
 
 static void asking(void) {
-    static const int32_t one_row[] = {0, 2};
-    static const int64_t most[] = {2147483647, 0, 0, 0};
+    static const offset_number one_row[] = {0, 2};
+    const int64_t most[] = {most_elements, 0, 0, 0};
     const duthlan_list one = {one_row, 2, {0, 0, 0}, in_values, 2, {0, 0, 0}}, no_rows = {0, 0, {0, 0, 0}, 0, 0, {0, 0, 0}};
     const duthlan_values mosts = {most, 4, {0, 0, 0}}, late = {ones, 4, {0, 0, 8}}, none = {0, 0, {0, 0, 0}};
     const lent tried[] = {
@@ -374,7 +453,7 @@ static void asking(void) {
         asked_values(&tried[i]);
         asked_repeat(&tried[i]);
     }
-    check("asked, every number", numbers_seen == (1u << 0 | 0x1feu | 1u << 13));
+    check("asked, every number", numbers_seen == (1u << 0 | 0x1aeu | 1u << far_index | 1u << far_stride | 1u << 13));
     memset(offsets, 85, sizeof offsets);
     memset(values, 85, sizeof values);
     check("reverse's lengths", duthlan_reverse_lengths(&shifted, &need) == DUTHLAN_ACCEPTED && need.offsets == 5 && need.row_bytes == 1 &&
@@ -385,8 +464,8 @@ static void asking(void) {
     check("list repeat's lengths", duthlan_list_repeat_lengths(&list, &null_two, &repeat_need) == DUTHLAN_ACCEPTED &&
                                        repeat_need.offsets == 5 && repeat_need.row_bytes == 1 && repeat_need.inner_offsets == 7 &&
                                        repeat_need.inner_row_bytes == 1 && repeat_need.values == 12 && repeat_need.element_bytes == 2);
-    check("asked, the most elements", duthlan_resize_lengths(&list, &mosts, 0, &need) == DUTHLAN_ACCEPTED && need.values == 2147483647 &&
-                                          need.element_bytes == 268435456 &&
+    check("asked, the most elements", duthlan_resize_lengths(&list, &mosts, 0, &need) == DUTHLAN_ACCEPTED && need.values == (uint64_t)most_elements &&
+                                          need.element_bytes == (uint64_t)most_elements / 8 + 1 &&
                                           duthlan_resize(&list, &mosts, 0, &out, 0) == DUTHLAN_SHORT_OUTPUT);
     check("asked, nothing written", kept(offsets, sizeof offsets) && kept(values, sizeof values));
 }
@@ -399,9 +478,10 @@ static void asked_recipes(void) {
         {DUTHLAN_STEP_SLICE(0, 2, 0)}, {DUTHLAN_STEP_SLICE_WITHOUT_STRIDE(0, 2)}, {DUTHLAN_STEP_RESIZE(1, 0)},
         {DUTHLAN_STEP_REPLACE(0, 1, 0)}, {DUTHLAN_STEP_REMOVE(1, 0)}, {DUTHLAN_STEP_UNION}, {DUTHLAN_STEP_INTERSECT}};
     static const int64_t columns[] = {1, 1, 1, 1, 4, 9, 5, 2, -1, -1, -1, -1};
-    static const int64_t three_counts[] = {3, 4, -1}, most[] = {2147483647, 0, 2147483647, 0};
-    static const int32_t three_rows[] = {0, 2, 3, 3}; /* the second is null */
-    static int32_t tray_offsets[2][5];
+    static const int64_t three_counts[] = {3, 4, -1};
+    const int64_t most[] = {largest_limit, 0, largest_limit, 0};
+    static const offset_number three_rows[] = {0, 2, 3, 3}; /* the second is null */
+    static offset_number tray_offsets[2][5];
     static uint8_t tray_rows[2][1], tray_elements[2][MOST / 8], last_elements[MOST / 8];
     static int64_t tray_values[2][MOST], last_values[MOST];
     const duthlan_list three = {three_rows, 4, {row_bits, 1, 0}, in_values, 3, {0, 0, 0}};
@@ -447,10 +527,10 @@ static void asked_recipes(void) {
                                   limit.two == 0 && limit.output == 3);
     check("limits of unions", duthlan_recipe_limits(unions, 16, &shifted, &list, 0, 0, &limit) == DUTHLAN_ACCEPTED && limit.one == 24 &&
                                   limit.two == 18 && limit.output == 24);
-    check("a limit stops", duthlan_recipe_limits(resize, 4, &shifted, 0, &mosts, 1, &limit) == DUTHLAN_ACCEPTED && limit.output == 2147483647 &&
+    check("a limit stops", duthlan_recipe_limits(resize, 4, &shifted, 0, &mosts, 1, &limit) == DUTHLAN_ACCEPTED && limit.output == (uint64_t)largest_limit &&
                                duthlan_recipe(0, resize, 4, &shifted, 0, &mosts, 1, 0, 0, &out, 0, 0) == DUTHLAN_TOO_MANY);
     check("limits, a bad row", duthlan_recipe_limits(slice, 4, &shifted, 0, &wides, 1, &limit) == DUTHLAN_ACCEPTED && limit.output == 6 &&
-                                   duthlan_recipe(0, slice, 4, &shifted, 0, &wides, 1, 0, 0, &out, 0, 0) == DUTHLAN_WIDE_INDEX);
+                                   duthlan_recipe(0, slice, 4, &shifted, 0, &wides, 1, 0, 0, &out, 0, 0) == far_index);
     for (i = 0; i < sizeof refused / sizeof *refused; i++) {
         const uint32_t number = duthlan_recipe(0, steps[0], refused[i].number_count, refused[i].first, refused[i].second,
                                                &arguments, refused[i].column_count, 0, 0, &out, 0, 0);
@@ -477,7 +557,7 @@ static void sentences(void) {
 /* What only a raw entry can say: 100, for a code that it does not serve or too few places for what it tells. */
 static void raw(void) {
     uint64_t told[4] = {5, 5, 5, 5}, tally[32] = {0};
-    const int32_t zero = 0;
+    const offset_number zero = 0;
     const int64_t none = 0;
     const uint8_t bits = 0;
     const uint32_t reverse[] = {DUTHLAN_STEP_REVERSE};
@@ -503,7 +583,7 @@ static void raw_lengths(void) {
 #define NO_VALUES &none, 0, &bits, 0, 0
     static const uint32_t reverse[] = {DUTHLAN_STEP_REVERSE};
     uint64_t told[7];
-    const int32_t zero = 0, below = -1;
+    const offset_number zero = 0, below = -1;
     const int64_t none = 0;
     const uint8_t bits = 0;
     memset(told, 85, sizeof told);
@@ -576,10 +656,10 @@ static void recipes(void) {
         DUTHLAN_STEP_INTERSECT, DUTHLAN_STEP_POP_FRONT, DUTHLAN_STEP_POP_BACK};
     static const int64_t bounds[] = {2, 2, 2, 2, -1, -1, -1, -1};
     static const int64_t columns[] = {4, 4, 4, 4, 12, 12, 12, 12, -1, -1, -1, -1, 1, 1, 1, 1};
-    static int32_t one_offsets[ROOM], two_offsets[ROOM];
+    static offset_number one_offsets[ROOM], two_offsets[ROOM];
     static uint8_t one_rows[ROOM], one_elements[ROOM], two_rows[ROOM], two_elements[ROOM];
     static int64_t one_values[ROOM], two_values[ROOM];
-    static const int32_t no_offsets[ROOM] = {0};
+    static const offset_number no_offsets[ROOM] = {0};
     static const int64_t no_values[ROOM] = {0};
     const duthlan_out one = {one_offsets, ROOM, one_rows, ROOM, one_values, ROOM, one_elements, ROOM};
     const duthlan_out two = {two_offsets, ROOM, two_rows, ROOM, two_values, ROOM, two_elements, ROOM};
@@ -611,7 +691,10 @@ static void recipes(void) {
 }
 
 int main(void) {
+    wide[0] = far_number;
+    many[0] = most_elements;
     operations();
+    far_numbers();
     refusals();
     nothing();
     recipes();

@@ -1,4 +1,4 @@
-use crate::Refusal;
+use crate::{Offset, Refusal};
 use core::iter::FusedIterator;
 
 /// A validity bitmap, lowest bit first, that starts at a bit of its first byte. One of no bytes means
@@ -55,7 +55,8 @@ impl<'a, const N: usize> From<&'a [u8; N]> for Bits<'a> {
     }
 }
 
-/// A list column that is lent to a call.
+/// A list column that is lent to a call, with offsets of 32 bits ([`List`]) or of 64
+/// ([`large::List`](crate::large::List)).
 ///
 /// Row r is the values from offset r up to, not including, offset r + 1. The first offset may exceed
 /// 0, and a null row may lie over values, which are then not shown. Any slices may be lent: a call
@@ -74,9 +75,9 @@ impl<'a, const N: usize> From<&'a [u8; N]> for Bits<'a> {
 /// assert!(levels.eq([12, -3, 7, 7, 9]));
 /// ```
 #[derive(Clone, Copy, Debug, Default)]
-pub struct List<'a> {
+pub struct ListOf<'a, O> {
     /// One offset more than rows; none at all are zero rows.
-    pub offsets: &'a [i32],
+    pub offsets: &'a [O],
     /// A bit a row.
     pub rows: Bits<'a>,
     /// The values under the rows.
@@ -85,10 +86,13 @@ pub struct List<'a> {
     pub elements: Bits<'a>,
 }
 
-impl<'a> List<'a> {
+/// A list column that is lent to a call, with offsets of 32 bits: see [`ListOf`].
+pub type List<'a> = ListOf<'a, i32>;
+
+impl<'a, O: Offset> ListOf<'a, O> {
     /// A column without nulls.
-    pub const fn new(offsets: &'a [i32], values: &'a [i64]) -> List<'a> {
-        List { offsets, rows: Bits::ALL, values, elements: Bits::ALL }
+    pub const fn new(offsets: &'a [O], values: &'a [i64]) -> ListOf<'a, O> {
+        ListOf { offsets, rows: Bits::ALL, values, elements: Bits::ALL }
     }
 
     /// How many rows the column has.
@@ -98,23 +102,23 @@ impl<'a> List<'a> {
 
     /// The rows that the column shows, one after another; refused as an operation would refuse the
     /// column, with 13, 1 or 2.
-    pub fn shown(self) -> Result<Rows<'a>, Refusal> {
+    pub fn shown(self) -> Result<RowsOf<'a, O>, Refusal> {
         if self.rows.start > 7 || self.elements.start > 7 {
             return Err(Refusal::BadStartingBit);
         }
         check_offsets(self.offsets, self.values.len())?;
         self.rows.check(self.row_count())?;
         self.elements.check(self.values.len())?;
-        Ok(Rows { list: self, next: 0, end: self.row_count() })
+        Ok(RowsOf { list: self, next: 0, end: self.row_count() })
     }
 }
 
 /// 1 of offsets over so many values, or inner lists.
-fn check_offsets(offsets: &[i32], len: usize) -> Result<(), Refusal> {
+fn check_offsets<O: Offset>(offsets: &[O], len: usize) -> Result<(), Refusal> {
     let falls = offsets.windows(2).any(|pair| pair[1] < pair[0]);
-    let starts_below = offsets.first().is_some_and(|&first| first < 0);
-    let ends_past =
-        offsets.last().is_some_and(|&last| usize::try_from(last).is_ok_and(|last| last > len));
+    let starts_below = offsets.first().is_some_and(|&first| first < O::default());
+    // What is no place here, and not below 0, lies past all of them.
+    let ends_past = offsets.last().is_some_and(|&last| last.place().is_none_or(|last| last > len));
     if falls || starts_below || ends_past {
         return Err(Refusal::BadOffsets);
     }
@@ -122,22 +126,23 @@ fn check_offsets(offsets: &[i32], len: usize) -> Result<(), Refusal> {
 }
 
 /// Where a row lies; the offsets were checked.
-fn bounds(offsets: &[i32], row: usize) -> Option<(usize, usize)> {
-    let from = usize::try_from(*offsets.get(row)?).ok()?;
-    let to = usize::try_from(*offsets.get(row + 1)?).ok()?;
-    Some((from, to))
+fn bounds<O: Offset>(offsets: &[O], row: usize) -> Option<(usize, usize)> {
+    Some((offsets.get(row)?.place()?, offsets.get(row + 1)?.place()?))
 }
 
-/// The rows of a column, or of an outer row: `None` is a null row. Made by [`List::shown`] and
-/// [`OuterRows`].
+/// The rows of a column, or of an outer row: `None` is a null row. Made by [`ListOf::shown`] and
+/// [`OuterRowsOf`].
 #[derive(Clone, Debug)]
-pub struct Rows<'a> {
-    list: List<'a>,
+pub struct RowsOf<'a, O> {
+    list: ListOf<'a, O>,
     next: usize,
     end: usize,
 }
 
-impl<'a> Iterator for Rows<'a> {
+/// The rows of a column with offsets of 32 bits: see [`RowsOf`].
+pub type Rows<'a> = RowsOf<'a, i32>;
+
+impl<'a, O: Offset> Iterator for RowsOf<'a, O> {
     type Item = Option<Elements<'a>>;
 
     fn next(&mut self) -> Option<Self::Item> {
@@ -157,11 +162,11 @@ impl<'a> Iterator for Rows<'a> {
     }
 }
 
-impl ExactSizeIterator for Rows<'_> {}
-impl FusedIterator for Rows<'_> {}
+impl<O: Offset> ExactSizeIterator for RowsOf<'_, O> {}
+impl<O: Offset> FusedIterator for RowsOf<'_, O> {}
 
 /// The elements of a row, or the values of an argument column or a value answer: `None` is a null.
-/// Made by [`Rows`] and [`Values::shown`].
+/// Made by [`RowsOf`] and [`Values::shown`].
 #[derive(Clone, Debug)]
 pub struct Elements<'a> {
     values: &'a [i64],
@@ -233,38 +238,44 @@ impl<'a, const N: usize> From<&'a [i64; N]> for Values<'a> {
 /// A column of lists of lists, which [`list_repeat`](crate::list_repeat) writes. Outer row r is the inner
 /// lists from offset r up to, not including, offset r + 1.
 #[derive(Clone, Copy, Debug, Default)]
-pub struct NestedList<'a> {
+pub struct NestedListOf<'a, O> {
     /// One offset more than outer rows.
-    pub offsets: &'a [i32],
+    pub offsets: &'a [O],
     /// A bit an outer row.
     pub rows: Bits<'a>,
     /// The inner lists of all outer rows, one after another.
-    pub inner: List<'a>,
+    pub inner: ListOf<'a, O>,
 }
 
-impl<'a> NestedList<'a> {
+/// A column of lists of lists with offsets of 32 bits: see [`NestedListOf`].
+pub type NestedList<'a> = NestedListOf<'a, i32>;
+
+impl<'a, O: Offset> NestedListOf<'a, O> {
     /// The outer rows, one after another; refused with 13, 1 or 2 where they, or the inner lists, are
     /// no column.
-    pub fn shown(self) -> Result<OuterRows<'a>, Refusal> {
+    pub fn shown(self) -> Result<OuterRowsOf<'a, O>, Refusal> {
         let end = self.offsets.len().saturating_sub(1);
         self.inner.shown()?;
         check_offsets(self.offsets, self.inner.row_count())?;
         self.rows.check(end)?;
-        Ok(OuterRows { nested: self, next: 0, end })
+        Ok(OuterRowsOf { nested: self, next: 0, end })
     }
 }
 
 /// The outer rows of a column of lists of lists: `None` is a null outer row. Made by
-/// [`NestedList::shown`].
+/// [`NestedListOf::shown`].
 #[derive(Clone, Debug)]
-pub struct OuterRows<'a> {
-    nested: NestedList<'a>,
+pub struct OuterRowsOf<'a, O> {
+    nested: NestedListOf<'a, O>,
     next: usize,
     end: usize,
 }
 
-impl<'a> Iterator for OuterRows<'a> {
-    type Item = Option<Rows<'a>>;
+/// The outer rows of a column with offsets of 32 bits: see [`OuterRowsOf`].
+pub type OuterRows<'a> = OuterRowsOf<'a, i32>;
+
+impl<'a, O: Offset> Iterator for OuterRowsOf<'a, O> {
+    type Item = Option<RowsOf<'a, O>>;
 
     fn next(&mut self) -> Option<Self::Item> {
         let (row, nested) = (self.next, self.nested);
@@ -273,7 +284,7 @@ impl<'a> Iterator for OuterRows<'a> {
         }
         let (next, end) = bounds(nested.offsets, row)?;
         self.next += 1;
-        Some(nested.rows.is_valid(row).then_some(Rows { list: nested.inner, next, end }))
+        Some(nested.rows.is_valid(row).then_some(RowsOf { list: nested.inner, next, end }))
     }
 
     fn size_hint(&self) -> (usize, Option<usize>) {
@@ -282,5 +293,5 @@ impl<'a> Iterator for OuterRows<'a> {
     }
 }
 
-impl ExactSizeIterator for OuterRows<'_> {}
-impl FusedIterator for OuterRows<'_> {}
+impl<O: Offset> ExactSizeIterator for OuterRowsOf<'_, O> {}
+impl<O: Offset> FusedIterator for OuterRowsOf<'_, O> {}

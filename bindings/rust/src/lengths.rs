@@ -1,6 +1,6 @@
 use crate::operations as code;
 use crate::operations::NONE;
-use crate::{raw, List, RecipeInputs, Refusal, Values};
+use crate::{ListOf, Offset, RecipeInputsOf, Refusal, Values};
 
 /// How long the slices of a [`ListOut`](crate::ListOut) must be for a result.
 ///
@@ -86,87 +86,96 @@ pub struct RecipeLimits {
 /// assert_eq!(reverse_lengths(List::new(&[0, 3], &[5, 6])), Err(Refusal::BadOffsets));
 /// # Ok::<(), Refusal>(())
 /// ```
-pub fn reverse_lengths(list: List<'_>) -> Result<ListLengths, Refusal> {
-    raw::list_lengths(code::REVERSE, list, [NONE; 3])
+pub fn reverse_lengths<O: Offset>(list: ListOf<'_, O>) -> Result<ListLengths, Refusal> {
+    O::list_lengths(code::REVERSE, list, [NONE; 3])
 }
 
 /// Tells how much [`distinct`](crate::distinct) needs.
-pub fn distinct_lengths(list: List<'_>) -> Result<ListLengths, Refusal> {
-    raw::list_lengths(code::DISTINCT, list, [NONE; 3])
+pub fn distinct_lengths<O: Offset>(list: ListOf<'_, O>) -> Result<ListLengths, Refusal> {
+    O::list_lengths(code::DISTINCT, list, [NONE; 3])
 }
 
 /// Tells how much [`pop_front`](crate::pop_front) needs.
-pub fn pop_front_lengths(list: List<'_>) -> Result<ListLengths, Refusal> {
-    raw::list_lengths(code::POP_FRONT, list, [NONE; 3])
+pub fn pop_front_lengths<O: Offset>(list: ListOf<'_, O>) -> Result<ListLengths, Refusal> {
+    O::list_lengths(code::POP_FRONT, list, [NONE; 3])
 }
 
 /// Tells how much [`pop_back`](crate::pop_back) needs.
-pub fn pop_back_lengths(list: List<'_>) -> Result<ListLengths, Refusal> {
-    raw::list_lengths(code::POP_BACK, list, [NONE; 3])
+pub fn pop_back_lengths<O: Offset>(list: ListOf<'_, O>) -> Result<ListLengths, Refusal> {
+    O::list_lengths(code::POP_BACK, list, [NONE; 3])
 }
 
 /// Tells how much [`slice`](crate::slice) needs.
-pub fn slice_lengths(
-    list: List<'_>,
+pub fn slice_lengths<O: Offset>(
+    list: ListOf<'_, O>,
     from: Values<'_>,
     to: Values<'_>,
     stride: Option<Values<'_>>,
 ) -> Result<ListLengths, Refusal> {
     match stride {
-        Some(stride) => raw::list_lengths(code::SLICE, list, [from, to, stride]),
-        None => raw::list_lengths(code::SLICE_WITHOUT_STRIDE, list, [from, to, NONE]),
+        Some(stride) => O::list_lengths(code::SLICE, list, [from, to, stride]),
+        None => O::list_lengths(code::SLICE_WITHOUT_STRIDE, list, [from, to, NONE]),
     }
 }
 
 /// Tells how much [`resize`](crate::resize) needs.
-pub fn resize_lengths(
-    list: List<'_>,
+pub fn resize_lengths<O: Offset>(
+    list: ListOf<'_, O>,
     count: Values<'_>,
     fill: Option<Values<'_>>,
 ) -> Result<ListLengths, Refusal> {
     match fill {
-        Some(fill) => raw::list_lengths(code::RESIZE, list, [count, fill, NONE]),
-        None => raw::list_lengths(code::RESIZE_WITHOUT_FILL, list, [count, NONE, NONE]),
+        Some(fill) => O::list_lengths(code::RESIZE, list, [count, fill, NONE]),
+        None => O::list_lengths(code::RESIZE_WITHOUT_FILL, list, [count, NONE, NONE]),
     }
 }
 
 /// Tells how much [`replace`](crate::replace) needs.
-pub fn replace_lengths(
-    list: List<'_>,
+pub fn replace_lengths<O: Offset>(
+    list: ListOf<'_, O>,
     from: Values<'_>,
     to: Values<'_>,
     limit: Values<'_>,
 ) -> Result<ListLengths, Refusal> {
-    raw::list_lengths(code::REPLACE, list, [from, to, limit])
+    O::list_lengths(code::REPLACE, list, [from, to, limit])
 }
 
 /// Tells how much [`remove`](crate::remove) needs.
-pub fn remove_lengths(
-    list: List<'_>,
+pub fn remove_lengths<O: Offset>(
+    list: ListOf<'_, O>,
     element: Values<'_>,
     limit: Values<'_>,
 ) -> Result<ListLengths, Refusal> {
-    raw::list_lengths(code::REMOVE, list, [element, limit, NONE])
+    O::list_lengths(code::REMOVE, list, [element, limit, NONE])
 }
 
 /// Tells how much [`union`](crate::union) needs.
-pub fn union_lengths(left: List<'_>, right: List<'_>) -> Result<ListLengths, Refusal> {
-    raw::lists_lengths(code::UNION, left, right)
+pub fn union_lengths<O: Offset>(
+    left: ListOf<'_, O>,
+    right: ListOf<'_, O>,
+) -> Result<ListLengths, Refusal> {
+    O::lists_lengths(code::UNION, left, right)
 }
 
 /// Tells how much [`intersect`](crate::intersect) needs.
-pub fn intersect_lengths(left: List<'_>, right: List<'_>) -> Result<ListLengths, Refusal> {
-    raw::lists_lengths(code::INTERSECT, left, right)
+pub fn intersect_lengths<O: Offset>(
+    left: ListOf<'_, O>,
+    right: ListOf<'_, O>,
+) -> Result<ListLengths, Refusal> {
+    O::lists_lengths(code::INTERSECT, left, right)
 }
 
 /// Tells how much [`any_value`](crate::any_value) needs.
-pub fn any_value_lengths(list: List<'_>) -> Result<ValueLengths, Refusal> {
-    raw::any_value_lengths(list)
+pub fn any_value_lengths<O: Offset>(list: ListOf<'_, O>) -> Result<ValueLengths, Refusal> {
+    O::any_value_lengths(list)
 }
 
 /// Tells how much [`element`](crate::element) needs.
-pub fn element_lengths(list: List<'_>, index: Values<'_>) -> Result<ValueLengths, Refusal> {
-    raw::element_lengths(list, index)
+pub fn element_lengths<O: Offset>(
+    list: ListOf<'_, O>,
+    index: Values<'_>,
+) -> Result<ValueLengths, Refusal> {
+    O::element_lengths(list, index)
 }
 
 /// Tells how much [`list_repeat`](crate::list_repeat) needs.
@@ -178,8 +187,11 @@ pub fn element_lengths(list: List<'_>, index: Values<'_>) -> Result<ValueLengths
 /// assert_eq!((need.offsets, need.inner_offsets, need.values), (3, 4, 4));
 /// # Ok::<(), duthlan::Refusal>(())
 /// ```
-pub fn list_repeat_lengths(list: List<'_>, times: Values<'_>) -> Result<RepeatLengths, Refusal> {
-    raw::list_repeat_lengths(list, times)
+pub fn list_repeat_lengths<O: Offset>(
+    list: ListOf<'_, O>,
+    times: Values<'_>,
+) -> Result<RepeatLengths, Refusal> {
+    O::list_repeat_lengths(list, times)
 }
 
 /// Tells how many elements at most a recipe makes in each tray and in the output, without running it.
@@ -187,7 +199,7 @@ pub fn list_repeat_lengths(list: List<'_>, times: Values<'_>) -> Result<RepeatLe
 /// It names no station and moves no tally. Refused, as the run would be, by 10, 13, 1, 2 and 3. A run may
 /// still be refused for its rows, but never by 9 where each tray that a step writes, and the output, has
 /// so many values, an offset more than the list has rows, and bitmaps to match. A limit is at most
-/// 2147483647.
+/// 2147483647, of large lists at most 9223372036854775807.
 ///
 /// ```
 /// use duthlan::{recipe_limits, run_recipe, List, ListOut, Recipe, RecipeInputs, RecipeLimits};
@@ -220,9 +232,9 @@ pub fn list_repeat_lengths(list: List<'_>, times: Values<'_>) -> Result<RepeatLe
 /// ```
 ///
 /// With a heap, a tray is `ListBuf::with_room(list.row_count(), limits.one)`.
-pub fn recipe_limits(
+pub fn recipe_limits<O: Offset>(
     recipe: impl AsRef<[u32]>,
-    inputs: RecipeInputs<'_>,
+    inputs: RecipeInputsOf<'_, O>,
 ) -> Result<RecipeLimits, Refusal> {
-    raw::recipe_limits(recipe.as_ref(), inputs)
+    O::recipe_limits(recipe.as_ref(), inputs)
 }

@@ -37,10 +37,12 @@
 //!   [`recipe_limits`] tells how many elements the trays and the output must hold.
 //! - With the feature `std`, which is on by default, [`owned`] has columns in vectors, built from rows
 //!   and read back as rows. Without it the crate is `no_std` and has no heap.
+//! - With the feature `large`, also on by default, [`large`] has all of this for columns with 64-bit
+//!   offsets.
 //!
-//! The crate links `libduthlan.a` from the folder that `DUTHLAN_LIB_DIR` names, by an absolute path, when
-//! the crate is built; or from `target/staticlib` of its repository, where `rt staticlib duthlan` writes
-//! it.
+//! The crate links `libduthlan.a`, and for large lists `libduthlan_large.a`, from the folder that
+//! `DUTHLAN_LIB_DIR` names, by an absolute path, when the crate is built; or from `target/staticlib` of
+//! its repository, where `rt staticlib duthlan` and `rt staticlib duthlan_large` write them.
 
 #![no_std]
 #![deny(missing_docs, unsafe_code)]
@@ -49,7 +51,10 @@
 extern crate std;
 
 mod columns;
+#[cfg(feature = "large")]
+pub mod large;
 mod lengths;
+mod offset;
 mod operations;
 mod outputs;
 #[cfg(feature = "std")]
@@ -60,12 +65,14 @@ mod recipe;
 mod refusal;
 
 pub use columns::{Bits, Elements, List, NestedList, OuterRows, Rows, Values};
+pub use columns::{ListOf, NestedListOf, OuterRowsOf, RowsOf};
 pub use lengths::{
     any_value_lengths, distinct_lengths, element_lengths, intersect_lengths, list_repeat_lengths,
     pop_back_lengths, pop_front_lengths, recipe_limits, remove_lengths, replace_lengths,
     resize_lengths, reverse_lengths, slice_lengths, union_lengths, ListLengths, RecipeLimits,
     RepeatLengths, ValueLengths,
 };
+pub use offset::Offset;
 pub use operations::{
     any_value, distinct, element, intersect, list_repeat, pop_back, pop_front, remove, replace,
     resize, reverse, slice, union,
@@ -73,5 +80,7 @@ pub use operations::{
 pub use outputs::{
     bitmap_bytes, ListCounts, ListOut, RepeatCounts, RepeatOut, ValueCounts, ValueOut,
 };
+pub use outputs::{ListOutOf, RepeatOutOf};
 pub use recipe::{run_recipe, Recipe, RecipeInputs, Tally, Trays};
+pub use recipe::{RecipeInputsOf, TraysOf};
 pub use refusal::Refusal;

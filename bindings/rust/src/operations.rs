@@ -1,5 +1,6 @@
 use crate::{
-    raw, List, ListCounts, ListOut, Refusal, RepeatCounts, RepeatOut, ValueCounts, ValueOut, Values,
+    ListCounts, ListOf, ListOutOf, Offset, Refusal, RepeatCounts, RepeatOutOf, ValueCounts,
+    ValueOut, Values,
 };
 
 // The codes of the operations on one list and on two, which recipes use too, but the last.
@@ -35,23 +36,35 @@ pub(crate) const NONE: Values<'static> = Values { values: &[], valid: crate::Bit
 /// assert_eq!(out.values, [3, 2, 1, 9, 7]);
 /// # Ok::<(), duthlan::Refusal>(())
 /// ```
-pub fn reverse(list: List<'_>, out: &mut ListOut<'_>) -> Result<ListCounts, Refusal> {
-    raw::list(REVERSE, list, [NONE; 3], out)
+pub fn reverse<O: Offset>(
+    list: ListOf<'_, O>,
+    out: &mut ListOutOf<'_, O>,
+) -> Result<ListCounts, Refusal> {
+    O::list(REVERSE, list, [NONE; 3], out)
 }
 
 /// Keeps the first occurrence of each element; null equals null.
-pub fn distinct(list: List<'_>, out: &mut ListOut<'_>) -> Result<ListCounts, Refusal> {
-    raw::list(DISTINCT, list, [NONE; 3], out)
+pub fn distinct<O: Offset>(
+    list: ListOf<'_, O>,
+    out: &mut ListOutOf<'_, O>,
+) -> Result<ListCounts, Refusal> {
+    O::list(DISTINCT, list, [NONE; 3], out)
 }
 
 /// Leaves out the first element of each row.
-pub fn pop_front(list: List<'_>, out: &mut ListOut<'_>) -> Result<ListCounts, Refusal> {
-    raw::list(POP_FRONT, list, [NONE; 3], out)
+pub fn pop_front<O: Offset>(
+    list: ListOf<'_, O>,
+    out: &mut ListOutOf<'_, O>,
+) -> Result<ListCounts, Refusal> {
+    O::list(POP_FRONT, list, [NONE; 3], out)
 }
 
 /// Leaves out the last element of each row.
-pub fn pop_back(list: List<'_>, out: &mut ListOut<'_>) -> Result<ListCounts, Refusal> {
-    raw::list(POP_BACK, list, [NONE; 3], out)
+pub fn pop_back<O: Offset>(
+    list: ListOf<'_, O>,
+    out: &mut ListOutOf<'_, O>,
+) -> Result<ListCounts, Refusal> {
+    O::list(POP_BACK, list, [NONE; 3], out)
 }
 
 /// Takes the places from `from` to `to`, both included, by `stride`.
@@ -77,30 +90,30 @@ pub fn pop_back(list: List<'_>, out: &mut ListOut<'_>) -> Result<ListCounts, Ref
 /// assert_eq!(slice(list, from, to, Some(zero), &mut out), Err(Refusal::ZeroStride));
 /// # Ok::<(), Refusal>(())
 /// ```
-pub fn slice(
-    list: List<'_>,
+pub fn slice<O: Offset>(
+    list: ListOf<'_, O>,
     from: Values<'_>,
     to: Values<'_>,
     stride: Option<Values<'_>>,
-    out: &mut ListOut<'_>,
+    out: &mut ListOutOf<'_, O>,
 ) -> Result<ListCounts, Refusal> {
     match stride {
-        Some(stride) => raw::list(SLICE, list, [from, to, stride], out),
-        None => raw::list(SLICE_WITHOUT_STRIDE, list, [from, to, NONE], out),
+        Some(stride) => O::list(SLICE, list, [from, to, stride], out),
+        None => O::list(SLICE_WITHOUT_STRIDE, list, [from, to, NONE], out),
     }
 }
 
 /// Cuts each row to `count` elements, or fills it up with `fill`, with nulls where that is null or
 /// absent. A null count gives a null row.
-pub fn resize(
-    list: List<'_>,
+pub fn resize<O: Offset>(
+    list: ListOf<'_, O>,
     count: Values<'_>,
     fill: Option<Values<'_>>,
-    out: &mut ListOut<'_>,
+    out: &mut ListOutOf<'_, O>,
 ) -> Result<ListCounts, Refusal> {
     match fill {
-        Some(fill) => raw::list(RESIZE, list, [count, fill, NONE], out),
-        None => raw::list(RESIZE_WITHOUT_FILL, list, [count, NONE, NONE], out),
+        Some(fill) => O::list(RESIZE, list, [count, fill, NONE], out),
+        None => O::list(RESIZE_WITHOUT_FILL, list, [count, NONE, NONE], out),
     }
 }
 
@@ -108,27 +121,27 @@ pub fn resize(
 ///
 /// A null `from` matches nulls, a limit of 0 or less changes nothing, and a null limit gives a null
 /// row. The limit has a value for each row, or one for all.
-pub fn replace(
-    list: List<'_>,
+pub fn replace<O: Offset>(
+    list: ListOf<'_, O>,
     from: Values<'_>,
     to: Values<'_>,
     limit: Values<'_>,
-    out: &mut ListOut<'_>,
+    out: &mut ListOutOf<'_, O>,
 ) -> Result<ListCounts, Refusal> {
-    raw::list(REPLACE, list, [from, to, limit], out)
+    O::list(REPLACE, list, [from, to, limit], out)
 }
 
 /// Leaves out the first `limit` elements equal to `element`.
 ///
 /// A null `element` or limit gives a null row, and a limit of 0 or less changes nothing. The limit has
 /// a value for each row, or one for all.
-pub fn remove(
-    list: List<'_>,
+pub fn remove<O: Offset>(
+    list: ListOf<'_, O>,
     element: Values<'_>,
     limit: Values<'_>,
-    out: &mut ListOut<'_>,
+    out: &mut ListOutOf<'_, O>,
 ) -> Result<ListCounts, Refusal> {
-    raw::list(REMOVE, list, [element, limit, NONE], out)
+    O::list(REMOVE, list, [element, limit, NONE], out)
 }
 
 /// Gives the distinct elements of the left row and then the right. A null row on either side gives a
@@ -147,27 +160,30 @@ pub fn remove(
 /// assert_eq!(out.written(&counts).values, [2, 1, 5]);
 /// # Ok::<(), duthlan::Refusal>(())
 /// ```
-pub fn union(
-    left: List<'_>,
-    right: List<'_>,
-    out: &mut ListOut<'_>,
+pub fn union<O: Offset>(
+    left: ListOf<'_, O>,
+    right: ListOf<'_, O>,
+    out: &mut ListOutOf<'_, O>,
 ) -> Result<ListCounts, Refusal> {
-    raw::lists(UNION, left, right, out)
+    O::lists(UNION, left, right, out)
 }
 
 /// Gives each common element once, in the order of the longer row, the left one where they are
 /// equally long. A null row on either side gives a null row.
-pub fn intersect(
-    left: List<'_>,
-    right: List<'_>,
-    out: &mut ListOut<'_>,
+pub fn intersect<O: Offset>(
+    left: ListOf<'_, O>,
+    right: ListOf<'_, O>,
+    out: &mut ListOutOf<'_, O>,
 ) -> Result<ListCounts, Refusal> {
-    raw::lists(INTERSECT, left, right, out)
+    O::lists(INTERSECT, left, right, out)
 }
 
 /// Gives the first valid element of each row, or null.
-pub fn any_value(list: List<'_>, out: &mut ValueOut<'_>) -> Result<ValueCounts, Refusal> {
-    raw::any_value(list, out)
+pub fn any_value<O: Offset>(
+    list: ListOf<'_, O>,
+    out: &mut ValueOut<'_>,
+) -> Result<ValueCounts, Refusal> {
+    O::any_value(list, out)
 }
 
 /// Gives the element of each row at `index`: 1 is the first, -1 the last, and 0 or outside gives null.
@@ -180,12 +196,12 @@ pub fn any_value(list: List<'_>, out: &mut ValueOut<'_>) -> Result<ValueCounts, 
 /// assert!(out.written(&counts).shown()?.eq([Some(30), None]));
 /// # Ok::<(), duthlan::Refusal>(())
 /// ```
-pub fn element(
-    list: List<'_>,
+pub fn element<O: Offset>(
+    list: ListOf<'_, O>,
     index: Values<'_>,
     out: &mut ValueOut<'_>,
 ) -> Result<ValueCounts, Refusal> {
-    raw::element(list, index, out)
+    O::element(list, index, out)
 }
 
 /// Repeats each list `times` times in an outer row; a null count gives a null outer row, 0 or less an
@@ -207,10 +223,10 @@ pub fn element(
 /// assert_eq!((repeated.offsets, repeated.inner.offsets), (&[0, 2, 3][..], &[0, 1, 2, 4][..]));
 /// # Ok::<(), duthlan::Refusal>(())
 /// ```
-pub fn list_repeat(
-    list: List<'_>,
+pub fn list_repeat<O: Offset>(
+    list: ListOf<'_, O>,
     times: Values<'_>,
-    out: &mut RepeatOut<'_>,
+    out: &mut RepeatOutOf<'_, O>,
 ) -> Result<RepeatCounts, Refusal> {
-    raw::list_repeat(list, times, out)
+    O::list_repeat(list, times, out)
 }

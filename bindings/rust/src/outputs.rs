@@ -1,4 +1,4 @@
-use crate::{Bits, List, NestedList, Values};
+use crate::{Bits, ListOf, NestedListOf, Values};
 
 /// The bytes of a bitmap of `bits` bits.
 pub const fn bitmap_bytes(bits: usize) -> usize {
@@ -14,7 +14,7 @@ fn front<T>(slice: &[T], n: u64) -> &[T] {
 }
 
 /// The offsets and the bitmap of the first `n` rows.
-fn front_rows<'a>(offsets: &'a [i32], rows: &'a [u8], n: u64) -> (&'a [i32], Bits<'a>) {
+fn front_rows<'a, O>(offsets: &'a [O], rows: &'a [u8], n: u64) -> (&'a [O], Bits<'a>) {
     (front(offsets, n.saturating_add(1)), Bits::from(front(rows, n.div_ceil(8))))
 }
 
@@ -24,11 +24,12 @@ fn front_values<'a>(values: &'a [i64], bits: &'a [u8], n: u64) -> Values<'a> {
 }
 
 /// A column of the front parts of its slices.
-fn list<'a>((offsets, rows): (&'a [i32], Bits<'a>), elements: Values<'a>) -> List<'a> {
-    List { offsets, rows, values: elements.values, elements: elements.valid }
+fn list<'a, O>((offsets, rows): (&'a [O], Bits<'a>), elements: Values<'a>) -> ListOf<'a, O> {
+    ListOf { offsets, rows, values: elements.values, elements: elements.valid }
 }
 
-/// Room for a list column, as an output or as a tray of a recipe.
+/// Room for a list column, as an output or as a tray of a recipe, with offsets of 32 bits
+/// ([`ListOut`]) or of 64 ([`large::ListOut`](crate::large::ListOut)).
 ///
 /// A result takes rows + 1 offsets, a bit a row, its elements and a bit an element; less room is
 /// refused by 9, and [`ListLengths`](crate::ListLengths) says how to ask first. It begins at offset 0,
@@ -50,10 +51,10 @@ fn list<'a>((offsets, rows): (&'a [i32], Bits<'a>), elements: Values<'a>) -> Lis
 /// };
 /// reverse(list, &mut out);
 /// ```
-#[derive(Debug, Default)]
-pub struct ListOut<'a> {
+#[derive(Debug)]
+pub struct ListOutOf<'a, O> {
     /// One offset more than rows.
-    pub offsets: &'a mut [i32],
+    pub offsets: &'a mut [O],
     /// A bit a row.
     pub rows: &'a mut [u8],
     /// The elements.
@@ -62,9 +63,19 @@ pub struct ListOut<'a> {
     pub elements: &'a mut [u8],
 }
 
-impl ListOut<'_> {
+/// Room for a list column with offsets of 32 bits: see [`ListOutOf`].
+pub type ListOut<'a> = ListOutOf<'a, i32>;
+
+/// No room.
+impl<O> Default for ListOutOf<'_, O> {
+    fn default() -> Self {
+        ListOutOf { offsets: &mut [], rows: &mut [], values: &mut [], elements: &mut [] }
+    }
+}
+
+impl<O> ListOutOf<'_, O> {
     /// The result that an accepted call wrote here, as a column to read or to lend on.
-    pub fn written(&self, counts: &ListCounts) -> List<'_> {
+    pub fn written(&self, counts: &ListCounts) -> ListOf<'_, O> {
         list(
             front_rows(self.offsets, self.rows, counts.rows),
             front_values(self.values, self.elements, counts.elements),
@@ -111,14 +122,14 @@ pub struct ValueCounts {
 }
 
 /// Room for a column of lists of lists, which [`list_repeat`](crate::list_repeat) makes.
-#[derive(Debug, Default)]
-pub struct RepeatOut<'a> {
+#[derive(Debug)]
+pub struct RepeatOutOf<'a, O> {
     /// One offset more than outer rows; they count inner lists.
-    pub offsets: &'a mut [i32],
+    pub offsets: &'a mut [O],
     /// A bit an outer row.
     pub rows: &'a mut [u8],
     /// One offset more than inner lists; they count values.
-    pub inner_offsets: &'a mut [i32],
+    pub inner_offsets: &'a mut [O],
     /// A bit an inner list.
     pub inner_rows: &'a mut [u8],
     /// The values.
@@ -127,15 +138,32 @@ pub struct RepeatOut<'a> {
     pub elements: &'a mut [u8],
 }
 
-impl RepeatOut<'_> {
+/// Room for a column of lists of lists with offsets of 32 bits: see [`RepeatOutOf`].
+pub type RepeatOut<'a> = RepeatOutOf<'a, i32>;
+
+/// No room.
+impl<O> Default for RepeatOutOf<'_, O> {
+    fn default() -> Self {
+        RepeatOutOf {
+            offsets: &mut [],
+            rows: &mut [],
+            inner_offsets: &mut [],
+            inner_rows: &mut [],
+            values: &mut [],
+            elements: &mut [],
+        }
+    }
+}
+
+impl<O> RepeatOutOf<'_, O> {
     /// The result that an accepted call wrote here.
-    pub fn written(&self, counts: &RepeatCounts) -> NestedList<'_> {
+    pub fn written(&self, counts: &RepeatCounts) -> NestedListOf<'_, O> {
         let (offsets, rows) = front_rows(self.offsets, self.rows, counts.rows);
         let inner = list(
             front_rows(self.inner_offsets, self.inner_rows, counts.inner_rows),
             front_values(self.values, self.elements, counts.elements),
         );
-        NestedList { offsets, rows, inner }
+        NestedListOf { offsets, rows, inner }
     }
 }
 

@@ -1,8 +1,8 @@
 //! Columns and room for results in vectors, for programs that have a heap.
 
 use crate::{
-    bitmap_bytes, Bits, List, ListLengths, ListOut, NestedList, Refusal, RepeatLengths, RepeatOut,
-    Rows, ValueLengths, ValueOut, Values,
+    bitmap_bytes, Bits, ListLengths, ListOf, ListOutOf, NestedListOf, Offset, Refusal,
+    RepeatLengths, RepeatOutOf, RowsOf, ValueLengths, ValueOut, Values,
 };
 use std::vec;
 use std::vec::Vec;
@@ -13,19 +13,19 @@ pub type Row = Option<Vec<Option<i64>>>;
 /// An outer row that [`list_repeat`](crate::list_repeat) makes: `None` is a null outer row.
 pub type OuterRow = Option<Vec<Row>>;
 
-fn copied(rows: Rows<'_>) -> Vec<Row> {
+fn copied<O: Offset>(rows: RowsOf<'_, O>) -> Vec<Row> {
     rows.map(|row| row.map(Iterator::collect)).collect()
 }
 
-impl List<'_> {
-    /// The rows that the column shows, copied; refused as by [`List::shown`].
+impl<O: Offset> ListOf<'_, O> {
+    /// The rows that the column shows, copied; refused as by [`ListOf::shown`].
     pub fn to_rows(self) -> Result<Vec<Row>, Refusal> {
         self.shown().map(copied)
     }
 }
 
-impl NestedList<'_> {
-    /// The outer rows, copied; refused as by [`NestedList::shown`].
+impl<O: Offset> NestedListOf<'_, O> {
+    /// The outer rows, copied; refused as by [`NestedListOf::shown`].
     pub fn to_rows(self) -> Result<Vec<OuterRow>, Refusal> {
         Ok(self.shown()?.map(|row| row.map(copied)).collect())
     }
@@ -60,9 +60,9 @@ fn bitmap(bits: impl ExactSizeIterator<Item = bool>) -> Vec<u8> {
 /// # Ok::<(), duthlan::Refusal>(())
 /// ```
 #[derive(Clone, Debug, Default)]
-pub struct ListBuf {
+pub struct ListBufOf<O> {
     /// One offset more than rows.
-    pub offsets: Vec<i32>,
+    pub offsets: Vec<O>,
     /// A bit a row.
     pub rows: Vec<u8>,
     /// The values.
@@ -71,18 +71,21 @@ pub struct ListBuf {
     pub elements: Vec<u8>,
 }
 
-impl ListBuf {
-    /// A column that shows these rows, in result form; refused by 8 where they have more than
-    /// 2147483647 elements.
-    pub fn from_rows(rows: &[Row]) -> Result<ListBuf, Refusal> {
-        let mut offsets = vec![0];
+/// A list column in vectors, with offsets of 32 bits: see [`ListBufOf`].
+pub type ListBuf = ListBufOf<i32>;
+
+impl<O: Offset> ListBufOf<O> {
+    /// A column that shows these rows, in result form; refused by 8 where they have more elements than
+    /// the largest offset.
+    pub fn from_rows(rows: &[Row]) -> Result<ListBufOf<O>, Refusal> {
+        let mut offsets = vec![O::default()];
         let mut cells = Vec::new();
         for row in rows {
             cells.extend(row.iter().flatten());
-            offsets.push(i32::try_from(cells.len()).map_err(|_| Refusal::TooMany)?);
+            offsets.push(O::of_place(cells.len()).ok_or(Refusal::TooMany)?);
         }
         let ValuesBuf { values, valid } = ValuesBuf::from_values(&cells);
-        Ok(ListBuf {
+        Ok(ListBufOf {
             offsets,
             rows: bitmap(rows.iter().map(Option::is_some)),
             values,
@@ -91,9 +94,9 @@ impl ListBuf {
     }
 
     /// Room for a result of so many rows and elements.
-    pub fn with_room(rows: usize, elements: usize) -> ListBuf {
-        ListBuf {
-            offsets: vec![0; rows + 1],
+    pub fn with_room(rows: usize, elements: usize) -> ListBufOf<O> {
+        ListBufOf {
+            offsets: vec![O::default(); rows + 1],
             rows: vec![0; bitmap_bytes(rows)],
             values: vec![0; elements],
             elements: vec![0; bitmap_bytes(elements)],
@@ -112,9 +115,9 @@ impl ListBuf {
     /// assert_eq!(room.list().to_rows()?, [Some(vec![Some(5), None, None]), None]);
     /// # Ok::<(), duthlan::Refusal>(())
     /// ```
-    pub fn for_lengths(lengths: ListLengths) -> ListBuf {
-        ListBuf {
-            offsets: vec![0; lengths.offsets],
+    pub fn for_lengths(lengths: ListLengths) -> ListBufOf<O> {
+        ListBufOf {
+            offsets: vec![O::default(); lengths.offsets],
             rows: vec![0; lengths.row_bytes],
             values: vec![0; lengths.values],
             elements: vec![0; lengths.element_bytes],
@@ -122,8 +125,8 @@ impl ListBuf {
     }
 
     /// The column, to lend to a call.
-    pub fn list(&self) -> List<'_> {
-        List {
+    pub fn list(&self) -> ListOf<'_, O> {
+        ListOf {
             offsets: &self.offsets,
             rows: Bits::from(&self.rows[..]),
             values: &self.values,
@@ -132,8 +135,8 @@ impl ListBuf {
     }
 
     /// The room, to lend to a call and to read its result from.
-    pub fn out(&mut self) -> ListOut<'_> {
-        ListOut {
+    pub fn out(&mut self) -> ListOutOf<'_, O> {
+        ListOutOf {
             offsets: &mut self.offsets,
             rows: &mut self.rows,
             values: &mut self.values,
@@ -193,32 +196,35 @@ impl ValuesBuf {
 
 /// Room in vectors for what [`list_repeat`](crate::list_repeat) makes.
 #[derive(Clone, Debug, Default)]
-pub struct RepeatBuf {
+pub struct RepeatBufOf<O> {
     /// One offset more than outer rows.
-    pub offsets: Vec<i32>,
+    pub offsets: Vec<O>,
     /// A bit an outer row.
     pub rows: Vec<u8>,
     /// The inner lists.
-    pub inner: ListBuf,
+    pub inner: ListBufOf<O>,
 }
 
-impl RepeatBuf {
+/// Room for what list-repeat makes, with offsets of 32 bits: see [`RepeatBufOf`].
+pub type RepeatBuf = RepeatBufOf<i32>;
+
+impl<O: Offset> RepeatBufOf<O> {
     /// Room for a result of so many outer rows, inner lists and values.
-    pub fn with_room(rows: usize, inner_rows: usize, elements: usize) -> RepeatBuf {
-        RepeatBuf {
-            offsets: vec![0; rows + 1],
+    pub fn with_room(rows: usize, inner_rows: usize, elements: usize) -> RepeatBufOf<O> {
+        RepeatBufOf {
+            offsets: vec![O::default(); rows + 1],
             rows: vec![0; bitmap_bytes(rows)],
-            inner: ListBuf::with_room(inner_rows, elements),
+            inner: ListBufOf::with_room(inner_rows, elements),
         }
     }
 
     /// Room of just these lengths, as [`list_repeat_lengths`](crate::list_repeat_lengths) told them.
-    pub fn for_lengths(lengths: RepeatLengths) -> RepeatBuf {
-        RepeatBuf {
-            offsets: vec![0; lengths.offsets],
+    pub fn for_lengths(lengths: RepeatLengths) -> RepeatBufOf<O> {
+        RepeatBufOf {
+            offsets: vec![O::default(); lengths.offsets],
             rows: vec![0; lengths.row_bytes],
-            inner: ListBuf {
-                offsets: vec![0; lengths.inner_offsets],
+            inner: ListBufOf {
+                offsets: vec![O::default(); lengths.inner_offsets],
                 rows: vec![0; lengths.inner_row_bytes],
                 values: vec![0; lengths.values],
                 elements: vec![0; lengths.element_bytes],
@@ -227,8 +233,8 @@ impl RepeatBuf {
     }
 
     /// The room, to lend to a call and to read its result from.
-    pub fn out(&mut self) -> RepeatOut<'_> {
-        RepeatOut {
+    pub fn out(&mut self) -> RepeatOutOf<'_, O> {
+        RepeatOutOf {
             offsets: &mut self.offsets,
             rows: &mut self.rows,
             inner_offsets: &mut self.inner.offsets,

@@ -1,11 +1,11 @@
 use crate::operations as code;
-use crate::{raw, List, ListCounts, ListOut, Refusal, Values};
+use crate::{ListCounts, ListOf, ListOutOf, Offset, Refusal, Values};
 use core::fmt;
 
 /// A chain of up to 32 list operations, built step by step without a heap.
 ///
 /// A step names its argument columns by their numbers, counted from 0, in the order in which
-/// [`RecipeInputs::arguments`] holds them; several steps may use one column.
+/// [`RecipeInputsOf::arguments`] holds them; several steps may use one column.
 ///
 /// ```
 /// use duthlan::Recipe;
@@ -123,27 +123,40 @@ impl fmt::Debug for Recipe {
 
 /// What a recipe works on.
 #[derive(Clone, Copy, Debug, Default)]
-pub struct RecipeInputs<'a> {
+pub struct RecipeInputsOf<'a, O> {
     /// The list that the first step takes.
-    pub list: List<'a>,
+    pub list: ListOf<'a, O>,
     /// The right side of union and intersect. It always has as many rows as `list`; where no step
     /// uses it, `list` itself will do.
-    pub second: List<'a>,
+    pub second: ListOf<'a, O>,
     /// How many argument columns there are, 0 to 8.
     pub columns: usize,
     /// The argument columns, one after another: row r of column k, of n rows, is value k * n + r.
     pub arguments: Values<'a>,
 }
 
+/// What a recipe works on, with offsets of 32 bits: see [`RecipeInputsOf`].
+pub type RecipeInputs<'a> = RecipeInputsOf<'a, i32>;
+
 /// Room for what the steps of a recipe hand on: steps 1, 3, 5.. write tray one, 2, 4, 6.. tray two,
 /// and the last the output, so that a recipe of one step needs no room. Both trays are all zero after
 /// every call.
-#[derive(Debug, Default)]
-pub struct Trays<'a> {
+#[derive(Debug)]
+pub struct TraysOf<'a, O> {
     /// What the first step writes, where a second follows.
-    pub one: ListOut<'a>,
+    pub one: ListOutOf<'a, O>,
     /// What the second step writes, where a third follows.
-    pub two: ListOut<'a>,
+    pub two: ListOutOf<'a, O>,
+}
+
+/// The trays of a recipe with offsets of 32 bits: see [`TraysOf`].
+pub type Trays<'a> = TraysOf<'a, i32>;
+
+/// No room.
+impl<O> Default for TraysOf<'_, O> {
+    fn default() -> Self {
+        TraysOf { one: ListOutOf::default(), two: ListOutOf::default() }
+    }
 }
 
 /// Recipes finished and refused, a count for each of the stations 0 to 15. Each count stops at its
@@ -192,18 +205,18 @@ pub struct Tally {
 /// assert_eq!(tally.finished[2], 1);
 /// # Ok::<(), duthlan::Refusal>(())
 /// ```
-pub fn run_recipe(
+pub fn run_recipe<O: Offset>(
     station: u32,
     recipe: impl AsRef<[u32]>,
-    inputs: RecipeInputs<'_>,
-    trays: &mut Trays<'_>,
-    out: &mut ListOut<'_>,
+    inputs: RecipeInputsOf<'_, O>,
+    trays: &mut TraysOf<'_, O>,
+    out: &mut ListOutOf<'_, O>,
     tally: &mut Tally,
 ) -> Result<ListCounts, Refusal> {
     let mut counts = [0; 32];
     counts[..16].copy_from_slice(&tally.finished);
     counts[16..].copy_from_slice(&tally.refused);
-    let answer = raw::recipe(station, recipe.as_ref(), inputs, trays, out, &mut counts);
+    let answer = O::recipe(station, recipe.as_ref(), inputs, trays, out, &mut counts);
     tally.finished.copy_from_slice(&counts[..16]);
     tally.refused.copy_from_slice(&counts[16..]);
     answer

@@ -15,15 +15,17 @@ pub enum Refusal {
     /// 3: two columns have different numbers of rows, or a recipe's arguments are not columns times
     /// rows. The limit of replace and remove may also have one row, used for all.
     RowCountsDiffer,
-    /// 4: an index or a bound does not fit 32 signed bits.
+    /// 4: an index or a bound does not fit 32 signed bits; never of large lists.
     WideIndex,
     /// 5: the stride is 0 where both bounds fall in the row.
     ZeroStride,
-    /// 6: the stride does not fit 32 signed bits where its direction suits the bounds.
+    /// 6: the stride does not fit 32 signed bits where its direction suits the bounds; never of large
+    /// lists.
     WideStride,
     /// 7: resize has a negative count.
     NegativeCount,
-    /// 8: the result would have more than 2147483647 elements or outer lists.
+    /// 8: the result would have more than 2147483647 elements or outer lists, or of large lists more
+    /// than these may have.
     TooMany,
     /// 9: an output, or a tray that a step writes, is too short for the result.
     ShortOutput,
@@ -94,7 +96,7 @@ impl fmt::Display for Refusal {
             Refusal::ZeroStride => "a stride of 0 where both bounds fall in the row",
             Refusal::WideStride => "a stride that does not fit 32 signed bits",
             Refusal::NegativeCount => "a negative count",
-            Refusal::TooMany => "a result of more than 2147483647 elements or lists",
+            Refusal::TooMany => "a result of more elements or lists than its offsets may count",
             Refusal::ShortOutput => "an output or a tray too short for the result",
             Refusal::MalformedRecipe => "a malformed recipe",
             Refusal::BadStartingBit => "a starting bit over 7",

@@ -6,6 +6,7 @@ use lib.Dec.{ltb, eqb}
 use lib.ListN.{length}
 use Rattle.model.specs.Basics.{pick}
 use Rattle.model.specs.Bitmap.{Bits, validAt}
+use Rattle.model.specs.Limits.{Limits}
 use Rattle.model.specs.Column.{Elem, nul, val, Arguments, elemAt, refusal2ᵃ}
 use Rattle.bitmap.specs.Push.{Covers}
 use Rattle.rows.specs.declared.Cell.{Cell}
@@ -27,9 +28,9 @@ unfoldable pub takenAt : Bool → Bool → Arguments → ℕ → Cell
 takenAt on limit a r = pick on (cellOf (elemAt (a .values) (a .bits) (placeIn limit (length (a .values)) r))) C.Null
 
 -- what the operation does to row r of len elements
-unfoldable pub opAt : ListOp → Bits → Arguments → Arguments → Arguments → ℕ → ℕ → RowOp
-opAt op rb x y z r len =
-    rowOpOf op (validAt rb r) len (takenAt (ltb 0 (takesOf op)) false x r) (takenAt (ltb 1 (takesOf op)) (secondLimit op) y r) (takenAt (ltb 2 (takesOf op)) (thirdLimit op) z r)
+unfoldable pub opAt : Limits → ListOp → Bits → Arguments → Arguments → Arguments → ℕ → ℕ → RowOp
+opAt L op rb x y z r len =
+    rowOpOf L op (validAt rb r) len (takenAt (ltb 0 (takesOf op)) false x r) (takenAt (ltb 1 (takesOf op)) (secondLimit op) y r) (takenAt (ltb 2 (takesOf op)) (thirdLimit op) z r)
 
 -- a column with an argument for each of n rows
 pub record Serves (limit : Bool) (n : ℕ) (a : Arguments) : Type 0 where

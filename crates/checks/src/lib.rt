@@ -1,12 +1,13 @@
 // The refusals that every operation starts with, and the last one. An inner crate: its callers meet what it asks.
-use column::offsets;
+use column::widths;
 use model::ListLengths;
 use model::ValueLengths;
+use model::Width;
 ghost use Prim.Native.Nat.{_<_};
 ghost use Rattle.model.specs.Asked.{askedList, askedValues};
 ghost use Rattle.model.specs.Contract.{room, valueRoom};
 ghost use Rattle.model.specs.Form.{fitsIn, fitsValues};
-ghost use Rattle.model.specs.Inner.{lentFrom};
+ghost use Rattle.model.specs.Inner.{lentAt};
 ghost use Rattle.model.specs.Lengths.{roomFor, valueRoomFor};
 ghost use Rattle.model.specs.Limits.{largest};
 ghost use Rattle.model.specs.Outcome.{columnsRefusal, made};
@@ -33,16 +34,18 @@ pub fn list_refusal(
     values: &[i64],
     elements: &[u8],
     estart: usize,
+    width: Width,
+    large: &[i64],
 ) -> u8
-    ensures { λ k. ⌜ k ≡ columnsRefusal (lentFrom offsets rows rstart values elements estart ∷ []) [] ⌝ }
+    ensures { λ k. ⌜ k ≡ columnsRefusal (lentAt width offsets large rows rstart values elements estart ∷ []) [] ⌝ }
 {
     if is_start_over(rstart, estart) {
         return 13;
     }
-    if offsets::are_bad(offsets, values.len()) {
+    if widths::are_bad(width, offsets, large, values.len()) {
         return 1;
     }
-    if bitmap::is_short(rows, rstart, offsets::row_count(offsets)) {
+    if bitmap::is_short(rows, rstart, widths::row_count(width, offsets, large)) {
         return 2;
     }
     if bitmap::is_short(elements, estart, values.len()) {

@@ -1,6 +1,7 @@
 -- Demand 3 over the typed C entries, those of `duthlan`: where the number that one returned is not 100, the entry's own, what it returned and
 -- wrote are the numbers of what the call ends in. Calls on well-formed columns that are alike end in one thing (`one-end`), so two such calls
--- of an entry return one number and write the same (`same-list`, `same-value`, `same-repeat`, `same-recipe`).
+-- of an entry return one number and write the same (`same-list`, `same-value`, `same-repeat`, `same-recipe`). L is the limits of the width:
+-- Large.antt has the entries of `duthlan_large`.
 use Prim.Native.Nat.{ℕ}
 use mathlib.Core.Path.{_≡_, refl, sym, ap, _∙_}
 use mathlib.Core.Bool.{Bool, true, false}
@@ -12,13 +13,13 @@ use denote.Ref.{now}
 use Rattle.model.specs.Basics.{pick, Lent, given}
 use Rattle.model.specs.Column.{Elem, Row, Column, Arguments}
 use Rattle.model.specs.Form.{Room, ValueRoom, RepeatRoom, Outer}
-use Rattle.model.specs.Limits.{narrow}
+use Rattle.model.specs.Limits.{Limits, narrow}
 use Rattle.model.specs.Rows.{setOp, onLent}
 use Rattle.model.specs.Outcome.{Outcome, refused, made, gate, listOutcome, anyValueOutcome, elementOutcome, repeatOutcome}
-use Rattle.model.specs.Recipe.{recipeOutcome, stationed}
+use Rattle.model.specs.Recipe.{Recipe, recipeOutcome, stationed}
 use Rattle.model.specs.Tally.{Tally, moved}
 use Rattle.model.specs.Call.{Call, End, tallyTaken, moveIn, list, anyValue, element, listRepeat, recipe, end, listEnd, valueEnd, repeatEnd, recipeEnd, listNumbers, listBitmaps, answerOf, written}
-use Rattle.model.specs.Contract.{Slice, repeatRoomOf}
+use Rattle.model.specs.Contract.{Slice, Clears, repeatRoomOf}
 use Rattle.model.specs.declared.SetOp.{SetOp}
 use Rattle.model.proofs.Stations.{end-moves}
 use Rattle.ops.specs.Ops.{callOf}
@@ -27,15 +28,15 @@ use Rattle.entry.specs.Entry.{numberOf}
 use Rattle.entry.specs.Inner.{numberIn, countsIn}
 use Rattle.entry_codes.specs.Calls.{oneOf, oneCall, setOf, setCall}
 use Rattle.recipes.specs.Recipes.{recipe as recipeOf}
-use Rattle.typed.specs.Typed.{served, TypedList, TypedValues, TypedRepeat}
-use Rattle.typed.specs.Tallies.{tallyAt, withTally, tallyAfter}
+use Rattle.typed.specs.Typed.{served, TypedList, TypedValues, TypedRepeat, ListServed, ValueServed, RepeatServed}
+use Rattle.typed.specs.Tallies.{tallyAt, withTally, tallyAfter, RecipeServed}
 use Rattle.typed.proofs.ReadBack.{read-back}
 use Rattle.duthlan.proofs.duthlan_typed_list.Reads as OneList
 use Rattle.duthlan.proofs.duthlan_typed_lists.Reads as TwoLists
 use Rattle.duthlan.proofs.duthlan_typed_any_value.Reads as AnyValue
 use Rattle.duthlan.proofs.duthlan_typed_element.Reads as Element
 use Rattle.duthlan.proofs.duthlan_typed_list_repeat.Reads as ListRepeat
-use Rattle.duthlan.proofs.duthlan_typed_recipe.Reads as Recipe
+use Rattle.duthlan.proofs.duthlan_typed_recipe.Reads as Recipes
 use Rattle.claims.specs.Slots.{Slices, Pair, LentList, LentValues, listLent, valuesLent, slicesRoom, pairRoom, entry4, exit4, entry2, exit2, entry6, exit6, entry3, exit3}
 use Rattle.claims.specs.Numbers.{Holds, numbersIn, bitmapIn, AnswerTyped, ListTyped, ValueTyped, RepeatTyped, tallyOver, RecipeTyped}
 
@@ -113,57 +114,89 @@ list-served s b o c f e h =
     let g = rw e at h in
     list-typed (f (slicesRoom o)) o c (rw (was-served f (slicesRoom o) s b (g .number)) at g)
 
--- ---- the entries: c and d are the lists lent, x, y and z the argument columns, o the output, cs the counts, n the number returned
+-- ---- what the contracts of the entries come to, at the width of L: c and d are the lists lent, x, y and z the argument columns, o the output,
+-- cs the counts, n the number returned, k the operation that the code names
 
--- k is the operation that the code names
+module _ (L : Limits) {n : ℕ} (s : n ≡ 100 → ⊥) (c : LentList) (cs : Slice ℕ) where
+  pub one-typed : (op : ℕ) (x y z : LentValues) (o : Slices) (k : ListOp)
+      → ListServed (oneCall L op (listLent c) (valuesLent x) (valuesLent y) (valuesLent z)) n (o .offsets) (o .rows) (o .values) (o .elements) cs
+      → oneOf op ≡ given k → ListTyped (end L (list (callOf k (listLent c) (valuesLent x) (valuesLent y) (valuesLent z)) (slicesRoom o))) n o cs
+  unfolding end oneCall
+  one-typed op x y z o k h e = list-served s _ o cs _ (names (λ j. listOutcome L (callOf j (listLent c) (valuesLent x) (valuesLent y) (valuesLent z))) e) h
+
+  pub two-typed : (op : ℕ) (d : LentList) (o : Slices) (k : SetOp)
+      → ListServed (setCall L op (listLent c) (listLent d)) n (o .offsets) (o .rows) (o .values) (o .elements) cs
+      → setOf op ≡ given k → ListTyped (end L (list (setOp k (listLent c) (listLent d)) (slicesRoom o))) n o cs
+  unfolding end setCall
+  two-typed op d o k h e = list-served s _ o cs _ (names (λ j. listOutcome L (setOp j (listLent c) (listLent d))) e) h
+
+  pub any-typed : (o : Pair) → ValueServed (anyValueOutcome (listLent c)) n (o .values) (o .bits) cs → ValueTyped (end L (anyValue (listLent c) (pairRoom o))) n o cs
+  unfolding end
+  any-typed o h = value-typed _ o cs (rw (was-served (anyValueOutcome (listLent c)) (pairRoom o) s _ (h .number)) at h)
+
+  pub element-typed : (x : LentValues) (o : Pair) → ValueServed (elementOutcome L (listLent c) (valuesLent x)) n (o .values) (o .bits) cs
+      → ValueTyped (end L (element (listLent c) (valuesLent x) (pairRoom o))) n o cs
+  unfolding end
+  element-typed x o h = value-typed _ o cs (rw (was-served (elementOutcome L (listLent c) (valuesLent x)) (pairRoom o) s _ (h .number)) at h)
+
+  -- p is the output's outer lists
+  pub repeats-typed : (x : LentValues) (p : Pair) (o : Slices)
+      → RepeatServed (repeatOutcome L (listLent c) (valuesLent x)) n (p .values) (p .bits) (o .offsets) (o .rows) (o .values) (o .elements) cs
+      → RepeatTyped (end L (listRepeat (listLent c) (valuesLent x) (repeatRoomOf (p .values) (p .bits) (o .offsets) (o .rows) (o .values) (o .elements)))) n p o cs
+  unfolding end
+  repeats-typed x p o h =
+      repeat-typed _ p o cs
+      (rw (was-served (repeatOutcome L (listLent c) (valuesLent x)) (repeatRoomOf (p .values) (p .bits) (o .offsets) (o .rows) (o .values) (o .elements)) s _ (h .number)) at h)
+
+  -- t is the station, p the recipe, l and m are the trays, u the tally
+  pub recipe-typed : (t : ℕ) (p : Recipe) (d : LentList) (x : LentValues) (l m o : Slices) (u : Slice ℕ)
+      → RecipeServed t (λ r. stationed t (recipeOutcome L p (listLent c) (listLent d) (valuesLent x) (slicesRoom l) (slicesRoom m) r)) n (o .offsets) (o .rows) (o .values) (o .elements) cs u
+      → Clears (l .offsets) (l .rows) (l .values) (l .elements) → Clears (m .offsets) (m .rows) (m .values) (m .elements)
+      → RecipeTyped (end L (recipe t p (listLent c) (listLent d) (valuesLent x) (slicesRoom l) (slicesRoom m) (slicesRoom o) (tallyAt (now (u .entry))))) n l m o cs u
+  unfolding end recipeEnd listEnd tallyOver tallyAfter
+  recipe-typed t p d x l m o u h y z =
+      let f : Room → Outcome (List Row) = λ r. stationed t (recipeOutcome L p (listLent c) (listLent d) (valuesLent x) (slicesRoom l) (slicesRoom m) r) in
+      let a = list-served s _ o cs f refl (h .list) in
+      record {
+        answer = record { answer = record { number = a .answer .number; counts = a .answer .counts }; offsets = a .offsets; rows = a .rows; values = a .values; elements = a .elements };
+        one = y;
+        two = z;
+        tally = rw (long f (slicesRoom o) s _ (h .list .number)) at (h .tally);
+      }
+
+-- ---- the entries of `duthlan`
+
 pub one-list : (κs : Lfts 15) (op op′ : ℕ) (c : LentList) (x y z : LentValues) (o : Slices) (cs : Slice ℕ) (n : ℕ) (k : ListOp)
     → OneList.Post κs (op, entry6 c (entry3 x (entry3 y (entry3 z (entry4 o (cs .entry, tt)))))) n (op′, exit6 c (exit3 x (exit3 y (exit3 z (exit4 o (cs .exit, tt))))))
     → (n ≡ 100 → ⊥) → oneOf op ≡ given k → ListTyped (end narrow (list (callOf k (listLent c) (valuesLent x) (valuesLent y) (valuesLent z)) (slicesRoom o))) n o cs
-unfolding end oneCall
-one-list κs op op′ c x y z o cs n k h s e = list-served s _ o cs _ (names (λ j. listOutcome narrow (callOf j (listLent c) (valuesLent x) (valuesLent y) (valuesLent z))) e) h
+one-list κs op op′ c x y z o cs n k h s e = one-typed narrow s c cs op x y z o k h e
 
 pub two-lists : (κs : Lfts 12) (op op′ : ℕ) (c d : LentList) (o : Slices) (cs : Slice ℕ) (n : ℕ) (k : SetOp)
     → TwoLists.Post κs (op, entry6 c (entry6 d (entry4 o (cs .entry, tt)))) n (op′, exit6 c (exit6 d (exit4 o (cs .exit, tt))))
     → (n ≡ 100 → ⊥) → setOf op ≡ given k → ListTyped (end narrow (list (setOp k (listLent c) (listLent d)) (slicesRoom o))) n o cs
-unfolding end setCall
-two-lists κs op op′ c d o cs n k h s e = list-served s _ o cs _ (names (λ j. listOutcome narrow (setOp j (listLent c) (listLent d))) e) h
+two-lists κs op op′ c d o cs n k h s e = two-typed narrow s c cs op d o k h e
 
 pub any-value : (κs : Lfts 7) (c : LentList) (o : Pair) (cs : Slice ℕ) (n : ℕ)
     → AnyValue.Post κs (entry6 c (entry2 o (cs .entry, tt))) n (exit6 c (exit2 o (cs .exit, tt)))
     → (n ≡ 100 → ⊥) → ValueTyped (end narrow (anyValue (listLent c) (pairRoom o))) n o cs
-unfolding end
-any-value κs c o cs n h s = value-typed _ o cs (rw (was-served (anyValueOutcome (listLent c)) (pairRoom o) s _ (h .number)) at h)
+any-value κs c o cs n h s = any-typed narrow s c cs o h
 
 pub elements : (κs : Lfts 9) (c : LentList) (x : LentValues) (o : Pair) (cs : Slice ℕ) (n : ℕ)
     → Element.Post κs (entry6 c (entry3 x (entry2 o (cs .entry, tt)))) n (exit6 c (exit3 x (exit2 o (cs .exit, tt))))
     → (n ≡ 100 → ⊥) → ValueTyped (end narrow (element (listLent c) (valuesLent x) (pairRoom o))) n o cs
-unfolding end
-elements κs c x o cs n h s = value-typed _ o cs (rw (was-served (elementOutcome narrow (listLent c) (valuesLent x)) (pairRoom o) s _ (h .number)) at h)
+elements κs c x o cs n h s = element-typed narrow s c cs x o h
 
--- p is the output's outer lists
 pub repeats : (κs : Lfts 13) (c : LentList) (x : LentValues) (p : Pair) (o : Slices) (cs : Slice ℕ) (n : ℕ)
     → ListRepeat.Post κs (entry6 c (entry3 x (entry2 p (entry4 o (cs .entry, tt))))) n (exit6 c (exit3 x (exit2 p (exit4 o (cs .exit, tt)))))
     → (n ≡ 100 → ⊥) → RepeatTyped (end narrow (listRepeat (listLent c) (valuesLent x) (repeatRoomOf (p .values) (p .bits) (o .offsets) (o .rows) (o .values) (o .elements)))) n p o cs
-unfolding end
-repeats κs c x p o cs n h s =
-    repeat-typed _ p o cs
-    (rw (was-served (repeatOutcome narrow (listLent c) (valuesLent x)) (repeatRoomOf (p .values) (p .bits) (o .offsets) (o .rows) (o .values) (o .elements)) s _ (h .number)) at h)
+repeats κs c x p o cs n h s = repeats-typed narrow s c cs x p o h
 
--- t is the station, ns are the recipe's numbers, k how many argument columns there are, l and m the trays, u the tally
+-- ns are the recipe's numbers, k how many argument columns there are
 pub recipes : (κs : Lfts 24) (t t′ k k′ : ℕ) (ns : Slice ℕ) (c d : LentList) (x : LentValues) (l m o : Slices) (cs u : Slice ℕ) (n : ℕ)
-    → Recipe.Post κs (t, (ns .entry, (k, entry6 c (entry6 d (entry3 x (entry4 l (entry4 m (entry4 o (cs .entry, (u .entry, tt))))))))))
+    → Recipes.Post κs (t, (ns .entry, (k, entry6 c (entry6 d (entry3 x (entry4 l (entry4 m (entry4 o (cs .entry, (u .entry, tt))))))))))
     n (t′, (ns .exit, (k′, exit6 c (exit6 d (exit3 x (exit4 l (exit4 m (exit4 o (cs .exit, (u .exit, tt))))))))))
     → (n ≡ 100 → ⊥) → RecipeTyped (end narrow (recipe t (recipeOf (now (ns .entry)) k) (listLent c) (listLent d) (valuesLent x) (slicesRoom l) (slicesRoom m) (slicesRoom o) (tallyAt (now (u .entry))))) n l m o cs u
-unfolding end recipeEnd listEnd tallyOver tallyAfter
-recipes κs t t′ k k′ ns c d x l m o cs u n h s =
-    let f : Room → Outcome (List Row) = λ r. stationed t (recipeOutcome narrow (recipeOf (now (ns .entry)) k) (listLent c) (listLent d) (valuesLent x) (slicesRoom l) (slicesRoom m) r) in
-    let a = list-served s _ o cs f refl (h .0 .list) in
-    record {
-      answer = record { answer = record { number = a .answer .number; counts = a .answer .counts }; offsets = a .offsets; rows = a .rows; values = a .values; elements = a .elements };
-      one = h .1 .0;
-      two = h .1 .1;
-      tally = rw (long f (slicesRoom o) s _ (h .0 .list .number)) at (h .0 .tally);
-    }
+recipes κs t t′ k k′ ns c d x l m o cs u n h s = recipe-typed narrow s c cs t (recipeOf (now (ns .entry)) k) d x l m o u (h .0) (h .1 .0) (h .1 .1)
 
 -- ---- two alike calls, which end in one thing x, wrote the same
 
@@ -236,10 +269,10 @@ unfolding tallyOver
 same-recipe x v t t′ e h k = same (v .finished ++ v .refused) t t′ (rw e at (h .tally)) (rw e at (k .tally))
 
 -- the tally's slice, after a call that took the tally in it, holds the tally that the call gives
-pub recipes-gave : (q : Call Column Arguments) {n : ℕ} {l m o : Slices} {cs : Slice ℕ} (t : Slice ℕ) → tallyTaken q ≡ given (tallyAt (now (t .entry)))
-    → RecipeTyped (end narrow q) n l m o cs t → end narrow q .tally ≡ given (tallyAt (now (t .exit)))
+pub recipes-gave : (L : Limits) (q : Call Column Arguments) {n : ℕ} {l m o : Slices} {cs : Slice ℕ} (t : Slice ℕ) → tallyTaken q ≡ given (tallyAt (now (t .entry)))
+    → RecipeTyped (end L q) n l m o cs t → end L q .tally ≡ given (tallyAt (now (t .exit)))
 unfolding tallyOver
-recipes-gave q t h r =
-    let g = end-moves narrow q (tallyAt (now (t .entry))) h in
-    let e : now (t .exit) ≡ withTally (moved (moveIn narrow q) (tallyAt (now (t .entry)))) (now (t .entry)) = r .tally ∙ ap (λ (x : Lent Tally). tallyOver x (now (t .entry))) g in
-    g ∙ ap given (sym (ap tallyAt e ∙ read-back (moveIn narrow q) (now (t .entry))))
+recipes-gave L q t h r =
+    let g = end-moves L q (tallyAt (now (t .entry))) h in
+    let e : now (t .exit) ≡ withTally (moved (moveIn L q) (tallyAt (now (t .entry)))) (now (t .entry)) = r .tally ∙ ap (λ (x : Lent Tally). tallyOver x (now (t .entry))) g in
+    g ∙ ap given (sym (ap tallyAt e ∙ read-back (moveIn L q) (now (t .entry))))

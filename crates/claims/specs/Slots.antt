@@ -5,7 +5,7 @@ use lib.IntN.{ℤ}
 use lib.ListN.{length}
 use denote.Ref.{RefT, now}
 use denote.Triple.Both.{Both}
-use Rattle.model.specs.Limits.{narrow}
+use Rattle.model.specs.Limits.{Limits}
 use Rattle.model.specs.Form.{Room, ValueRoom, RepeatRoom}
 use Rattle.model.specs.Rows.{ListCall}
 use Rattle.model.specs.Column.{Column, Arguments}
@@ -99,25 +99,25 @@ entry3 x k = (x .values .entry, (x .bits .entry, (x .start .entry, k)))
 abbrev pub exit3 : {A : Type 0} → LentValues → A → Before3 A
 exit3 x k = (x .values .exit, (x .bits .exit, (x .start .exit, k)))
 
--- a call of q that answered a and had o for its output is a run
-abbrev pub ListRuns : ListCall Column Arguments → ListAnswer → Slices → Type 0
-ListRuns q a o = Run narrow (list q (slicesRoom o)) (listRunEnd a (now (o .offsets .exit)) (now (o .rows .exit)) (now (o .values .exit)) (now (o .elements .exit)))
+-- a call of q, at the width of L, that answered a and had o for its output is a run
+abbrev pub ListRuns : Limits → ListCall Column Arguments → ListAnswer → Slices → Type 0
+ListRuns L q a o = Run L (list q (slicesRoom o)) (listRunEnd a (now (o .offsets .exit)) (now (o .rows .exit)) (now (o .values .exit)) (now (o .elements .exit)))
 
 -- the same with a value answer
-abbrev pub ValueRuns : (ValueRoom → Call Column Arguments) → ValueAnswer → Pair → Type 0
-ValueRuns q a o = Run narrow (q (pairRoom o)) (valueRunEnd a (now (o .values .exit)) (now (o .bits .exit)))
+abbrev pub ValueRuns : Limits → (ValueRoom → Call Column Arguments) → ValueAnswer → Pair → Type 0
+ValueRuns L q a o = Run L (q (pairRoom o)) (valueRunEnd a (now (o .values .exit)) (now (o .bits .exit)))
 
 -- and with list-repeat's, whose outer lists have two slices and inner lists four
-abbrev pub RepeatRuns : (RepeatRoom → Call Column Arguments) → RepeatAnswer → Pair → Slices → Type 0
-RepeatRuns q a b o =
-    Run narrow
+abbrev pub RepeatRuns : Limits → (RepeatRoom → Call Column Arguments) → RepeatAnswer → Pair → Slices → Type 0
+RepeatRuns L q a b o =
+    Run L
     (q (repeatRoomOf (b .values) (b .bits) (o .offsets) (o .rows) (o .values) (o .elements)))
     (repeatRunEnd a (now (b .values .exit)) (now (b .bits .exit)) (now (o .offsets .exit)) (now (o .rows .exit)) (now (o .values .exit)) (now (o .elements .exit)))
 
 -- a recipe p of station s on the lists c and d with arguments x, through the trays l and m into o; t is the tally that went in
-abbrev pub RecipeRuns : ℕ → Recipe → LentList → LentList → LentValues → Slices → Slices → Slices → Tally → RecipeAnswer → Type 0
-RecipeRuns s p c d x l m o t a =
-    Run narrow (recipe s p (listLent c) (listLent d) (valuesLent x) (slicesRoom l) (slicesRoom m) (slicesRoom o) (tallyOf t))
+abbrev pub RecipeRuns : Limits → ℕ → Recipe → LentList → LentList → LentValues → Slices → Slices → Slices → Tally → RecipeAnswer → Type 0
+RecipeRuns L s p c d x l m o t a =
+    Run L (recipe s p (listLent c) (listLent d) (valuesLent x) (slicesRoom l) (slicesRoom m) (slicesRoom o) (tallyOf t))
     (recipeRunEnd (a .answer)
     (now (o .offsets .exit)) (now (o .rows .exit)) (now (o .values .exit)) (now (o .elements .exit))
     (now (l .offsets .exit)) (now (l .rows .exit)) (now (l .values .exit)) (now (l .elements .exit))

@@ -22,6 +22,10 @@ use Rattle.column.proofs.RowLaws.{length-step, length-none}
 use Rattle.column.proofs.PutLaws.{rows-more, walked}
 use Rattle.model.proofs.BoolLaws.{or-none}
 
+-- an offset put keeps the number of them
+pub put-keeps : (o : List ℤ) (i v : ℕ) {o′ : List ℤ} → o′ ≡ set o i (pos v) → length o′ ≡ length o
+put-keeps o i v e = ap length e ∙ length-set o i (pos v)
+
 -- ---- one row of a column
 
 pub row-from : (c : Column) (r a b : ℕ) → a ≡ offsetAt (c .offsets) r → b ≡ offsetAt (c .offsets) (r + 1) → rowFrom (c .rows) (elemAt (c .values) (c .elements)) r a b ≡ rowAt c r

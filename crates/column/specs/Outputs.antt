@@ -8,6 +8,8 @@ use denote.Ref.{RefT, now}
 use Rattle.model.specs.Column.{Elem, Row}
 use Rattle.model.specs.Contract.{Slice}
 use Rattle.model.specs.Inner.{nowBits}
+use Rattle.model.specs.Widths.{used, entryAt, exitAt}
+use Rattle.model.specs.declared.Width.{Width}
 use Rattle.column.specs.Put.{RoomInˡ, Fillsˡ, ReadableElemsˡ, RoomForElemsˡ, Writesˡ, FillsValuesˡ}
 use Rattle.column.specs.Rows.{ReadableRowˡ, RoomForRowˡ, WritesRowˡ}
 
@@ -22,6 +24,10 @@ ReadableRow rows i n v e j r a b = ReadableRowˡ (nowBits rows i) n (now v) (now
 -- the outputs have room for n rows and k elements
 abbrev pub RoomIn : ℕ → ℕ → RefT (List ℤ) → RefT (List ℕ) → RefT (List ℤ) → RefT (List ℕ) → Type 0
 RoomIn n k o r v e = RoomInˡ n k (length (now o)) (length (now r)) (length (now v)) (length (now e))
+
+-- the same, the offsets those of a width
+abbrev pub RoomAt : Width → ℕ → ℕ → RefT (List ℤ) → RefT (List ℤ) → RefT (List ℕ) → RefT (List ℤ) → RefT (List ℕ) → Type 0
+RoomAt w n k o x r v e = RoomInˡ n k (length (used w (now o) (now x))) (length (now r)) (length (now v)) (length (now e))
 
 -- the outputs have room for the elements es from place k on
 abbrev pub RoomForElems : List Elem → ℕ → RefT (List ℤ) → RefT (List ℕ) → Type 0
@@ -44,6 +50,11 @@ WritesRow w r at rows v e next =
 abbrev pub Fills : List Row → Slice ℤ → Slice ℕ → Slice ℤ → Slice ℕ → Type 0
 Fills ws o r v e =
     Fillsˡ ws (now (o .entry)) (now (o .exit)) (now (r .entry)) (now (r .exit)) (now (v .entry)) (now (v .exit)) (now (e .entry)) (now (e .exit))
+
+-- the same, the offsets those of a width
+abbrev pub FillsAt : Width → List Row → Slice ℤ → Slice ℤ → Slice ℕ → Slice ℤ → Slice ℕ → Type 0
+FillsAt w ws o x r v e =
+    Fillsˡ ws (entryAt w o x) (exitAt w o x) (now (r .entry)) (now (r .exit)) (now (v .entry)) (now (v .exit)) (now (e .entry)) (now (e .exit))
 
 -- the result form of the values es is written
 abbrev pub FillsValues : List Elem → Slice ℤ → Slice ℕ → Type 0

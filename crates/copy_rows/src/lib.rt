@@ -1,14 +1,15 @@
 // The rows of a column, measured and written in result form. An inner crate: its callers meet what it asks.
-use column::offsets;
+use column::widths;
+use model::Width;
 use rows::utils;
 ghost use Prim.Native.Nat.{_≤_};
-ghost use Rattle.column.specs.Outputs.{Fills, ReadableRow, RoomForRow, RoomIn, WritesRow};
+ghost use Rattle.column.specs.Outputs.{FillsAt, ReadableRow, RoomAt, RoomForRow, WritesRow};
 ghost use Rattle.column.specs.Put.{Readable};
 ghost use Rattle.column.specs.Rows.{rowFrom};
 ghost use Rattle.model.specs.Column.{rowCount, rowsOf};
 ghost use Rattle.model.specs.Form.{flat};
-ghost use Rattle.model.specs.Inner.{nowColumn, nowBits, nowElem, lentBits, lentElem, lentFrom};
-ghost use Rattle.model.specs.Limits.{narrow};
+ghost use Rattle.model.specs.Inner.{lentAt, lentBits, lentElem, nowBits, nowColumnAt, nowElem};
+ghost use Rattle.model.specs.Widths.{limitsAt, used};
 ghost use lib.ListN.{length};
 ghost use mathlib.Core.Path.{_≡_};
 
@@ -20,18 +21,20 @@ pub fn measure_rows(
     values: &[i64],
     elements: &[u8],
     estart: usize,
+    width: Width,
+    large: &[i64],
 ) -> usize
-    requires column { ⌜ Readable (nowColumn offsets rows rstart values elements estart) ⌝ }
-    ensures { λ m. ⌜ m ≡ length (flat (rowsOf (lentFrom offsets rows rstart values elements estart))) ⌝ }
-    ensures { λ m. ⌜ m ≤ narrow .offset ⌝ }
+    requires column { ⌜ Readable (nowColumnAt width offsets large rows rstart values elements estart) ⌝ }
+    ensures { λ m. ⌜ m ≡ length (flat (rowsOf (lentAt width offsets large rows rstart values elements estart))) ⌝ }
+    ensures { λ m. ⌜ m ≤ limitsAt width .offset ⌝ }
 {
-    let n = offsets::row_count(offsets);
+    let n = widths::row_count(width, offsets, large);
     let mut found: usize = 0;
     let mut r: usize = 0;
     let mut left = n;
     while 0 < left {
-        let a = offsets::offset_at(offsets, r);
-        let b = offsets::offset_at(offsets, r + 1);
+        let a = widths::offset_at(width, offsets, large, r);
+        let b = widths::offset_at(width, offsets, large, r + 1);
         let len = column::rows::row_len(rows, rstart, n, r, a, b);
         found += len;
         r += 1;
@@ -67,26 +70,27 @@ fn put_row(
 pub fn write_rows(
     offsets: &[i32], rows: &[u8], rstart: usize, values: &[i64], elements: &[u8], estart: usize,
     out_offsets: &mut [i32], out_rows: &mut [u8], out_values: &mut [i64], out_elements: &mut [u8],
+    width: Width, large: &[i64], out_large: &mut [i64],
 )
-    requires column { ⌜ Readable (nowColumn offsets rows rstart values elements estart) ⌝ }
-    requires small { ⌜ length (flat (rowsOf (nowColumn offsets rows rstart values elements estart))) ≤ narrow .offset ⌝ }
-    requires room { ⌜ RoomIn (rowCount (now offsets)) (length (flat (rowsOf (nowColumn offsets rows rstart values elements estart)))) «out_offsets» «out_rows» «out_values» «out_elements» ⌝ }
-    ensures { λ _. ⌜ Fills (rowsOf (lentFrom offsets rows rstart values elements estart)) «out_offsets» «out_rows» «out_values» «out_elements» ⌝ }
+    requires column { ⌜ Readable (nowColumnAt width offsets large rows rstart values elements estart) ⌝ }
+    requires small { ⌜ length (flat (rowsOf (nowColumnAt width offsets large rows rstart values elements estart))) ≤ limitsAt width .offset ⌝ }
+    requires room { ⌜ RoomAt width (rowCount (used width (now offsets) (now large))) (length (flat (rowsOf (nowColumnAt width offsets large rows rstart values elements estart)))) «out_offsets» «out_large» «out_rows» «out_values» «out_elements» ⌝ }
+    ensures { λ _. ⌜ FillsAt width (rowsOf (lentAt width offsets large rows rstart values elements estart)) «out_offsets» «out_large» «out_rows» «out_values» «out_elements» ⌝ }
 {
-    let n = offsets::row_count(offsets);
-    offsets::put_offset(out_offsets, 0, 0);
+    let n = widths::row_count(width, offsets, large);
+    widths::put_offset(width, out_offsets, out_large, 0, 0);
     let mut r: usize = 0;
     let mut at: usize = 0;
     let mut left = n;
     while 0 < left {
-        let a = offsets::offset_at(offsets, r);
-        let b = offsets::offset_at(offsets, r + 1);
+        let a = widths::offset_at(width, offsets, large, r);
+        let b = widths::offset_at(width, offsets, large, r + 1);
         at = put_row(
             rows, rstart, n, values, elements, estart,
             r, a, b, out_rows, out_values, out_elements,
             at,
         );
-        offsets::put_offset(out_offsets, r + 1, at);
+        widths::put_offset(width, out_offsets, out_large, r + 1, at);
         r += 1;
         left -= 1;
     }

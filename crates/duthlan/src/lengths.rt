@@ -26,7 +26,7 @@ pub extern "C" fn duthlan_typed_list_lengths(
     third: &[i64], third_bits: &[u8], third_start: usize,
     lengths: &mut [u64],
 ) -> u32
-    ensures { λ n. ⌜ LengthsServed roomCounts 4 (oneLengths op (lentFrom offsets rows «rows_start» values elements «elements_start») (lentArgumentsFrom first «first_bits» «first_start») (lentArgumentsFrom second «second_bits» «second_start») (lentArgumentsFrom third «third_bits» «third_start»)) n lengths ⌝ }
+    ensures { λ n. ⌜ LengthsServed roomCounts 4 (oneLengths narrow op (lentFrom offsets rows «rows_start» values elements «elements_start») (lentArgumentsFrom first «first_bits» «first_start») (lentArgumentsFrom second «second_bits» «second_start») (lentArgumentsFrom third «third_bits» «third_start»)) n lengths ⌝ }
 {
     let named = one_of(op);
     match named {
@@ -56,7 +56,7 @@ pub extern "C" fn duthlan_typed_lists_lengths<'a>(
     r_offsets: &[i32], r_rows: &[u8], r_rows_start: usize, r_values: &'a [i64], r_elements: &[u8], r_elements_start: usize,
     lengths: &mut [u64],
 ) -> u32
-    ensures { λ n. ⌜ LengthsServed roomCounts 4 (setLengths op (lentFrom «l_offsets» «l_rows» «l_rows_start» «l_values» «l_elements» «l_elements_start») (lentFrom «r_offsets» «r_rows» «r_rows_start» «r_values» «r_elements» «r_elements_start»)) n lengths ⌝ }
+    ensures { λ n. ⌜ LengthsServed roomCounts 4 (setLengths narrow op (lentFrom «l_offsets» «l_rows» «l_rows_start» «l_values» «l_elements» «l_elements_start») (lentFrom «r_offsets» «r_rows» «r_rows_start» «r_values» «r_elements» «r_elements_start»)) n lengths ⌝ }
 {
     let named = operation_of(op);
     match named {

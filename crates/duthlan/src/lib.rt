@@ -36,7 +36,7 @@ pub extern "C" fn duthlan_typed_list(
     out_offsets: &mut [i32], out_rows: &mut [u8], out_values: &mut [i64], out_elements: &mut [u8],
     counts: &mut [u64],
 ) -> u32
-    ensures { λ n. ⌜ ListServed (oneCall op (lentFrom offsets rows «rows_start» values elements «elements_start») (lentArgumentsFrom first «first_bits» «first_start») (lentArgumentsFrom second «second_bits» «second_start») (lentArgumentsFrom third «third_bits» «third_start»)) n «out_offsets» «out_rows» «out_values» «out_elements» counts ⌝ }
+    ensures { λ n. ⌜ ListServed (oneCall narrow op (lentFrom offsets rows «rows_start» values elements «elements_start») (lentArgumentsFrom first «first_bits» «first_start») (lentArgumentsFrom second «second_bits» «second_start») (lentArgumentsFrom third «third_bits» «third_start»)) n «out_offsets» «out_rows» «out_values» «out_elements» counts ⌝ }
 {
     let named = one_of(op);
     match named {
@@ -68,7 +68,7 @@ pub extern "C" fn duthlan_typed_lists<'a>(
     out_offsets: &mut [i32], out_rows: &mut [u8], out_values: &mut [i64], out_elements: &mut [u8],
     counts: &mut [u64],
 ) -> u32
-    ensures { λ n. ⌜ ListServed (setCall op (lentFrom «l_offsets» «l_rows» «l_rows_start» «l_values» «l_elements» «l_elements_start») (lentFrom «r_offsets» «r_rows» «r_rows_start» «r_values» «r_elements» «r_elements_start»)) n «out_offsets» «out_rows» «out_values» «out_elements» counts ⌝ }
+    ensures { λ n. ⌜ ListServed (setCall narrow op (lentFrom «l_offsets» «l_rows» «l_rows_start» «l_values» «l_elements» «l_elements_start») (lentFrom «r_offsets» «r_rows» «r_rows_start» «r_values» «r_elements» «r_elements_start»)) n «out_offsets» «out_rows» «out_values» «out_elements» counts ⌝ }
 {
     let named = operation_of(op);
     match named {

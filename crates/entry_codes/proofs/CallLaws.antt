@@ -4,7 +4,7 @@ use Prim.Native.Nat.{ℕ}
 use borrow.Author.Tests.{ne-eqb}
 use Rattle.model.specs.Basics.{absent, given}
 use Rattle.model.specs.Lengths.{listLengths}
-use Rattle.model.specs.Limits.{narrow}
+use Rattle.model.specs.Limits.{Limits, narrow}
 use Rattle.model.specs.Column.{Column, Arguments}
 use Rattle.model.specs.Rows.{unary, setOp, onLent}
 use Rattle.model.specs.Outcome.{listOutcome}
@@ -40,45 +40,45 @@ module _ (op : ℕ) {r : Taking} (c : Column) (x y z : Arguments) (e : takingLen
   unfolding withCall onLent takingLent
   with-code h = rw (← e, h)
 
-module _ (op : ℕ) {r : Taking} (c : Column) (x y z : Arguments) (e : takingLent r ≡ oneOf op) where
-  pub no-list-code : r ≡ T.None → oneCall op c x y z ≡ absent
+module _ (N : Limits) (op : ℕ) {r : Taking} (c : Column) (x y z : Arguments) (e : takingLent r ≡ oneOf op) where
+  pub no-list-code : r ≡ T.None → oneCall N op c x y z ≡ absent
   unfolding oneCall onLent takingLent
   no-list-code h = rw (← e, h)
 
-  pub list-code : {k : ListOp} → r ≡ T.Of k → oneCall op c x y z ≡ given (listOutcome narrow (callOf k c x y z))
+  pub list-code : {k : ListOp} → r ≡ T.Of k → oneCall N op c x y z ≡ given (listOutcome N (callOf k c x y z))
   unfolding oneCall onLent takingLent
   list-code h = rw (← e, h)
 
-  pub no-list-lengths : r ≡ T.None → oneLengths op c x y z ≡ absent
+  pub no-list-lengths : r ≡ T.None → oneLengths N op c x y z ≡ absent
   unfolding oneLengths onLent takingLent
   no-list-lengths h = rw (← e, h)
 
-  pub list-lengths : {k : ListOp} → r ≡ T.Of k → oneLengths op c x y z ≡ given (listLengths narrow (callOf k c x y z))
+  pub list-lengths : {k : ListOp} → r ≡ T.Of k → oneLengths N op c x y z ≡ given (listLengths N (callOf k c x y z))
   unfolding oneLengths onLent takingLent
   list-lengths h = rw (← e, h)
 
-module _ (op : ℕ) {r : Operation} (c d : Column) (e : r ≡ operationOf op) where
-  pub one-code : {k : ListOp} → r ≡ S.One k → setCall op c d ≡ absent
+module _ (N : Limits) (op : ℕ) {r : Operation} (c d : Column) (e : r ≡ operationOf op) where
+  pub one-code : {k : ListOp} → r ≡ S.One k → setCall N op c d ≡ absent
   unfolding setCall onLent setOf setIn
   one-code h = rw (← e, h)
 
-  pub no-set-code : r ≡ S.None → setCall op c d ≡ absent
+  pub no-set-code : r ≡ S.None → setCall N op c d ≡ absent
   unfolding setCall onLent setOf setIn
   no-set-code h = rw (← e, h)
 
-  pub set-code : {k : SetOp} → r ≡ S.Two k → setCall op c d ≡ given (listOutcome narrow (setOp k c d))
+  pub set-code : {k : SetOp} → r ≡ S.Two k → setCall N op c d ≡ given (listOutcome N (setOp k c d))
   unfolding setCall onLent setOf setIn
   set-code h = rw (← e, h)
 
-  pub one-lengths : {k : ListOp} → r ≡ S.One k → setLengths op c d ≡ absent
+  pub one-lengths : {k : ListOp} → r ≡ S.One k → setLengths N op c d ≡ absent
   unfolding setLengths onLent setOf setIn
   one-lengths h = rw (← e, h)
 
-  pub no-set-lengths : r ≡ S.None → setLengths op c d ≡ absent
+  pub no-set-lengths : r ≡ S.None → setLengths N op c d ≡ absent
   unfolding setLengths onLent setOf setIn
   no-set-lengths h = rw (← e, h)
 
-  pub set-lengths : {k : SetOp} → r ≡ S.Two k → setLengths op c d ≡ given (listLengths narrow (setOp k c d))
+  pub set-lengths : {k : SetOp} → r ≡ S.Two k → setLengths N op c d ≡ given (listLengths N (setOp k c d))
   unfolding setLengths onLent setOf setIn
   set-lengths h = rw (← e, h)
 

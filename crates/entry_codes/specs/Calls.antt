@@ -3,7 +3,7 @@ use Prim.Native.Nat.{ℕ}
 use mathlib.Core.List.{List}
 use lib.Dec.{eqb}
 use Rattle.model.specs.Basics.{pick, Lent, absent, given}
-use Rattle.model.specs.Limits.{narrow}
+use Rattle.model.specs.Limits.{Limits, narrow}
 use Rattle.model.specs.Column.{Row, Column, Arguments}
 use Rattle.model.specs.Form.{Room}
 use Rattle.model.specs.Lengths.{listLengths}
@@ -65,11 +65,11 @@ setIn S.None = absent
 unfoldable pub setOf : ℕ → Lent SetOp
 setOf op = setIn (operationOf op)
 
-unfoldable pub setCall : ℕ → Column → Column → Lent (Room → Outcome (List Row))
-setCall op c d = onLent (λ k. listOutcome narrow (setOp k c d)) (setOf op)
+unfoldable pub setCall : Limits → ℕ → Column → Column → Lent (Room → Outcome (List Row))
+setCall N op c d = onLent (λ k. listOutcome N (setOp k c d)) (setOf op)
 
-unfoldable pub setLengths : ℕ → Column → Column → Lent (Outcome Room)
-setLengths op c d = onLent (λ k. listLengths narrow (setOp k c d)) (setOf op)
+unfoldable pub setLengths : Limits → ℕ → Column → Column → Lent (Outcome Room)
+setLengths N op c d = onLent (λ k. listLengths N (setOp k c d)) (setOf op)
 
 -- ---- one list, with argument columns or without
 
@@ -83,12 +83,12 @@ unfoldable pub oneOf : ℕ → Lent ListOp
 oneOf op = pick (eqb op 11) (given L.Resize) (oneIn (operationOf op))
 
 -- an operation by its code, of a list and of three argument columns, of which it looks at those that it takes
-unfoldable pub oneCall : ℕ → Column → Arguments → Arguments → Arguments → Lent (Room → Outcome (List Row))
-oneCall op c x y z = onLent (λ k. listOutcome narrow (callOf k c x y z)) (oneOf op)
+unfoldable pub oneCall : Limits → ℕ → Column → Arguments → Arguments → Arguments → Lent (Room → Outcome (List Row))
+oneCall N op c x y z = onLent (λ k. listOutcome N (callOf k c x y z)) (oneOf op)
 
 -- how much to lend for it
-unfoldable pub oneLengths : ℕ → Column → Arguments → Arguments → Arguments → Lent (Outcome Room)
-oneLengths op c x y z = onLent (λ k. listLengths narrow (callOf k c x y z)) (oneOf op)
+unfoldable pub oneLengths : Limits → ℕ → Column → Arguments → Arguments → Arguments → Lent (Outcome Room)
+oneLengths N op c x y z = onLent (λ k. listLengths N (callOf k c x y z)) (oneOf op)
 
 -- ---- one list, with argument columns
 

@@ -1,15 +1,15 @@
 -- What each way through the index's arithmetic comes to.
 use mathlib.Core.Path.{_≡_, refl, sym, ap, _∙_}
 use mathlib.Core.Bool.{true, false}
-use Prim.Native.Nat.{ℕ, zero, suc, _+_, _-_}
+use Prim.Native.Nat.{ℕ, zero, suc, _+_, _-_, _^_, _<_}
 use native.Mathlib.Omega.{arith}
 use lib.Dec.{T}
-use lib.IntN.{ℤ, pos, negsuc, _+ℤ_, _-ℤ_}
+use lib.IntN.{ℤ, pos, negsuc, natAbs, _+ℤ_, _-ℤ_}
 use lib.Signed.{mag, ltZ, leZ, nonNeg}
 use borrow.Author.Tests.{ltb-true, ltb-false, lt-ltb, le-ltb, leb-true, le-leb, lt-leb}
-use mir.Syntax.{w32}
-use mir.Val.{SFits}
-use Rattle.model.specs.Limits.{narrow}
+use mir.Syntax.{Width}
+use mir.Val.{SFits, hbits}
+use Rattle.model.specs.Limits.{Limits}
 use Rattle.model.specs.Column.{count}
 use Rattle.model.specs.Slice.{fits, inRow}
 use Rattle.index.specs.Place.{indexPlace, indexBound, bound}
@@ -20,27 +20,30 @@ use Rattle.model.proofs.BoolLaws.{never-true}
 
 -- ---- does it fit
 
-pub fits-low : (z : ℤ) → ltZ z (negsuc 2147483647) ≡ true → false ≡ fits narrow z
-unfolding fits
-fits-low (pos i) t = never-true (sym t)
-fits-low (negsuc i) t = let l = ltb-true 2147483647 i t in sym (lt-leb i 2147483647 l)
+-- where not every number fits
+module _ (L : Limits) (e : L .every ≡ false) where
+  pub fits-low : (z : ℤ) → ltZ z (negsuc (L .offset)) ≡ true → false ≡ fits L z
+  unfolding fits
+  fits-low (pos i) t = never-true (sym t)
+  fits-low (negsuc i) t = let l = ltb-true (L .offset) i t in rw e (sym (lt-leb i (L .offset) l))
 
-pub fits-high : (z : ℤ) → ltZ z (negsuc 2147483647) ≡ false → leZ z (pos 2147483647) ≡ fits narrow z
-unfolding fits
-fits-high (pos i) t = refl
-fits-high (negsuc i) t = let l = ltb-false 2147483647 i t in sym (le-leb i 2147483647 l)
+  pub fits-high : (z : ℤ) → ltZ z (negsuc (L .offset)) ≡ false → leZ z (pos (L .offset)) ≡ fits L z
+  unfolding fits
+  fits-high (pos i) t = rw e
+  fits-high (negsuc i) t = let l = ltb-false (L .offset) i t in rw e (sym (le-leb i (L .offset) l))
 
-pub fits-signed : (z : ℤ) → fits narrow z ≡ true → SFits w32 z
-unfolding fits
-fits-signed z t = let l = leb-true (mag z) 2147483647 t in record { sfits = omega arith }
+  pub fits-signed : (w : Width) → L .offset < 2 ^ hbits w → (z : ℤ) → fits L z ≡ true → SFits w z
+  unfolding fits
+  fits-signed w h z t = let l = leb-true (mag z) (L .offset) (rw e at t) in record { sfits = omega arith }
 
-pub answer-unfit : (n : ℕ) (z : ℤ) → fits narrow z ≡ false → B.Unfit ≡ bound (indexBound narrow n z)
-unfolding indexBound bound
-answer-unfit n z t = rw t
+module _ (L : Limits) where
+  pub answer-unfit : (n : ℕ) (z : ℤ) → fits L z ≡ false → B.Unfit ≡ bound (indexBound L n z)
+  unfolding indexBound bound
+  answer-unfit n z t = rw t
 
-pub answer-fits : (n : ℕ) (z : ℤ) (r : Bound) → fits narrow z ≡ true → r ≡ bound (indexPlace n z) → r ≡ bound (indexBound narrow n z)
-unfolding indexBound
-answer-fits n z r t e = rw t e
+  pub answer-fits : (n : ℕ) (z : ℤ) (r : Bound) → fits L z ≡ true → r ≡ bound (indexPlace n z) → r ≡ bound (indexBound L n z)
+  unfolding indexBound
+  answer-fits n z r t e = rw t e
 
 -- ---- the place of an index that fits
 
@@ -61,13 +64,13 @@ before-first (pos i) n h t u = let l = ltb-true i 0 t in let e : ⊥ = omega ari
 before-first (negsuc i) (pos n) h t u = let l = difference-below-zero n (suc i) u in rw (le-ltb i n (omega arith))
 before-first (negsuc i) (negsuc n) h t u = absurd h
 
-pub from-last : (z n : ℤ) → T (nonNeg n) → ltZ z (pos 0) ≡ true → ltZ (z +ℤ n) (pos 0) ≡ false → B.At (z +ℤ n) ≡ bound (indexPlace (count n) z)
+pub from-last : (z n : ℤ) → T (nonNeg n) → ltZ z (pos 0) ≡ true → ltZ (z +ℤ n) (pos 0) ≡ false → B.At (natAbs (z +ℤ n)) ≡ bound (indexPlace (count n) z)
 unfolding count indexPlace bound
 from-last (pos i) n h t u = let l = ltb-true i 0 t in let e : ⊥ = omega arith in absurd e
 from-last (negsuc i) (pos n) h t u =
     let l = difference-not-below-zero n (suc i) u in
     let e : n - suc i ≡ n - (i + 1) = omega arith in
-    rw (lt-ltb i n (omega arith)) (ap B.At (difference-natural n (suc i) l ∙ ap pos e))
+    rw (lt-ltb i n (omega arith)) (ap B.At (ap natAbs (difference-natural n (suc i) l) ∙ e))
 from-last (negsuc i) (negsuc n) h t u = absurd h
 
 pub zero-outside : (z : ℤ) (n : ℕ) → ltZ z (pos 0) ≡ false → ltZ z (pos 1) ≡ true → B.Outside ≡ bound (indexPlace n z)
@@ -79,7 +82,7 @@ zero-outside (negsuc i) n t u = never-true t
 one-less : (i : ℕ) → ltZ (pos (suc i)) (pos 1) ≡ false → pos (suc i) -ℤ pos 1 ≡ pos i
 one-less i t = let e : suc i - 1 ≡ i = omega arith in less-one (pos (suc i)) t ∙ ap pos e
 
-pub from-first : (z n : ℤ) → ltZ z (pos 1) ≡ false → ltZ (z -ℤ pos 1) n ≡ true → B.At (z -ℤ pos 1) ≡ bound (indexPlace (count n) z)
+pub from-first : (z n : ℤ) → ltZ z (pos 1) ≡ false → ltZ (z -ℤ pos 1) n ≡ true → B.At (natAbs (z -ℤ pos 1)) ≡ bound (indexPlace (count n) z)
 unfolding count indexPlace inRow bound
 from-first (pos zero) n t u = never-true t
 from-first (pos (suc i)) (pos n) t u = let l : ltZ (pos i) (pos n) ≡ true = rw (one-less i t) at u in rw (one-less i t, l)

@@ -2,5 +2,5 @@ pub mod SignedLaws
 pub mod IndexLaws
 pub mod PlaceLaws
 pub mod SliceLaws
-pub mod PlanLaws
 pub mod StepLaws
+pub mod ReadLaws

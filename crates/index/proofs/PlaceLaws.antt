@@ -4,40 +4,37 @@ use mathlib.Core.Bool.{Bool, true, false}
 use mathlib.Core.List.{List}
 use Prim.Native.Nat.{ℕ, zero, suc, _+_, _-_, _≤_, _<_}
 use native.Mathlib.Omega.{arith}
-use lib.Dec.{T, ltb}
-use lib.IntN.{ℤ, pos, negsuc, natAbs}
+use lib.Dec.{leb, ltb}
+use lib.IntN.{ℤ, pos, negsuc}
 use lib.ListN.{length, getD, List·getD-eq-default}
-use lib.Signed.{nonNeg}
+use lib.Signed.{mag}
 use borrow.Author.Tests.{ltb-true, ltb-false, leb-false, le-ltb}
-use mir.Syntax.{w32, w64}
-use mir.Val.{Fits, SFits}
 use Rattle.model.specs.Basics.{pick}
-use Rattle.model.specs.Limits.{narrow}
-use Rattle.model.specs.Column.{Elem, nul, count}
+use Rattle.model.specs.Limits.{Limits}
+use Rattle.model.specs.Column.{Elem, nul}
 use Rattle.model.specs.Elements.{elementAt}
 use Rattle.model.specs.Slice as Slice
 use Rattle.model.specs.Slice.{unfit, outside, place, inRow, fits, fromPlace, toPlace, fromBound, toBound}
 use Rattle.index.specs.Place.{indexPlace, indexBound, bound, taken}
 use Rattle.index.specs.declared.Bound.the-variants as B
+use Rattle.model.proofs.BoolLaws.{never-true}
 
 pub pick-cases : {A : Type 0} (t : Bool) (x y : A) (P : A → Type 0) → (t ≡ true → P x) → (t ≡ false → P y) → P (pick t x y)
 pick-cases true x y P f g = f refl
 pick-cases false x y P f g = g refl
 
--- a length of 32 signed bits counts at most the largest offset
-pub count-small : (n : ℤ) → SFits w32 n → count n ≤ narrow .offset
-unfolding count
-count-small (pos n) f = omega (arith, f .sfits)
-count-small (negsuc n) f = omega arith
-
 -- ---- what an index takes
 
+unfit-far : (L : Limits) (z : ℤ) → fits L z ≡ false → L .offset < mag z
+unfolding fits
+unfit-far L z = pick-cases (L .every) true (leb (mag z) (L .offset)) (λ b. b ≡ false → L .offset < mag z) (λ e t. never-true t) (λ e t. leb-false (mag z) (L .offset) t)
+
 -- a number that does not fit is past a row of at most the largest offset
-unfit-null : (es : List Elem) (z : ℤ) → length es ≤ narrow .offset → fits narrow z ≡ false → elementAt es z ≡ nul
-unfolding fits elementAt
-unfit-null es (pos zero) h t = refl
-unfit-null es (pos (suc i)) h t = let l = leb-false (suc i) 2147483647 t in List·getD-eq-default es nul (omega arith)
-unfit-null es (negsuc i) h t = let l = leb-false i 2147483647 t in rw (le-ltb i (length es) (omega arith))
+far-null : (m : ℕ) (es : List Elem) (z : ℤ) → length es ≤ m → m < mag z → elementAt es z ≡ nul
+unfolding elementAt
+far-null m es (pos zero) h l = refl
+far-null m es (pos (suc i)) h l = List·getD-eq-default es nul (omega arith)
+far-null m es (negsuc i) h l = rw (le-ltb i (length es) (omega arith))
 
 place-taken : (es : List Elem) (z : ℤ) → elementAt es z ≡ taken (indexPlace (length es) z) es
 unfolding elementAt indexPlace inRow taken
@@ -51,10 +48,10 @@ place-taken es (negsuc i) = pick-same (ltb i (length es)) (place (length es - (i
     pick-same true a b = refl
     pick-same false a b = refl
 
-pub element-taken : (es : List Elem) (z : ℤ) → length es ≤ narrow .offset → elementAt es z ≡ taken (indexBound narrow (length es) z) es
+pub element-taken : (L : Limits) (es : List Elem) (z : ℤ) → length es ≤ L .offset → elementAt es z ≡ taken (indexBound L (length es) z) es
 unfolding indexBound taken
-element-taken es z h =
-    pick-cases (fits narrow z) (indexPlace (length es) z) unfit (λ b. elementAt es z ≡ taken b es) (λ t. place-taken es z) (λ t. unfit-null es z h t)
+element-taken L es z h =
+    pick-cases (fits L z) (indexPlace (length es) z) unfit (λ b. elementAt es z ≡ taken b es) (λ t. place-taken es z) (λ t. far-null (L .offset) es z h (unfit-far L z t))
 
 -- ---- a place is inside the row
 
@@ -89,17 +86,18 @@ fit-inside : (n : ℕ) (t : Bool) (b : Slice.Bound) → Inside n b → Inside n 
 fit-inside n true b h = h
 fit-inside n false b h = λ p e. let x : _≡_ {A = ℕ} 0 1 = cc in omega arith
 
-pub place-inside : (n p : ℕ) (z : ℤ) → indexBound narrow n z ≡ place p → p < n
-unfolding indexBound
-place-inside n p z = fit-inside n (fits narrow z) (indexPlace n z) (index-inside n z) p
+module _ (L : Limits) (n p : ℕ) (z : ℤ) where
+  pub place-inside : indexBound L n z ≡ place p → p < n
+  unfolding indexBound
+  place-inside = fit-inside n (fits L z) (indexPlace n z) (index-inside n z) p
 
-pub from-inside : (n p : ℕ) (z : ℤ) → fromBound narrow n z ≡ place p → p < n
-unfolding fromBound
-from-inside n p z = fit-inside n (fits narrow z) (inRow n (fromPlace n z)) (row-inside n (fromPlace n z)) p
+  pub from-inside : fromBound L n z ≡ place p → p < n
+  unfolding fromBound
+  from-inside = fit-inside n (fits L z) (inRow n (fromPlace n z)) (row-inside n (fromPlace n z)) p
 
-pub to-inside : (n p : ℕ) (z : ℤ) → toBound narrow n z ≡ place p → p < n
-unfolding toBound
-to-inside n p z = fit-inside n (fits narrow z) (toPlace n z) (to-place-inside n z) p
+  pub to-inside : toBound L n z ≡ place p → p < n
+  unfolding toBound
+  to-inside = fit-inside n (fits L z) (toPlace n z) (to-place-inside n z) p
 
 -- ---- the bound that an answer tells
 
@@ -115,26 +113,12 @@ bound-outside unfit e = cc
 bound-outside outside e = refl
 bound-outside (place p) e = cc
 
-pub bound-at : (b : Slice.Bound) (x : ℤ) → B.At x ≡ bound b → (b ≡ place (natAbs x)) × T (nonNeg x)
+pub bound-at : (b : Slice.Bound) (x : ℕ) → B.At x ≡ bound b → b ≡ place x
 unfolding bound
-bound-at unfit x e = let z : _≡_ {A = ℕ} 0 1 = cc in let n : ⊥ = omega arith in absurd n
-bound-at outside x e = let z : _≡_ {A = ℕ} 0 1 = cc in let n : ⊥ = omega arith in absurd n
-bound-at (place p) x e = let d : x ≡ pos p = cc in rw d (refl, tt)
+bound-at unfit x e = cc
+bound-at outside x e = cc
+bound-at (place p) x e = cc
 
--- the answer x for index z is a place of a row of n elements, and a `usize`
-pub record Points (n : ℕ) (z x : ℤ) : Type 0 where
-  pub is-place : indexBound narrow n z ≡ place (natAbs x)
-  pub natural : T (nonNeg x)
-  pub fits-signed : SFits w32 x
-  pub inside : natAbs x < n
-  pub fits-usize : Fits w64 (natAbs x)
-
-pub small-signed : (x : ℤ) → natAbs x < 2147483648 → SFits w32 x
-small-signed (pos n) h = record { sfits = h }
-small-signed (negsuc n) h = record { sfits = omega arith }
-
-pub index-at : (n : ℕ) (z x : ℤ) → n ≤ narrow .offset → B.At x ≡ bound (indexBound narrow n z) → Points n z x
-index-at n z x h e =
-    let b = bound-at (indexBound narrow n z) x e in
-    let l : natAbs x < n = place-inside n (natAbs x) z (b .0) in
-    record { is-place = b .0; natural = b .1; fits-signed = small-signed x (omega arith); inside = l; fits-usize = record { fits = omega arith } }
+-- the answer x for index z is a place of a row of n elements
+pub index-at : (L : Limits) (n : ℕ) (z : ℤ) (x : ℕ) → B.At x ≡ bound (indexBound L n z) → (indexBound L n z ≡ place x) × (x < n)
+index-at L n z x e = let b = bound-at (indexBound L n z) x e in (b, place-inside L n x z b)

@@ -1,15 +1,15 @@
 -- Laws of signed sums, differences and tests at any width.
-use mathlib.Core.Path.{_≡_, refl, sym, ap, _∙_, subst}
+use mathlib.Core.Path.{_≡_, refl, sym, ap, _∙_}
 use mathlib.Core.Bool.{Bool, true, false, cond}
 use Prim.Native.Nat.{ℕ, zero, suc, _+_, _-_, _^_, _<_, _≤_}
 use native.Mathlib.Omega.{arith}
 use lib.Dec.{T, ltb}
-use lib.IntN.{ℤ, pos, negsuc, subℕ, _+ℤ_, _-ℤ_}
+use lib.IntN.{ℤ, pos, negsuc, natAbs, subℕ, _+ℤ_, _-ℤ_}
 use lib.Signed.{mag, ltZ, nonNeg}
 use borrow.Author.Tests.{ltb-true, ltb-false}
-use mir.Syntax.{Width}
-use mir.Val.{SFits, toZ, ofZ, hbits}
-use mir.Facts.{toZ-ofZ}
+use mir.Syntax.{Width, w64}
+use mir.Val.{Fits, SFits, toZ, ofZ, hbits}
+use mir.Facts.{toZ-ofZ, fits-natAbs}
 use Rattle.model.proofs.BoolLaws.{never-true}
 
 -- a number that fits is read as it was written
@@ -17,6 +17,10 @@ pub read-back : (w : Width) (z : ℤ) → SFits w z → toZ w (ofZ w z) ≡ z
 read-back w z f = toZ-ofZ {w = w} f
 
 -- ---- the sign of a number
+
+-- what `z as usize` asks
+pub casts : (w : Width) (z : ℤ) → T (ltb (hbits w) 64) → SFits w z → T (nonNeg z) → T (nonNeg z) × Fits w64 (natAbs z)
+casts w z t f h = (h, fits-natAbs {w = w} {w′ = w64} {z = z} t f)
 
 pub not-below : (z : ℤ) (k : ℕ) → ltZ z (pos k) ≡ false → T (nonNeg z)
 not-below (pos i) k t = tt
@@ -58,6 +62,9 @@ sum-fits w (negsuc a) (negsuc b) f g t h = absurd h
 pub less-one : (z : ℤ) → ltZ z (pos 1) ≡ false → z -ℤ pos 1 ≡ pos (mag z - 1)
 less-one (pos i) t = difference-natural i 1 (ltb-false i 1 t)
 less-one (negsuc i) t = never-true t
+
+pub less-one-natural : (z : ℤ) → ltZ z (pos 1) ≡ false → T (nonNeg (z -ℤ pos 1))
+less-one-natural z t = rw (less-one z t) tt
 
 pub less-one-fits : (w : Width) (z : ℤ) → SFits w z → ltZ z (pos 1) ≡ false → SFits w (z -ℤ pos 1)
 less-one-fits w z f t = rw (less-one z t) (record { sfits = omega (arith, f .sfits) })

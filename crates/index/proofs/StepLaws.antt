@@ -1,17 +1,17 @@
 -- Laws of counting by stepping: what is left of a distance falls by the stride's size while it holds one.
-use mathlib.Core.Path.{_≡_, refl, sym, ap, _∙_}
+use mathlib.Core.Path.{_≡_, refl, sym, _∙_}
 use mathlib.Core.Bool.{Bool, true, false}
-use Prim.Native.Nat.{ℕ, zero, suc, _+_, _-_, _*_, _/_, _<_, _≤_}
+use Prim.Native.Nat.{ℕ, zero, suc, _+_, _-_, _/_, _^_, _<_, _≤_}
 use native.Mathlib.Omega.{arith}
 use native.Mathlib.Nat.{div-eq-of-lt, div-eq-sub-div, div-one}
-use borrow.Author.Tests.{le-ltb, ltb-false, leb-true, leb-false}
+use borrow.Author.Tests.{le-ltb, ltb-false, leb-false}
 use lib.Dec.{T}
 use lib.IntN.{ℤ, pos, negsuc, natAbs, _+ℤ_, _-ℤ_}
 use lib.Signed.{ltZ, leZ, mag, nonNeg}
-use mir.Syntax.{Width, w32}
-use mir.Val.{SFits, ofZ}
+use mir.Syntax.{Width}
+use mir.Val.{SFits, ofZ, hbits}
 use Rattle.model.specs.Column.{count}
-use Rattle.model.specs.Limits.{narrow}
+use Rattle.model.specs.Limits.{Limits}
 use Rattle.model.specs.Slice.{against, isZero, stepCount}
 use Rattle.model.proofs.BoolLaws.{never, never-true}
 use Rattle.index.specs.Plan.{IsPlace, Suits, isBelow}
@@ -53,9 +53,9 @@ unfolding isBelow
 size-down (pos k) h = never-true (sym h)
 size-down (negsuc k) h = omega arith
 
-pub size-fits : (s : ℤ) → SFits w32 s → natAbs s ≤ 2147483648
-size-fits (pos k) f = omega (arith, f .sfits)
-size-fits (negsuc k) f = omega (arith, f .sfits)
+pub size-fits : (w : Width) (s : ℤ) → SFits w s → natAbs s ≤ 2 ^ hbits w
+size-fits w (pos k) f = omega (arith, f .sfits)
+size-fits w (negsuc k) f = omega (arith, f .sfits)
 
 -- what is left and a negative stride: their sum, whatever its sign
 pub down-fits : (s : ℤ) (left half : ℕ) → isBelow s ≡ true → left < half → natAbs s ≤ half → mag (pos left +ℤ s) < half
@@ -76,44 +76,44 @@ down-last (pos k) left h t = never-true (sym h)
 down-last (negsuc k) left h t = difference-cases left (suc k) (λ z. leZ (pos 0) z ≡ false → left < suc k) (λ p q. p) (λ p q. let z = leb-false 0 (left - suc k) q in omega arith) t
 
 -- a stride above 0, turned round
-pub record Turned (s z : ℤ) : Type 0 where
+pub record Turned (w : Width) (s z : ℤ) : Type 0 where
   pub below : isBelow z ≡ true
   pub size : natAbs z ≡ natAbs s
-  pub fits : SFits w32 z
+  pub fits : SFits w z
 
-pub turned : (s : ℤ) → 0 < count s → SFits w32 s → Turned s (pos 0 -ℤ s)
+pub turned : (w : Width) (s : ℤ) → 0 < count s → SFits w s → Turned w s (pos 0 -ℤ s)
 unfolding count isBelow
-turned (negsuc k) h f = let z : ⊥ = omega arith in absurd z
-turned (pos k) h f =
+turned w (negsuc k) h f = let z : ⊥ = omega arith in absurd z
+turned w (pos k) h f =
     rw (difference-of 0 k)
-    (difference-cases 0 k (λ z. Turned (pos k) z)
+    (difference-cases 0 k (λ z. Turned w (pos k) z)
     (λ l. let e : suc (k - 1) ≡ k = omega arith in record { below = refl; size = e; fits = record { sfits = omega (arith, f .sfits) } })
     (λ l. let z : ⊥ = omega arith in absurd z))
 
 -- ---- the distance between two places, in the stride's direction
 
 -- it is a place, and stepping over it counts what stepping between the places does
-pub record Distance (z : ℤ) (n : ℕ) : Type 0 where
-  pub place : IsPlace z
+pub record Distance (L : Limits) (z : ℤ) (n : ℕ) : Type 0 where
+  pub place : IsPlace L z
   pub counted : count z ≡ n
 
-distance : (a b : ℕ) → a < narrow .offset → b ≤ a → Distance (pos a -ℤ pos b) (a - b)
+distance : (L : Limits) (a b : ℕ) → a < L .offset → b ≤ a → Distance L (pos a -ℤ pos b) (a - b)
 unfolding count
-distance a b h l = rw (difference-of a b, difference-natural a b l) (record { place = record { natural = tt; small = omega arith }; counted = refl })
+distance L a b h l = rw (difference-of a b, difference-natural a b l) (record { place = record { natural = tt; small = omega arith }; counted = refl })
 
-pub distance-down : (a b s : ℤ) → Suits a b s → isBelow s ≡ true → Distance (a -ℤ b) (count a - count b)
+pub distance-down : (L : Limits) (a b s : ℤ) → Suits L a b s → isBelow s ≡ true → Distance L (a -ℤ b) (count a - count b)
 unfolding isBelow against count
-distance-down (negsuc a) b s u h = absurd (u .from .natural)
-distance-down (pos a) (negsuc b) s u h = absurd (u .to .natural)
-distance-down (pos a) (pos b) (pos k) u h = never-true (sym h)
-distance-down (pos a) (pos b) (negsuc k) u h = distance a b (u .from .small) (ltb-false a b (u .direction))
+distance-down L (negsuc a) b s u h = absurd (u .from .natural)
+distance-down L (pos a) (negsuc b) s u h = absurd (u .to .natural)
+distance-down L (pos a) (pos b) (pos k) u h = never-true (sym h)
+distance-down L (pos a) (pos b) (negsuc k) u h = distance L a b (u .from .small) (ltb-false a b (u .direction))
 
-pub distance-up : (a b s : ℤ) → Suits a b s → isBelow s ≡ false → Distance (b -ℤ a) (count b - count a)
+pub distance-up : (L : Limits) (a b s : ℤ) → Suits L a b s → isBelow s ≡ false → Distance L (b -ℤ a) (count b - count a)
 unfolding isBelow against count
-distance-up (negsuc a) b s u h = absurd (u .from .natural)
-distance-up (pos a) (negsuc b) s u h = absurd (u .to .natural)
-distance-up (pos a) (pos b) (pos k) u h = distance b a (u .to .small) (ltb-false b a (u .direction))
-distance-up (pos a) (pos b) (negsuc k) u h = never-true h
+distance-up L (negsuc a) b s u h = absurd (u .from .natural)
+distance-up L (pos a) (negsuc b) s u h = absurd (u .to .natural)
+distance-up L (pos a) (pos b) (pos k) u h = distance L b a (u .to .small) (ltb-false b a (u .direction))
+distance-up L (pos a) (pos b) (negsuc k) u h = never-true h
 
 pub below-is : (s : ℤ) (t : Bool) → ltZ s (pos 0) ≡ t → isBelow s ≡ t
 unfolding isBelow
@@ -138,20 +138,22 @@ steps-up a b (pos k) h = refl
 steps-up a b (negsuc k) h = never-true h
 
 -- by steps of one
-pub steps-single : (a b s : ℤ) → Suits a b s → s ≡ pos 1 → b -ℤ a +ℤ pos 1 ≡ pos (stepCount (count a) (count b) s)
+pub steps-single : (L : Limits) (a b s : ℤ) → Suits L a b s → s ≡ pos 1 → b -ℤ a +ℤ pos 1 ≡ pos (stepCount (count a) (count b) s)
 unfolding count stepCount against
-steps-single (negsuc a) b s h e = absurd (h .from .natural)
-steps-single (pos a) (negsuc b) s h e = absurd (h .to .natural)
-steps-single (pos a) (pos b) (negsuc k) h e = never cc
-steps-single (pos a) (pos b) (pos k) h e =
+steps-single L (negsuc a) b s h e = absurd (h .from .natural)
+steps-single L (pos a) (negsuc b) s h e = absurd (h .to .natural)
+steps-single L (pos a) (pos b) (negsuc k) h e = never cc
+steps-single L (pos a) (pos b) (pos k) h e =
     let l = ltb-false b a (h .direction) in
     let f : k ≡ 1 = cc in
     rw (f, difference-of b a, difference-natural b a l, div-one (b - a))
 
-pub place-fits : (z : ℤ) → IsPlace z → SFits w32 z
-place-fits (pos n) p = record { sfits = omega (arith, p .small) }
-place-fits (negsuc n) p = absurd (p .natural)
+-- a place and the number after it fit a width that has the largest offset
+module _ (L : Limits) (w : Width) (h : L .offset < 2 ^ hbits w) where
+  pub place-fits : (z : ℤ) → IsPlace L z → SFits w z
+  place-fits (pos n) p = record { sfits = omega (arith, p .small) }
+  place-fits (negsuc n) p = absurd (p .natural)
 
-pub place-more : (z : ℤ) → IsPlace z → SFits w32 (z +ℤ pos 1)
-place-more (pos n) p = record { sfits = omega (arith, p .small) }
-place-more (negsuc n) p = absurd (p .natural)
+  pub place-more : (z : ℤ) → IsPlace L z → SFits w (z +ℤ pos 1)
+  place-more (pos n) p = record { sfits = omega (arith, p .small) }
+  place-more (negsuc n) p = absurd (p .natural)

@@ -25,7 +25,7 @@ indexBound L n z = pick (fits L z) (indexPlace n z) unfit
 unfoldable pub bound : Slice.Bound → Bound
 bound unfit = B.Unfit
 bound outside = B.Outside
-bound (place p) = B.At (pos p)
+bound (place p) = B.At p
 
 -- the element that a bound takes of a row
 unfoldable pub taken : Slice.Bound → List Elem → Elem

@@ -2,6 +2,7 @@
 // After extract.rs of datafusion-functions-nested 55.2.0, Apache License 2.0, Apache Software Foundation; changed, see NOTICE.
 pub mod slice;
 
+ghost use Prim.Native.Nat.{_≤_};
 ghost use Rattle.index.specs.Place.{bound, indexBound, indexPlace};
 ghost use Rattle.model.specs.Column.{count};
 ghost use Rattle.model.specs.Limits.{narrow};
@@ -12,7 +13,7 @@ ghost use mathlib.Core.Path.{_≡_};
 pub enum Bound {
     Unfit,
     Outside,
-    At(i32),
+    At(usize),
 }
 
 pub fn fits_i32(x: i64) -> bool
@@ -36,24 +37,25 @@ fn index_place(index: i32, len: i32) -> Bound
         if at < 0 {
             return Bound::Outside;
         }
-        return Bound::At(at);
+        return Bound::At(at as usize);
     }
     if index < 1 {
         return Bound::Outside;
     }
     let at = index - 1;
     if at < len {
-        return Bound::At(at);
+        return Bound::At(at as usize);
     }
     Bound::Outside
 }
 
-// 1 is the first place and -1 the last; a negative length counts as 0.
-pub fn adjusted_array_index(index: i64, len: i32) -> Bound
-    ensures { λ r. ⌜ r ≡ bound (indexBound narrow (count len) index) ⌝ }
+// 1 is the first place and -1 the last.
+pub fn adjusted_array_index(index: i64, len: usize) -> Bound
+    requires { ⌜ len ≤ narrow .offset ⌝ }
+    ensures { λ r. ⌜ r ≡ bound (indexBound narrow len index) ⌝ }
 {
     if !fits_i32(index) {
         return Bound::Unfit;
     }
-    index_place(index as i32, len)
+    index_place(index as i32, len as i32)
 }

@@ -1,7 +1,7 @@
 // The places that a slice takes of a row, by signed 32-bit arithmetic.
 // After extract.rs of datafusion-functions-nested 55.2.0, Apache License 2.0, Apache Software Foundation; changed, see NOTICE.
 use crate::Bound;
-ghost use Prim.Native.Nat.{_+_, _/_, _<_};
+ghost use Prim.Native.Nat.{_+_, _/_, _<_, _≤_};
 ghost use Rattle.index.specs.Place.{bound};
 ghost use Rattle.index.specs.Plan.{IsPlace, Suits, HasPlace, isBelow, planOf, strideIn, boundTold};
 ghost use Rattle.model.specs.Column.{count};
@@ -14,7 +14,11 @@ ghost use mathlib.Core.Path.{_≡_};
 // No places, so many from a start on by a stride, or the number of a refusal.
 pub enum SlicePlan {
     Empty,
-    Steps { start: i32, stride: i32, count: i32 },
+    Steps {
+        start: usize,
+        stride: i64,
+        count: usize,
+    },
     Refused(u8),
 }
 
@@ -48,7 +52,7 @@ fn to_place(index: i32, len: i32) -> Bound
 {
     let last = len - 1;
     if last < index {
-        return Bound::At(last);
+        return Bound::At(last as usize);
     }
     crate::index_place(index, len)
 }
@@ -65,7 +69,7 @@ pub fn adjusted_from_index(index: i64, len: i32) -> Bound
     }
     let at = from_place(index as i32, len);
     if at < len {
-        return Bound::At(at);
+        return Bound::At(at as usize);
     }
     Bound::Outside
 }
@@ -85,8 +89,8 @@ pub fn adjusted_to_index(index: i64, len: i32) -> Bound
 
 // Whether the stride leads away from to.
 fn is_against(from: i32, to: i32, stride: i64) -> bool
-    requires { ⌜ IsPlace from ⌝ }
-    requires { ⌜ IsPlace to ⌝ }
+    requires { ⌜ IsPlace narrow from ⌝ }
+    requires { ⌜ IsPlace narrow to ⌝ }
     ensures { λ r. ⌜ r ≡ against (count from) (count to) stride ⌝ }
 {
     if stride < 0 {
@@ -98,7 +102,7 @@ fn is_against(from: i32, to: i32, stride: i64) -> bool
 // One more than the steps that a distance holds, by a stride below 0: what is left falls by each of them, and its sum with the stride
 // stays in range, where the stride's size might not.
 fn count_down(distance: i32, stride: i32) -> i32
-    requires { ⌜ IsPlace distance ⌝ }
+    requires { ⌜ IsPlace narrow distance ⌝ }
     requires { ⌜ isBelow stride ≡ true ⌝ }
     ensures { λ r. ⌜ r ≡ pos (count distance / natAbs stride + 1) ⌝ }
 {
@@ -114,7 +118,7 @@ fn count_down(distance: i32, stride: i32) -> i32
 // How many places there are from from by stride, to included: one by one there are as many as the distance and one; else they are
 // counted by stepping, a stride above 0 turned round.
 fn count_steps(from: i32, to: i32, stride: i32) -> i32
-    requires { ⌜ Suits from to stride ⌝ }
+    requires { ⌜ Suits narrow from to stride ⌝ }
     ensures { λ r. ⌜ r ≡ pos (stepCount (count from) (count to) stride) ⌝ }
 {
     if stride < 0 {
@@ -129,8 +133,8 @@ fn count_steps(from: i32, to: i32, stride: i32) -> i32
 
 // The plan between two places of the row.
 fn plan_steps(from: i32, to: i32, stride: i64) -> SlicePlan
-    requires { ⌜ IsPlace from ⌝ }
-    requires { ⌜ IsPlace to ⌝ }
+    requires { ⌜ IsPlace narrow from ⌝ }
+    requires { ⌜ IsPlace narrow to ⌝ }
     ensures { λ r. ⌜ r ≡ planOf (strided narrow (count from) (count to) stride) ⌝ }
 {
     if stride == 0 {
@@ -142,19 +146,18 @@ fn plan_steps(from: i32, to: i32, stride: i64) -> SlicePlan
     if !crate::fits_i32(stride) {
         return SlicePlan::Refused(6);
     }
-    let by = stride as i32;
-    let count = count_steps(from, to, by);
+    let count = count_steps(from, to, stride as i32);
     SlicePlan::Steps {
-        start: from,
-        stride: by,
-        count,
+        start: from as usize,
+        stride,
+        count: count as usize,
     }
 }
 
 // The plan between two bounds.
 fn plan_between(from: Bound, to: Bound, stride: i64) -> SlicePlan
-    requires { ⌜ HasPlace from ⌝ }
-    requires { ⌜ HasPlace to ⌝ }
+    requires { ⌜ HasPlace narrow from ⌝ }
+    requires { ⌜ HasPlace narrow to ⌝ }
     ensures { λ r. ⌜ r ≡ planOf (between narrow (boundTold from) (boundTold to) stride) ⌝ }
 {
     match from {
@@ -167,12 +170,13 @@ fn plan_between(from: Bound, to: Bound, stride: i64) -> SlicePlan
         Bound::At(first) => match to {
             Bound::Unfit => SlicePlan::Refused(4),
             Bound::Outside => SlicePlan::Empty,
-            Bound::At(last) => plan_steps(first, last, stride),
+            Bound::At(last) => plan_steps(first as i32, last as i32, stride),
         },
     }
 }
 
-fn stride_of(stride: Stride) -> i64
+// An absent stride is 1.
+pub fn stride_of(stride: Stride) -> i64
     ensures { λ r. ⌜ r ≡ strideIn stride ⌝ }
 {
     match stride {
@@ -181,14 +185,16 @@ fn stride_of(stride: Stride) -> i64
     }
 }
 
-// A negative length counts as 0.
-pub fn compute_slice_plan(len: i32, from: i64, to: i64, stride: Stride) -> SlicePlan
-    ensures { λ r. ⌜ r ≡ planOf (slicePlan narrow (count len) from to (strideIn stride)) ⌝ }
+// The places that a slice takes of a row of len elements.
+pub fn compute_slice_plan(len: usize, from: i64, to: i64, stride: Stride) -> SlicePlan
+    requires { ⌜ len ≤ narrow .offset ⌝ }
+    ensures { λ r. ⌜ r ≡ planOf (slicePlan narrow len from to (strideIn stride)) ⌝ }
 {
-    if len < 1 {
+    if len == 0 {
         return SlicePlan::Empty;
     }
-    let first = adjusted_from_index(from, len);
-    let last = adjusted_to_index(to, len);
+    let n = len as i32;
+    let first = adjusted_from_index(from, n);
+    let last = adjusted_to_index(to, n);
     plan_between(first, last, stride_of(stride))
 }

@@ -14,7 +14,7 @@ use Rattle.model.specs.Bitmap.{validAt}
 use Rattle.model.specs.Column.{Elem, Row, nullRow, listRow, Column, Arguments, elemAt, offsetAt, lengthAt, rowAt, rowsOf, shownBy, rowCount, count}
 use Rattle.model.specs.Form.{Room, elemsOf, flat}
 use Rattle.model.specs.Lengths.{roomFor, listLengths}
-use Rattle.model.specs.Limits.{narrow, largest}
+use Rattle.model.specs.Limits.{Limits, largest}
 use Rattle.model.specs.Outcome.{Outcome, refused, made, gate, fitted, afterThree, earlyRefusal, listOutcome}
 use Rattle.model.specs.Refusals.{RowCount, uncounted, counted, rowCountOf, Sum, stopped, sum, plus, andThen, sumOf, sumRefusal, resizeRefusal, orElse, firstOf, refusalOf, sumsRefusal, rowsRefusal}
 use Rattle.model.specs.Rows.{ListCall, onCall, Made, madeOf, atRow, rowOf, argumentOf, rowsIn, rowByRow, rowMade, rowsMade}
@@ -57,7 +57,7 @@ rows-in L.ResizeWith ws x y z = refl
 rows-in L.Replace ws x y z = refl
 rows-in L.Remove ws x y z = refl
 
-module _ (op : ListOp) (c : Column) (x y z : Arguments) where
+module _ (N : Limits) (op : ListOp) (c : Column) (x y z : Arguments) where
   abbrev elems : ℕ → List Elem
   elems r = tab (elemAt (c .values) (c .elements)) (offsetAt (c .offsets) r) (lengthAt c r)
 
@@ -65,57 +65,57 @@ module _ (op : ListOp) (c : Column) (x y z : Arguments) where
   cells f r = f (takenAt (ltb 0 (takesOf op)) false x r) (takenAt (ltb 1 (takesOf op)) (secondLimit op) y r) (takenAt (ltb 2 (takesOf op)) (thirdLimit op) z r)
 
   -- the code's row between a and b is row r's
-  module _ (r a b : ℕ) (o : RowOp) (ea : a ≡ offsetAt (c .offsets) r) (eb : b ≡ offsetAt (c .offsets) (r + 1)) (eo : o ≡ opAt op (c .rows) x y z r (b - a)) where
-    pub made-of : opMade o (tab (elemAt (c .values) (c .elements)) a (b - a)) ≡ madeAt op c x y z r
+  module _ (r a b : ℕ) (o : RowOp) (ea : a ≡ offsetAt (c .offsets) r) (eb : b ≡ offsetAt (c .offsets) (r + 1)) (eo : o ≡ opAt N op (c .rows) x y z r (b - a)) where
+    pub made-of : opMade o (tab (elemAt (c .values) (c .elements)) a (b - a)) ≡ madeAt N op c x y z r
     unfolding madeAt madeFrom
     made-of = rw (eo, ea, eb)
 
-    pub refusal-of : opRefusal o ≡ refusalAt op c x y z r
+    pub refusal-of : opRefusal o ≡ refusalAt N op c x y z r
     refusal-of = refusal-made o (tab (elemAt (c .values) (c .elements)) a (b - a)) ∙ ap refusalOf made-of
 
-    pub row-of : rowMade (opMade o (tab (elemAt (c .values) (c .elements)) a (b - a))) ≡ rowMadeAt op c x y z r
+    pub row-of : rowMade (opMade o (tab (elemAt (c .values) (c .elements)) a (b - a))) ≡ rowMadeAt N op c x y z r
     row-of = ap rowMade made-of
 
-    pub length-of : length (opElems o (tab (elemAt (c .values) (c .elements)) a (b - a))) ≡ length (elemsOf (rowMadeAt op c x y z r))
+    pub length-of : length (opElems o (tab (elemAt (c .values) (c .elements)) a (b - a))) ≡ length (elemsOf (rowMadeAt N op c x y z r))
     length-of = ap length (sym (elems-of-made o (tab (elemAt (c .values) (c .elements)) a (b - a)))) ∙ ap (λ (w : Row). length (elemsOf w)) row-of
 
     pub length-le : isResize op ≡ false → length (opElems o (tab (elemAt (c .values) (c .elements)) a (b - a))) ≤ b - a
     unfolding opAt
-    length-le t = rw eo (op-le op (validAt (c .rows) r) (b - a) (tab (elemAt (c .values) (c .elements)) a (b - a)) _ _ _ (length-tab (elemAt (c .values) (c .elements)) a (b - a)) t)
+    length-le t = rw eo (op-le N op (validAt (c .rows) r) (b - a) (tab (elemAt (c .values) (c .elements)) a (b - a)) _ _ _ (length-tab (elemAt (c .values) (c .elements)) a (b - a)) t)
 
-  pub length-call : length (callRows op c x y z) ≡ rowCount (c .offsets)
+  pub length-call : length (callRows N op c x y z) ≡ rowCount (c .offsets)
   unfolding callRows
-  length-call = length-tab (rowMadeAt op c x y z) 0 (rowCount (c .offsets))
+  length-call = length-tab (rowMadeAt N op c x y z) 0 (rowCount (c .offsets))
 
   -- the rows made, counted by the code's n
   module _ (n : ℕ) (e : n ≡ rowCount (c .offsets)) where
-    pub rows-at : tab (rowMadeAt op c x y z) 0 n ≡ callRows op c x y z
+    pub rows-at : tab (rowMadeAt N op c x y z) 0 n ≡ callRows N op c x y z
     unfolding callRows
     rows-at = rw e
 
-    pub room-at : {lo lo′ lr lv le : ℕ} → RoomInˡ (rowCount (c .offsets)) (length (flat (callRows op c x y z))) lo lr lv le → lo′ ≡ lo → RoomInˡ n (length (flat (tab (rowMadeAt op c x y z) 0 n))) lo′ lr lv le
+    pub room-at : {lo lo′ lr lv le : ℕ} → RoomInˡ (rowCount (c .offsets)) (length (flat (callRows N op c x y z))) lo lr lv le → lo′ ≡ lo → RoomInˡ n (length (flat (tab (rowMadeAt N op c x y z) 0 n))) lo′ lr lv le
     room-at h q = rw (q, rows-at, e) h
 
   module _ (s : Served op (rowCount (c .offsets)) x y z) where
     abbrev call : ListCall (List Row) (List Elem)
     call = callOf op (rowsOf c) (shownBy x) (shownBy y) (shownBy z)
 
-    made-at : (r : ℕ) → r < rowCount (c .offsets) → madeAt op c x y z r ≡ madeOf narrow (atRow call r)
+    made-at : (r : ℕ) → r < rowCount (c .offsets) → madeAt N op c x y z r ≡ madeOf N (atRow call r)
     unfolding madeAt madeFrom opAt rowAt
     made-at r h =
-        let m = op-made op (validAt (c .rows) r) (elems r) (takenAt (ltb 0 (takesOf op)) false x r) (takenAt (ltb 1 (takesOf op)) (secondLimit op) y r) (takenAt (ltb 2 (takesOf op)) (thirdLimit op) z r) in
-        rw (length-tab (elemAt (c .values) (c .elements)) (offsetAt (c .offsets) r) (lengthAt c r)) at m ∙ ap (madeOf narrow) (at-row op c x y z r h s)
+        let m = op-made N op (validAt (c .rows) r) (elems r) (takenAt (ltb 0 (takesOf op)) false x r) (takenAt (ltb 1 (takesOf op)) (secondLimit op) y r) (takenAt (ltb 2 (takesOf op)) (thirdLimit op) z r) in
+        rw (length-tab (elemAt (c .values) (c .elements)) (offsetAt (c .offsets) r) (lengthAt c r)) at m ∙ ap (madeOf N) (at-row op c x y z r h s)
 
-    by-row : rowByRow narrow call ≡ tab (madeAt op c x y z) 0 (rowCount (c .offsets))
+    by-row : rowByRow N call ≡ tab (madeAt N op c x y z) 0 (rowCount (c .offsets))
     unfolding rowByRow
     by-row = rw (rows-in op (rowsOf c) (shownBy x) (shownBy y) (shownBy z), length-rows c) (tab-ext _ _ 0 0 (rowCount (c .offsets)) (λ r h. rw (zero-add r) (sym (made-at r h))))
 
-    pub rows-made : rowsMade narrow call ≡ callRows op c x y z
+    pub rows-made : rowsMade N call ≡ callRows N op c x y z
     unfolding rowsMade callRows
-    rows-made = rw by-row (map-tab rowMade (madeAt op c x y z) 0 (rowCount (c .offsets)))
+    rows-made = rw by-row (map-tab rowMade (madeAt N op c x y z) 0 (rowCount (c .offsets)))
 
-    refusals-are : firstOf (map refusalOf (rowByRow narrow call)) ≡ firstOf (tab (refusalAt op c x y z) 0 (rowCount (c .offsets)))
-    refusals-are = rw by-row (ap firstOf (map-tab refusalOf (madeAt op c x y z) 0 (rowCount (c .offsets))))
+    refusals-are : firstOf (map refusalOf (rowByRow N call)) ≡ firstOf (tab (refusalAt N op c x y z) 0 (rowCount (c .offsets)))
+    refusals-are = rw by-row (ap firstOf (map-tab refusalOf (madeAt N op c x y z) 0 (rowCount (c .offsets))))
 
 -- ---- the refusal of the rows, where it is no resize
 
@@ -126,15 +126,15 @@ or-none k = cases (eqb k 0) refl
     cases true e = sym (eqb-true k 0 e)
     cases false e = refl
 
-no-sums : (op : ListOp) (ws : List Row) (x y z : List Elem) → isResize op ≡ false → sumsRefusal narrow (callOf op ws x y z) ≡ 0
+no-sums : (N : Limits) (op : ListOp) (ws : List Row) (x y z : List Elem) → isResize op ≡ false → sumsRefusal N (callOf op ws x y z) ≡ 0
 unfolding sumsRefusal callOf table
-no-sums (L.Plain u) ws x y z h = refl
-no-sums L.Slice ws x y z h = refl
-no-sums L.SliceBy ws x y z h = refl
-no-sums L.Resize ws x y z h = absurd (subst T h tt)
-no-sums L.ResizeWith ws x y z h = absurd (subst T h tt)
-no-sums L.Replace ws x y z h = refl
-no-sums L.Remove ws x y z h = refl
+no-sums N (L.Plain u) ws x y z h = refl
+no-sums N L.Slice ws x y z h = refl
+no-sums N L.SliceBy ws x y z h = refl
+no-sums N L.Resize ws x y z h = absurd (subst T h tt)
+no-sums N L.ResizeWith ws x y z h = absurd (subst T h tt)
+no-sums N L.Replace ws x y z h = refl
+no-sums N L.Remove ws x y z h = refl
 
 -- ---- resize
 
@@ -183,15 +183,15 @@ amount-made false k f es = refl
 amount-made true C.Null f es = refl
 amount-made true (C.Value n) f es = length-resized (count n) (fillElem f) es
 
-count-made : (op : ListOp) (c : Column) (x y z : Arguments) → isResize op ≡ true → (r : ℕ) → length (elemsOf (rowMadeAt op c x y z r)) ≡ amount (countAt (c .rows) x r)
+count-made : (N : Limits) (op : ListOp) (c : Column) (x y z : Arguments) → isResize op ≡ true → (r : ℕ) → length (elemsOf (rowMadeAt N op c x y z r)) ≡ amount (countAt (c .rows) x r)
 unfolding madeAt madeFrom opAt rowOpOf validOp table
-count-made (L.Plain u) c x y z h r = absurd (subst T (sym h) tt)
-count-made L.Slice c x y z h r = absurd (subst T (sym h) tt)
-count-made L.SliceBy c x y z h r = absurd (subst T (sym h) tt)
-count-made L.Resize c x y z h r = ap length (elems-of-made _ _) ∙ amount-made (validAt (c .rows) r) (takenAt true false x r) F.Absent _
-count-made L.ResizeWith c x y z h r = ap length (elems-of-made _ _) ∙ amount-made (validAt (c .rows) r) (takenAt true false x r) (F.Own (takenAt true false y r)) _
-count-made L.Replace c x y z h r = absurd (subst T (sym h) tt)
-count-made L.Remove c x y z h r = absurd (subst T (sym h) tt)
+count-made N (L.Plain u) c x y z h r = absurd (subst T (sym h) tt)
+count-made N L.Slice c x y z h r = absurd (subst T (sym h) tt)
+count-made N L.SliceBy c x y z h r = absurd (subst T (sym h) tt)
+count-made N L.Resize c x y z h r = ap length (elems-of-made _ _) ∙ amount-made (validAt (c .rows) r) (takenAt true false x r) F.Absent _
+count-made N L.ResizeWith c x y z h r = ap length (elems-of-made _ _) ∙ amount-made (validAt (c .rows) r) (takenAt true false x r) (F.Own (takenAt true false y r)) _
+count-made N L.Replace c x y z h r = absurd (subst T (sym h) tt)
+count-made N L.Remove c x y z h r = absurd (subst T (sym h) tt)
 
 pub counts-served : (op : ListOp) {n : ℕ} {x y z : Arguments} → isResize op ≡ true → Served op n x y z → Serves false n x
 unfolding table
@@ -212,46 +212,46 @@ unfolding tab firstOf
 none-first f h a zero = refl
 none-first f h a (suc n) = rw (h a) (none-first f h (suc a) n)
 
-resize-sums : (op : ListOp) (ws : List Row) (x y z : List Elem) → isResize op ≡ true → rowsRefusal narrow (callOf op ws x y z) ≡ resizeRefusal narrow ws x
+resize-sums : (N : Limits) (op : ListOp) (ws : List Row) (x y z : List Elem) → isResize op ≡ true → rowsRefusal N (callOf op ws x y z) ≡ resizeRefusal N ws x
 unfolding callOf rowsRefusal rowByRow sumsRefusal madeOf atRow refusalOf table
-resize-sums (L.Plain u) ws x y z h = absurd (subst T (sym h) tt)
-resize-sums L.Slice ws x y z h = absurd (subst T (sym h) tt)
-resize-sums L.SliceBy ws x y z h = absurd (subst T (sym h) tt)
-resize-sums L.Resize ws x y z h = rw (none-first _ (λ r. refl) 0 _)
-resize-sums L.ResizeWith ws x y z h = rw (none-first _ (λ r. refl) 0 _)
-resize-sums L.Replace ws x y z h = absurd (subst T (sym h) tt)
-resize-sums L.Remove ws x y z h = absurd (subst T (sym h) tt)
+resize-sums N (L.Plain u) ws x y z h = absurd (subst T (sym h) tt)
+resize-sums N L.Slice ws x y z h = absurd (subst T (sym h) tt)
+resize-sums N L.SliceBy ws x y z h = absurd (subst T (sym h) tt)
+resize-sums N L.Resize ws x y z h = rw (none-first _ (λ r. refl) 0 _)
+resize-sums N L.ResizeWith ws x y z h = rw (none-first _ (λ r. refl) 0 _)
+resize-sums N L.Replace ws x y z h = absurd (subst T (sym h) tt)
+resize-sums N L.Remove ws x y z h = absurd (subst T (sym h) tt)
 
-last : (t : Sum) (m : ℕ) → Comes m t → lastTest t ≡ gate (sumRefusal narrow t) (made m)
+last : (N : Limits) (t : Sum) (m : ℕ) → Comes m t → lastTest N t ≡ gate (sumRefusal N t) (made m)
 unfolding Comes lastTest sumRefusal
-last (stopped k) m h = sym (gate-shut k _ h)
-last (sum n) m h = rw h
+last N (stopped k) m h = sym (gate-shut k _ h)
+last N (sum n) m h = rw h
 
 -- ---- what was measured
 
-module _ (op : ListOp) (c : Column) (x y z : Arguments) (s : Served op (rowCount (c .offsets)) x y z) where
+module _ (N : Limits) (op : ListOp) (c : Column) (x y z : Arguments) (s : Served op (rowCount (c .offsets)) x y z) where
   abbrev rows : List Row
   rows = rowsOf c
 
   abbrev refusal : ℕ
-  refusal = rowsRefusal narrow (callOf op (rowsOf c) (shownBy x) (shownBy y) (shownBy z))
+  refusal = rowsRefusal N (callOf op (rowsOf c) (shownBy x) (shownBy y) (shownBy z))
 
-  rows-measured : isResize op ≡ false → rowsMeasure op c x y z ≡ measureOf (gate refusal (made (length (flat (callRows op c x y z)))))
+  rows-measured : isResize op ≡ false → rowsMeasure N op c x y z ≡ measureOf (gate refusal (made (length (flat (callRows N op c x y z)))))
   unfolding rowsMeasure rowsRefusal
-  rows-measured h = rw (refusals-are op c x y z s, no-sums op (rowsOf c) (shownBy x) (shownBy y) (shownBy z) h, or-none (firstOf (tab (refusalAt op c x y z) 0 (rowCount (c .offsets)))))
+  rows-measured h = rw (refusals-are N op c x y z s, no-sums N op (rowsOf c) (shownBy x) (shownBy y) (shownBy z) h, or-none (firstOf (tab (refusalAt N op c x y z) 0 (rowCount (c .offsets)))))
 
-  resize-measured : isResize op ≡ true → resizeMeasure (c .rows) x (rowCount (c .offsets)) ≡ measureOf (gate refusal (made (length (flat (callRows op c x y z)))))
+  resize-measured : isResize op ≡ true → resizeMeasure N (c .rows) x (rowCount (c .offsets)) ≡ measureOf (gate refusal (made (length (flat (callRows N op c x y z)))))
   unfolding resizeMeasure resizeRefusal callRows
   resize-measured h =
-      let t = comes (rowMadeAt op c x y z) (countAt (c .rows) x) (count-made op c x y z h) (rowCount (c .offsets)) 0 0 in
-      rw (resize-sums op (rowsOf c) (shownBy x) (shownBy y) (shownBy z) h, counts-are c x (counts-served op h s))
-      (ap measureOf (last (sumOf (sum 0) (tab (countAt (c .rows) x) 0 (rowCount (c .offsets)))) (length (flat (tab (rowMadeAt op c x y z) 0 (rowCount (c .offsets))))) (rw (zero-add (length (flat (tab (rowMadeAt op c x y z) 0 (rowCount (c .offsets)))))) at t)))
+      let t = comes (rowMadeAt N op c x y z) (countAt (c .rows) x) (count-made N op c x y z h) (rowCount (c .offsets)) 0 0 in
+      rw (resize-sums N op (rowsOf c) (shownBy x) (shownBy y) (shownBy z) h, counts-are c x (counts-served op h s))
+      (ap measureOf (last N (sumOf (sum 0) (tab (countAt (c .rows) x) 0 (rowCount (c .offsets)))) (length (flat (tab (rowMadeAt N op c x y z) 0 (rowCount (c .offsets))))) (rw (zero-add (length (flat (tab (rowMadeAt N op c x y z) 0 (rowCount (c .offsets)))))) at t)))
 
-  pub measured : callMeasure op c x y z ≡ measureOf (gate refusal (made (length (flat (callRows op c x y z)))))
+  pub measured : callMeasure N op c x y z ≡ measureOf (gate refusal (made (length (flat (callRows N op c x y z)))))
   unfolding callMeasure
   measured = cases (isResize op) refl
     where
-      cases : (t : Bool) → isResize op ≡ t → pick t (resizeMeasure (c .rows) x (rowCount (c .offsets))) (rowsMeasure op c x y z) ≡ measureOf (gate refusal (made (length (flat (callRows op c x y z)))))
+      cases : (t : Bool) → isResize op ≡ t → pick t (resizeMeasure N (c .rows) x (rowCount (c .offsets))) (rowsMeasure N op c x y z) ≡ measureOf (gate refusal (made (length (flat (callRows N op c x y z)))))
       cases true h = resize-measured h
       cases false h = rows-measured h
 
@@ -273,28 +273,28 @@ measure-sum k m j o e = cases (eqb k 0) e
     cases false h = never cc
 
 -- what is made after 3
-pub after-three : (op : ListOp) (c : Column) (x y z : Arguments) (l : Room) → Served op (rowCount (c .offsets)) x y z
-    → afterThree narrow (callOf op (rowsOf c) (shownBy x) (shownBy y) (shownBy z)) l ≡ gate (rowsRefusal narrow (callOf op (rowsOf c) (shownBy x) (shownBy y) (shownBy z))) (fitted (callRows op c x y z) l)
+pub after-three : (N : Limits) (op : ListOp) (c : Column) (x y z : Arguments) (l : Room) → Served op (rowCount (c .offsets)) x y z
+    → afterThree N (callOf op (rowsOf c) (shownBy x) (shownBy y) (shownBy z)) l ≡ gate (rowsRefusal N (callOf op (rowsOf c) (shownBy x) (shownBy y) (shownBy z))) (fitted (callRows N op c x y z) l)
 unfolding afterThree
-after-three op c x y z l s = rw (rows-made op c x y z s)
+after-three N op c x y z l s = rw (rows-made N op c x y z s)
 
 -- ---- a call that is refused early, or goes on; k is what the code found
 
-module _ (op : ListOp) (c : Column) (x y z : Arguments) (k : ℕ) (e : k ≡ earlyRefusal (callOf op c x y z)) where
+module _ (N : Limits) (op : ListOp) (c : Column) (x y z : Arguments) (k : ℕ) (e : k ≡ earlyRefusal (callOf op c x y z)) where
   abbrev shownCall : ListCall (List Row) (List Elem)
   shownCall = callOf op (rowsOf c) (shownBy x) (shownBy y) (shownBy z)
 
-  pub run-early : (l : Room) → (k ≡ 0 → ⊥) → listOutcome narrow (callOf op c x y z) l ≡ refused k
-  run-early l h = early-outcome narrow (callOf op c x y z) l ∙ rw (← e) (gate-shut k (afterThree narrow (onCall rowsOf shownBy (callOf op c x y z)) l) h)
+  pub run-early : (l : Room) → (k ≡ 0 → ⊥) → listOutcome N (callOf op c x y z) l ≡ refused k
+  run-early l h = early-outcome N (callOf op c x y z) l ∙ rw (← e) (gate-shut k (afterThree N (onCall rowsOf shownBy (callOf op c x y z)) l) h)
 
-  pub run-goes : (l : Room) → k ≡ 0 → listOutcome narrow (callOf op c x y z) l ≡ afterThree narrow shownCall l
-  run-goes l h = early-outcome narrow (callOf op c x y z) l ∙ gate-open (earlyRefusal (callOf op c x y z)) (afterThree narrow (onCall rowsOf shownBy (callOf op c x y z)) l) (sym e ∙ h) ∙ rw (call-shown op c x y z)
+  pub run-goes : (l : Room) → k ≡ 0 → listOutcome N (callOf op c x y z) l ≡ afterThree N shownCall l
+  run-goes l h = early-outcome N (callOf op c x y z) l ∙ gate-open (earlyRefusal (callOf op c x y z)) (afterThree N (onCall rowsOf shownBy (callOf op c x y z)) l) (sym e ∙ h) ∙ rw (call-shown op c x y z)
 
-  pub lengths-early : (k ≡ 0 → ⊥) → refused k ≡ listLengths narrow (callOf op c x y z)
-  lengths-early h = sym (early-lengths narrow (callOf op c x y z) ∙ rw (← e) (gate-shut k _ h))
+  pub lengths-early : (k ≡ 0 → ⊥) → refused k ≡ listLengths N (callOf op c x y z)
+  lengths-early h = sym (early-lengths N (callOf op c x y z) ∙ rw (← e) (gate-shut k _ h))
 
-  pub lengths-go : k ≡ 0 → Served op (rowCount (c .offsets)) x y z → listLengths narrow (callOf op c x y z) ≡ gate (rowsRefusal narrow shownCall) (made (roomFor (rowCount (c .offsets)) (length (flat (callRows op c x y z)))))
+  pub lengths-go : k ≡ 0 → Served op (rowCount (c .offsets)) x y z → listLengths N (callOf op c x y z) ≡ gate (rowsRefusal N shownCall) (made (roomFor (rowCount (c .offsets)) (length (flat (callRows N op c x y z)))))
   lengths-go h s =
-      early-lengths narrow (callOf op c x y z)
+      early-lengths N (callOf op c x y z)
       ∙ gate-open (earlyRefusal (callOf op c x y z)) _ (sym e ∙ h)
-      ∙ rw (call-shown op c x y z, rows-made op c x y z s, length-call op c x y z)
+      ∙ rw (call-shown op c x y z, rows-made N op c x y z s, length-call N op c x y z)

@@ -10,7 +10,7 @@ use lib.ListN.{length}
 use Rattle.model.specs.Bitmap.{Bits, validAt}
 use Rattle.model.specs.Column.{Elem, Arguments, count}
 use Rattle.model.specs.Form.{isRow}
-use Rattle.model.specs.Limits.{narrow}
+use Rattle.model.specs.Limits.{Limits}
 use Rattle.model.specs.Refusals.{refusalOf}
 use Rattle.model.specs.Rows.{rowMade}
 use Rattle.model.specs.Slice.{Plan, refuse, empty, places, slicePlan}
@@ -63,14 +63,14 @@ isRow-made (R.Removed f k) es n e = rw e
 -- ---- a slice's places lie in the row
 
 -- what holds of every plan's operation, holds of a row's
-module _ (n : ℕ) (P : RowOp → Type 0) (null : P R.Null) (plan : (f t s : ℤ) → P (planOp (I.planOf (slicePlan narrow n f t s)))) where
-  slice-all : (f t : Cell) (s : Stride) → P (sliceOp n f t s)
+module _ (N : Limits) (n : ℕ) (P : RowOp → Type 0) (null : P R.Null) (plan : (f t s : ℤ) → P (planOp (I.planOf (slicePlan N n f t s)))) where
+  slice-all : (f t : Cell) (s : Stride) → P (sliceOp N n f t s)
   unfolding sliceOp
   slice-all C.Null t s = null
   slice-all (C.Value f) C.Null s = null
   slice-all (C.Value f) (C.Value t) s = plan f t (I.strideIn s)
 
-  stride-all : (f t s : Cell) → P (strideOp n f t s)
+  stride-all : (f t s : Cell) → P (strideOp N n f t s)
   unfolding strideOp
   stride-all f t C.Null = null
   stride-all f t (C.Value s) = slice-all f t (S.By s)
@@ -87,7 +87,7 @@ module _ (n : ℕ) (P : RowOp → Type 0) (null : P R.Null) (plan : (f t s : ℤ
     remove-all (C.Value v) C.Null = null
     remove-all (C.Value v) (C.Value k) = removed (C.Value v) (count k)
 
-    valid-all : (op : ListOp) → (isResize op ≡ true → (x : Cell) (f : Fill) → P (resizeOp x f)) → (x y z : Cell) → P (validOp op n x y z)
+    valid-all : (op : ListOp) → (isResize op ≡ true → (x : Cell) (f : Fill) → P (resizeOp x f)) → (x y z : Cell) → P (validOp N op n x y z)
     unfolding validOp table
     valid-all (L.Plain u) h x y z = plain u
     valid-all L.Slice h x y z = slice-all x y S.Absent
@@ -97,37 +97,37 @@ module _ (n : ℕ) (P : RowOp → Type 0) (null : P R.Null) (plan : (f t s : ℤ
     valid-all L.Replace h x y z = replace-all x y z
     valid-all L.Remove h x y z = remove-all x y
 
-plan-doable : (n : ℕ) (f t s : ℤ) (p : Plan) → n ≤ narrow .offset → slicePlan narrow n f t s ≡ p → Doable (planOp (I.planOf p)) n
+plan-doable : (N : Limits) (n : ℕ) (f t s : ℤ) (p : Plan) → n ≤ 9223372036854775807 → slicePlan N n f t s ≡ p → Doable (planOp (I.planOf p)) n
 unfolding Doable planOp I.planOf
-plan-doable n f t s (refuse k) h e = tt
-plan-doable n f t s empty h e = tt
-plan-doable n f t s (places a d k) h e = plan-walks narrow n f t s (pos a) d (pos k) tt tt h e
+plan-doable N n f t s (refuse k) h e = tt
+plan-doable N n f t s empty h e = tt
+plan-doable N n f t s (places a d k) h e = plan-walks N n f t s a d k h e
 
 resize-doable : (n : ℕ) (x : Cell) (f : Fill) → Doable (resizeOp x f) n
 unfolding Doable resizeOp
 resize-doable n C.Null f = tt
 resize-doable n (C.Value k) f = tt
 
-pub doable : (op : ListOp) (valid : Bool) (n : ℕ) (x y z : Cell) → n ≤ narrow .offset → Doable (rowOpOf op valid n x y z) n
+pub doable : (N : Limits) (op : ListOp) (valid : Bool) (n : ℕ) (x y z : Cell) → n ≤ 9223372036854775807 → Doable (rowOpOf N op valid n x y z) n
 unfolding Doable rowOpOf
-doable op false n x y z h = tt
-doable op true n x y z h =
-    valid-all n (λ o. Doable o n) tt (λ f t s. plan-doable n f t s (slicePlan narrow n f t s) h refl) (λ u. tt) (λ f t k. tt) (λ f k. tt) op (λ t x f. resize-doable n x f) x y z
+doable N op false n x y z h = tt
+doable N op true n x y z h =
+    valid-all N n (λ o. Doable o n) tt (λ f t s. plan-doable N n f t s (slicePlan N n f t s) h refl) (λ u. tt) (λ f t k. tt) (λ f k. tt) op (λ t x f. resize-doable n x f) x y z
 
-pub op-doable : (op : ListOp) (rb : Bits) (x y z : Arguments) (r n : ℕ) (o : RowOp) → o ≡ opAt op rb x y z r n → n ≤ narrow .offset → Doable o n
+pub op-doable : (N : Limits) (op : ListOp) (rb : Bits) (x y z : Arguments) (r n : ℕ) (o : RowOp) → o ≡ opAt N op rb x y z r n → n ≤ 9223372036854775807 → Doable o n
 unfolding opAt
-op-doable op rb x y z r n o e h = rw e (doable op (validAt rb r) n _ _ _ h)
+op-doable N op rb x y z r n o e h = rw e (doable N op (validAt rb r) n _ _ _ h)
 
 -- ---- no row grows but by resize
 
-plan-le : (n : ℕ) (es : List Elem) (f t s : ℤ) (p : Plan) → length es ≡ n → slicePlan narrow n f t s ≡ p → length (opElems (planOp (I.planOf p)) es) ≤ n
+plan-le : (N : Limits) (n : ℕ) (es : List Elem) (f t s : ℤ) (p : Plan) → length es ≡ n → slicePlan N n f t s ≡ p → length (opElems (planOp (I.planOf p)) es) ≤ n
 unfolding opElems planOp I.planOf
-plan-le n es f t s (refuse k) h e = omega arith
-plan-le n es f t s empty h e = omega arith
-plan-le n es f t s (places a d k) h e = omega (arith, length-sliced a d k es, plan-in-row narrow n f t s a d k e .few)
+plan-le N n es f t s (refuse k) h e = omega arith
+plan-le N n es f t s empty h e = omega arith
+plan-le N n es f t s (places a d k) h e = omega (arith, length-sliced a d k es, plan-in-row N n f t s a d k e .few)
 
-pub op-le : (op : ListOp) (valid : Bool) (n : ℕ) (es : List Elem) (x y z : Cell) → length es ≡ n → isResize op ≡ false → length (opElems (rowOpOf op valid n x y z) es) ≤ n
+pub op-le : (N : Limits) (op : ListOp) (valid : Bool) (n : ℕ) (es : List Elem) (x y z : Cell) → length es ≡ n → isResize op ≡ false → length (opElems (rowOpOf N op valid n x y z) es) ≤ n
 unfolding opElems rowOpOf
-op-le op false n es x y z h r = omega arith
-op-le op true n es x y z h r =
-    valid-all n (λ o. length (opElems o es) ≤ n) (omega arith) (λ f t s. plan-le n es f t s (slicePlan narrow n f t s) h refl) (λ u. omega (arith, unary-le u es)) (λ f t k. omega (arith, length-replaced (elemOf f) (elemOf t) k es)) (λ f k. omega (arith, length-removed (elemOf f) k es)) op (λ t. absurd (subst T (sym t ∙ r) tt)) x y z
+op-le N op false n es x y z h r = omega arith
+op-le N op true n es x y z h r =
+    valid-all N n (λ o. length (opElems o es) ≤ n) (omega arith) (λ f t s. plan-le N n es f t s (slicePlan N n f t s) h refl) (λ u. omega (arith, unary-le u es)) (λ f t k. omega (arith, length-replaced (elemOf f) (elemOf t) k es)) (λ f k. omega (arith, length-removed (elemOf f) k es)) op (λ t. absurd (subst T (sym t ∙ r) tt)) x y z

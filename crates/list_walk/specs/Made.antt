@@ -6,6 +6,7 @@ use Rattle.model.specs.Basics.{pick, tab}
 use Rattle.model.specs.Bitmap.{Bits}
 use Rattle.model.specs.Column.{Elem, Row, Column, Arguments, elemAt, offsetAt, lengthAt, rowCount}
 use Rattle.model.specs.Form.{flat}
+use Rattle.model.specs.Limits.{Limits}
 use Rattle.model.specs.Outcome.{made, gate}
 use Rattle.model.specs.Refusals.{refusalOf, firstOf}
 use Rattle.model.specs.Rows.{Made, rowMade}
@@ -19,20 +20,20 @@ use Rattle.sums.specs.Sums.{measureOf, resizeMeasure}
 use Rattle.sums.specs.declared.Measure.{Measure}
 
 -- the row that lies from a to b, and what is made of it
-unfoldable pub madeFrom : ListOp → Bits → Arguments → Arguments → Arguments → (ℕ → Elem) → ℕ → ℕ → ℕ → Made
-madeFrom op rb x y z E r a len = opMade (opAt op rb x y z r len) (tab E a len)
+unfoldable pub madeFrom : Limits → ListOp → Bits → Arguments → Arguments → Arguments → (ℕ → Elem) → ℕ → ℕ → ℕ → Made
+madeFrom N op rb x y z E r a len = opMade (opAt N op rb x y z r len) (tab E a len)
 
-unfoldable pub madeAt : ListOp → Column → Arguments → Arguments → Arguments → ℕ → Made
-madeAt op c x y z r = madeFrom op (c .rows) x y z (elemAt (c .values) (c .elements)) r (offsetAt (c .offsets) r) (lengthAt c r)
+unfoldable pub madeAt : Limits → ListOp → Column → Arguments → Arguments → Arguments → ℕ → Made
+madeAt N op c x y z r = madeFrom N op (c .rows) x y z (elemAt (c .values) (c .elements)) r (offsetAt (c .offsets) r) (lengthAt c r)
 
-abbrev pub rowMadeAt : ListOp → Column → Arguments → Arguments → Arguments → ℕ → Row
-rowMadeAt op c x y z r = rowMade (madeAt op c x y z r)
+abbrev pub rowMadeAt : Limits → ListOp → Column → Arguments → Arguments → Arguments → ℕ → Row
+rowMadeAt N op c x y z r = rowMade (madeAt N op c x y z r)
 
-abbrev pub refusalAt : ListOp → Column → Arguments → Arguments → Arguments → ℕ → ℕ
-refusalAt op c x y z r = refusalOf (madeAt op c x y z r)
+abbrev pub refusalAt : Limits → ListOp → Column → Arguments → Arguments → Arguments → ℕ → ℕ
+refusalAt N op c x y z r = refusalOf (madeAt N op c x y z r)
 
-unfoldable pub callRows : ListOp → Column → Arguments → Arguments → Arguments → List Row
-callRows op c x y z = tab (rowMadeAt op c x y z) 0 (rowCount (c .offsets))
+unfoldable pub callRows : Limits → ListOp → Column → Arguments → Arguments → Arguments → List Row
+callRows N op c x y z = tab (rowMadeAt N op c x y z) 0 (rowCount (c .offsets))
 
 -- a row's refusal; 0 is none
 unfoldable pub opRefusal : RowOp → ℕ
@@ -46,11 +47,11 @@ opRefusal (R.Replaced f t k) = 0
 opRefusal (R.Removed f k) = 0
 
 -- by the first row that refuses
-unfoldable pub rowsMeasure : ListOp → Column → Arguments → Arguments → Arguments → Measure
-rowsMeasure op c x y z = measureOf (gate (firstOf (tab (refusalAt op c x y z) 0 (rowCount (c .offsets)))) (made (length (flat (callRows op c x y z)))))
+unfoldable pub rowsMeasure : Limits → ListOp → Column → Arguments → Arguments → Arguments → Measure
+rowsMeasure N op c x y z = measureOf (gate (firstOf (tab (refusalAt N op c x y z) 0 (rowCount (c .offsets)))) (made (length (flat (callRows N op c x y z)))))
 
-unfoldable pub callMeasure : ListOp → Column → Arguments → Arguments → Arguments → Measure
-callMeasure op c x y z = pick (isResize op) (resizeMeasure (c .rows) x (rowCount (c .offsets))) (rowsMeasure op c x y z)
+unfoldable pub callMeasure : Limits → ListOp → Column → Arguments → Arguments → Arguments → Measure
+callMeasure N op c x y z = pick (isResize op) (resizeMeasure N (c .rows) x (rowCount (c .offsets))) (rowsMeasure N op c x y z)
 
 -- refusals 13, 1, 2 and 3 have passed: the list can be read, and so can the argument columns that are taken
 pub record Begun (op : ListOp) (c : Column) (x y z : Arguments) : Type 0 where

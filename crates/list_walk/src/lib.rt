@@ -1,28 +1,31 @@
 // The operations on one list with up to three argument columns: one walk measures the rows, a second writes. An inner crate: its
 // callers meet what it asks.
+pub mod large;
 mod totals;
 
 use arguments::taken;
-use column::offsets;
+use column::widths;
 use model::ListAnswer;
 use model::ListLengths;
+use model::Width;
 use ops::ListOp;
 use ops::RowOp;
 use sums::Measure;
 ghost use Prim.Native.Nat.{_<_, _≤_};
 ghost use Rattle.list_walk.specs.Made.{Begun, callRows};
 ghost use Rattle.arguments.specs.Taken.{Served};
-ghost use Rattle.column.specs.Outputs.{Fills, ReadableElems, RoomForRow, RoomIn, WritesRow};
+ghost use Rattle.column.specs.Outputs.{FillsAt, ReadableElems, RoomAt, RoomForRow, WritesRow};
 ghost use Rattle.column.specs.Put.{Readable};
 ghost use Rattle.model.specs.Asked.{askedList};
 ghost use Rattle.model.specs.Column.{rowCount, rowsOf, shownBy};
 ghost use Rattle.model.specs.Contract.{ListAnswers};
 ghost use Rattle.model.specs.Form.{flat};
-ghost use Rattle.model.specs.Inner.{nowColumn, nowArguments, nowElems, lentArgumentsFrom, lentElems, lentFrom};
+ghost use Rattle.model.specs.Inner.{lentArgumentsFrom, lentAt, lentElems, lentFrom, nowArguments, nowColumnAt, nowElems};
 ghost use Rattle.model.specs.Lengths.{listLengths};
 ghost use Rattle.model.specs.Limits.{narrow};
 ghost use Rattle.model.specs.Outcome.{afterThree, earlyRefusal, fitted, listOutcome};
 ghost use Rattle.model.specs.Rows.{rowMade};
+ghost use Rattle.model.specs.Widths.{ListAnswersAt, limitsAt, used};
 ghost use Rattle.ops.specs.Ops.{callOf, opMade};
 ghost use Rattle.row_ops.specs.Doable.{Doable};
 ghost use lib.ListN.{length};
@@ -73,35 +76,36 @@ fn write_rows(
     ys: &[i64], ybits: &[u8], ystart: usize,
     zs: &[i64], zbits: &[u8], zstart: usize,
     out_offsets: &mut [i32], out_rows: &mut [u8], out_values: &mut [i64], out_elements: &mut [u8],
+    width: Width, large: &[i64], out_large: &mut [i64],
 )
-    requires column { ⌜ Readable (nowColumn offsets rows rstart values elements estart) ⌝ }
-    requires arguments { ⌜ Served op (rowCount (now offsets)) (nowArguments xs xbits xstart) (nowArguments ys ybits ystart) (nowArguments zs zbits zstart) ⌝ }
-    requires small { ⌜ length (flat (callRows op (nowColumn offsets rows rstart values elements estart) (nowArguments xs xbits xstart) (nowArguments ys ybits ystart) (nowArguments zs zbits zstart))) ≤ narrow .offset ⌝ }
-    requires room { ⌜ RoomIn (rowCount (now offsets)) (length (flat (callRows op (nowColumn offsets rows rstart values elements estart) (nowArguments xs xbits xstart) (nowArguments ys ybits ystart) (nowArguments zs zbits zstart)))) «out_offsets» «out_rows» «out_values» «out_elements» ⌝ }
-    ensures { λ _. ⌜ Fills (callRows op (lentFrom offsets rows rstart values elements estart) (lentArgumentsFrom xs xbits xstart) (lentArgumentsFrom ys ybits ystart) (lentArgumentsFrom zs zbits zstart)) «out_offsets» «out_rows» «out_values» «out_elements» ⌝ }
+    requires column { ⌜ Readable (nowColumnAt width offsets large rows rstart values elements estart) ⌝ }
+    requires arguments { ⌜ Served op (rowCount (used width (now offsets) (now large))) (nowArguments xs xbits xstart) (nowArguments ys ybits ystart) (nowArguments zs zbits zstart) ⌝ }
+    requires small { ⌜ length (flat (callRows (limitsAt width) op (nowColumnAt width offsets large rows rstart values elements estart) (nowArguments xs xbits xstart) (nowArguments ys ybits ystart) (nowArguments zs zbits zstart))) ≤ limitsAt width .offset ⌝ }
+    requires room { ⌜ RoomAt width (rowCount (used width (now offsets) (now large))) (length (flat (callRows (limitsAt width) op (nowColumnAt width offsets large rows rstart values elements estart) (nowArguments xs xbits xstart) (nowArguments ys ybits ystart) (nowArguments zs zbits zstart)))) «out_offsets» «out_large» «out_rows» «out_values» «out_elements» ⌝ }
+    ensures { λ _. ⌜ FillsAt width (callRows (limitsAt width) op (lentAt width offsets large rows rstart values elements estart) (lentArgumentsFrom xs xbits xstart) (lentArgumentsFrom ys ybits ystart) (lentArgumentsFrom zs zbits zstart)) «out_offsets» «out_large» «out_rows» «out_values» «out_elements» ⌝ }
 {
-    let n = offsets::row_count(offsets);
-    offsets::put_offset(out_offsets, 0, 0);
+    let n = widths::row_count(width, offsets, large);
+    widths::put_offset(width, out_offsets, out_large, 0, 0);
     let mut r: usize = 0;
     let mut at: usize = 0;
     let mut left = n;
     while 0 < left {
-        let a = offsets::offset_at(offsets, r);
-        let b = offsets::offset_at(offsets, r + 1);
+        let a = widths::offset_at(width, offsets, large, r);
+        let b = widths::offset_at(width, offsets, large, r + 1);
         let len = b - a;
         let o = taken::op_at(
             op, rows, rstart, n,
             xs, xbits, xstart,
             ys, ybits, ystart,
             zs, zbits, zstart,
-            r, len,
+            r, len, width,
         );
         at = put_row(
             o, values, elements, estart,
             a, len, r, out_rows, out_values, out_elements,
             at,
         );
-        offsets::put_offset(out_offsets, r + 1, at);
+        widths::put_offset(width, out_offsets, out_large, r + 1, at);
         r += 1;
         left -= 1;
     }
@@ -117,18 +121,19 @@ fn write_fitting(
     zs: &[i64], zbits: &[u8], zstart: usize,
     m: usize,
     out_offsets: &mut [i32], out_rows: &mut [u8], out_values: &mut [i64], out_elements: &mut [u8],
+    width: Width, large: &[i64], out_large: &mut [i64],
 ) -> ListAnswer
-    requires column { ⌜ Readable (nowColumn offsets rows rstart values elements estart) ⌝ }
-    requires arguments { ⌜ Served op (rowCount (now offsets)) (nowArguments xs xbits xstart) (nowArguments ys ybits ystart) (nowArguments zs zbits zstart) ⌝ }
-    requires made { ⌜ m ≡ length (flat (callRows op (nowColumn offsets rows rstart values elements estart) (nowArguments xs xbits xstart) (nowArguments ys ybits ystart) (nowArguments zs zbits zstart))) ⌝ }
-    requires small { ⌜ m ≤ narrow .offset ⌝ }
-    ensures { λ k. ⌜ ListAnswers (fitted (callRows op (lentFrom offsets rows rstart values elements estart) (lentArgumentsFrom xs xbits xstart) (lentArgumentsFrom ys ybits ystart) (lentArgumentsFrom zs zbits zstart))) k «out_offsets» «out_rows» «out_values» «out_elements» ⌝ }
+    requires column { ⌜ Readable (nowColumnAt width offsets large rows rstart values elements estart) ⌝ }
+    requires arguments { ⌜ Served op (rowCount (used width (now offsets) (now large))) (nowArguments xs xbits xstart) (nowArguments ys ybits ystart) (nowArguments zs zbits zstart) ⌝ }
+    requires made { ⌜ m ≡ length (flat (callRows (limitsAt width) op (nowColumnAt width offsets large rows rstart values elements estart) (nowArguments xs xbits xstart) (nowArguments ys ybits ystart) (nowArguments zs zbits zstart))) ⌝ }
+    requires small { ⌜ m ≤ limitsAt width .offset ⌝ }
+    ensures { λ k. ⌜ ListAnswersAt width (fitted (callRows (limitsAt width) op (lentAt width offsets large rows rstart values elements estart) (lentArgumentsFrom xs xbits xstart) (lentArgumentsFrom ys ybits ystart) (lentArgumentsFrom zs zbits zstart))) k «out_offsets» «out_large» «out_rows» «out_values» «out_elements» ⌝ }
 {
-    let n = offsets::row_count(offsets);
+    let n = widths::row_count(width, offsets, large);
     if !checks::has_room(
         n,
         m,
-        out_offsets.len(),
+        widths::pick(width, out_offsets.len(), out_large.len()),
         out_rows.len(),
         out_values.len(),
         out_elements.len(),
@@ -142,6 +147,7 @@ fn write_fitting(
         ys, ybits, ystart,
         zs, zbits, zstart,
         out_offsets, out_rows, out_values, out_elements,
+        width, large, out_large,
     );
     answers::list_answer(out_rows, n, out_elements, m)
 }
@@ -155,10 +161,11 @@ pub fn after_three(
     ys: &[i64], ybits: &[u8], ystart: usize,
     zs: &[i64], zbits: &[u8], zstart: usize,
     out_offsets: &mut [i32], out_rows: &mut [u8], out_values: &mut [i64], out_elements: &mut [u8],
+    width: Width, large: &[i64], out_large: &mut [i64],
 ) -> ListAnswer
-    requires column { ⌜ Readable (nowColumn offsets rows rstart values elements estart) ⌝ }
-    requires arguments { ⌜ Served op (rowCount (now offsets)) (nowArguments xs xbits xstart) (nowArguments ys ybits ystart) (nowArguments zs zbits zstart) ⌝ }
-    ensures { λ k. ⌜ ListAnswers (afterThree narrow (callOf op (rowsOf (lentFrom offsets rows rstart values elements estart)) (shownBy (lentArgumentsFrom xs xbits xstart)) (shownBy (lentArgumentsFrom ys ybits ystart)) (shownBy (lentArgumentsFrom zs zbits zstart)))) k «out_offsets» «out_rows» «out_values» «out_elements» ⌝ }
+    requires column { ⌜ Readable (nowColumnAt width offsets large rows rstart values elements estart) ⌝ }
+    requires arguments { ⌜ Served op (rowCount (used width (now offsets) (now large))) (nowArguments xs xbits xstart) (nowArguments ys ybits ystart) (nowArguments zs zbits zstart) ⌝ }
+    ensures { λ k. ⌜ ListAnswersAt width (afterThree (limitsAt width) (callOf op (rowsOf (lentAt width offsets large rows rstart values elements estart)) (shownBy (lentArgumentsFrom xs xbits xstart)) (shownBy (lentArgumentsFrom ys ybits ystart)) (shownBy (lentArgumentsFrom zs zbits zstart)))) k «out_offsets» «out_large» «out_rows» «out_values» «out_elements» ⌝ }
 {
     let total = totals::total(
         op,
@@ -166,6 +173,7 @@ pub fn after_three(
         xs, xbits, xstart,
         ys, ybits, ystart,
         zs, zbits, zstart,
+        width, large,
     );
     match total {
         Measure::Refused(k) => ListAnswer::Refused(k),
@@ -177,6 +185,7 @@ pub fn after_three(
             zs, zbits, zstart,
             m,
             out_offsets, out_rows, out_values, out_elements,
+            width, large, out_large,
         ),
     }
 }
@@ -189,20 +198,21 @@ fn early(
     xs: &[i64], xbits: &[u8], xstart: usize,
     ys: &[i64], ybits: &[u8], ystart: usize,
     zs: &[i64], zbits: &[u8], zstart: usize,
+    width: Width, large: &[i64],
 ) -> u8
-    ensures { λ k. ⌜ k ≡ earlyRefusal (callOf op (lentFrom offsets rows rstart values elements estart) (lentArgumentsFrom xs xbits xstart) (lentArgumentsFrom ys ybits ystart) (lentArgumentsFrom zs zbits zstart)) ⌝ }
-    ensures { λ k. ⌜ (k ≡ 0 → Begun op (lentFrom offsets rows rstart values elements estart) (lentArgumentsFrom xs xbits xstart) (lentArgumentsFrom ys ybits ystart) (lentArgumentsFrom zs zbits zstart)) ⌝ }
+    ensures { λ k. ⌜ k ≡ earlyRefusal (callOf op (lentAt width offsets large rows rstart values elements estart) (lentArgumentsFrom xs xbits xstart) (lentArgumentsFrom ys ybits ystart) (lentArgumentsFrom zs zbits zstart)) ⌝ }
+    ensures { λ k. ⌜ (k ≡ 0 → Begun op (lentAt width offsets large rows rstart values elements estart) (lentArgumentsFrom xs xbits xstart) (lentArgumentsFrom ys ybits ystart) (lentArgumentsFrom zs zbits zstart)) ⌝ }
 {
     if taken::is_start_over(op, xstart, ystart, zstart) {
         return 13;
     }
-    let k = checks::list_refusal(offsets, rows, rstart, values, elements, estart);
+    let k = checks::list_refusal(offsets, rows, rstart, values, elements, estart, width, large);
     if k != 0 {
         return k;
     }
     taken::arguments_refusal(
         op,
-        offsets::row_count(offsets),
+        widths::row_count(width, offsets, large),
         xs, xbits, xstart,
         ys, ybits, ystart,
         zs, zbits, zstart,
@@ -211,14 +221,15 @@ fn early(
 
 // The lengths of the slices that the operation needs, or its refusal: the first walk of the run, and nothing is written.
 #[rattlefmt::skip]
-pub fn lengths(
+pub(crate) fn lengths_at(
     op: ListOp,
     offsets: &[i32], rows: &[u8], rstart: usize, values: &[i64], elements: &[u8], estart: usize,
     xs: &[i64], xbits: &[u8], xstart: usize,
     ys: &[i64], ybits: &[u8], ystart: usize,
     zs: &[i64], zbits: &[u8], zstart: usize,
+    width: Width, large: &[i64],
 ) -> ListLengths
-    ensures { λ a. ⌜ askedList a ≡ listLengths narrow (callOf op (lentFrom offsets rows rstart values elements estart) (lentArgumentsFrom xs xbits xstart) (lentArgumentsFrom ys ybits ystart) (lentArgumentsFrom zs zbits zstart)) ⌝ }
+    ensures { λ a. ⌜ askedList a ≡ listLengths (limitsAt width) (callOf op (lentAt width offsets large rows rstart values elements estart) (lentArgumentsFrom xs xbits xstart) (lentArgumentsFrom ys ybits ystart) (lentArgumentsFrom zs zbits zstart)) ⌝ }
 {
     let k = early(
         op,
@@ -226,6 +237,7 @@ pub fn lengths(
         xs, xbits, xstart,
         ys, ybits, ystart,
         zs, zbits, zstart,
+        width, large,
     );
     if k != 0 {
         return ListLengths::Refused(k);
@@ -236,24 +248,26 @@ pub fn lengths(
         xs, xbits, xstart,
         ys, ybits, ystart,
         zs, zbits, zstart,
+        width, large,
     );
     match total {
         Measure::Refused(j) => ListLengths::Refused(j),
-        Measure::Sum(m) => checks::lengths_for(offsets::row_count(offsets), m),
+        Measure::Sum(m) => checks::lengths_for(widths::row_count(width, offsets, large), m),
     }
 }
 
 // Checks the columns and the outputs, and writes what the operation makes.
 #[rattlefmt::skip]
-pub fn run(
+pub(crate) fn run_at(
     op: ListOp,
     offsets: &[i32], rows: &[u8], rstart: usize, values: &[i64], elements: &[u8], estart: usize,
     xs: &[i64], xbits: &[u8], xstart: usize,
     ys: &[i64], ybits: &[u8], ystart: usize,
     zs: &[i64], zbits: &[u8], zstart: usize,
     out_offsets: &mut [i32], out_rows: &mut [u8], out_values: &mut [i64], out_elements: &mut [u8],
+    width: Width, large: &[i64], out_large: &mut [i64],
 ) -> ListAnswer
-    ensures { λ k. ⌜ ListAnswers (listOutcome narrow (callOf op (lentFrom offsets rows rstart values elements estart) (lentArgumentsFrom xs xbits xstart) (lentArgumentsFrom ys ybits ystart) (lentArgumentsFrom zs zbits zstart))) k «out_offsets» «out_rows» «out_values» «out_elements» ⌝ }
+    ensures { λ k. ⌜ ListAnswersAt width (listOutcome (limitsAt width) (callOf op (lentAt width offsets large rows rstart values elements estart) (lentArgumentsFrom xs xbits xstart) (lentArgumentsFrom ys ybits ystart) (lentArgumentsFrom zs zbits zstart))) k «out_offsets» «out_large» «out_rows» «out_values» «out_elements» ⌝ }
 {
     let k = early(
         op,
@@ -261,6 +275,7 @@ pub fn run(
         xs, xbits, xstart,
         ys, ybits, ystart,
         zs, zbits, zstart,
+        width, large,
     );
     if k != 0 {
         return ListAnswer::Refused(k);
@@ -272,5 +287,51 @@ pub fn run(
         ys, ybits, ystart,
         zs, zbits, zstart,
         out_offsets, out_rows, out_values, out_elements,
+        width, large, out_large,
+    )
+}
+
+// The same lengths at 32 bits: 64-bit offsets are not looked at, and the values stand in their place.
+#[rattlefmt::skip]
+pub fn lengths(
+    op: ListOp,
+    offsets: &[i32], rows: &[u8], rstart: usize, values: &[i64], elements: &[u8], estart: usize,
+    xs: &[i64], xbits: &[u8], xstart: usize,
+    ys: &[i64], ybits: &[u8], ystart: usize,
+    zs: &[i64], zbits: &[u8], zstart: usize,
+) -> ListLengths
+    ensures { λ a. ⌜ askedList a ≡ listLengths narrow (callOf op (lentFrom offsets rows rstart values elements estart) (lentArgumentsFrom xs xbits xstart) (lentArgumentsFrom ys ybits ystart) (lentArgumentsFrom zs zbits zstart)) ⌝ }
+{
+    lengths_at(
+        op,
+        offsets, rows, rstart, values, elements, estart,
+        xs, xbits, xstart,
+        ys, ybits, ystart,
+        zs, zbits, zstart,
+        Width::Narrow, values,
+    )
+}
+
+// The same run at 32 bits.
+#[rattlefmt::skip]
+pub fn run(
+    op: ListOp,
+    offsets: &[i32], rows: &[u8], rstart: usize, values: &[i64], elements: &[u8], estart: usize,
+    xs: &[i64], xbits: &[u8], xstart: usize,
+    ys: &[i64], ybits: &[u8], ystart: usize,
+    zs: &[i64], zbits: &[u8], zstart: usize,
+    out_offsets: &mut [i32], out_rows: &mut [u8], out_values: &mut [i64], out_elements: &mut [u8],
+) -> ListAnswer
+    ensures { λ k. ⌜ ListAnswers (listOutcome narrow (callOf op (lentFrom offsets rows rstart values elements estart) (lentArgumentsFrom xs xbits xstart) (lentArgumentsFrom ys ybits ystart) (lentArgumentsFrom zs zbits zstart))) k «out_offsets» «out_rows» «out_values» «out_elements» ⌝ }
+{
+    let mut none = [0i64; 0];
+    run_at(
+        op,
+        offsets, rows, rstart, values, elements, estart,
+        xs, xbits, xstart,
+        ys, ybits, ystart,
+        zs, zbits, zstart,
+        out_offsets, out_rows, out_values, out_elements,
+        Width::Narrow, values, &mut none,
     )
 }

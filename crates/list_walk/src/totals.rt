@@ -1,6 +1,7 @@
 // The measuring walk: how many elements a call makes, or the refusal of its rows.
 use arguments::taken;
-use column::offsets;
+use column::widths;
+use model::Width;
 use ops::ListOp;
 use ops::RowOp;
 use sums::Measure;
@@ -9,8 +10,8 @@ ghost use Rattle.list_walk.specs.Made.{callMeasure, opRefusal, rowsMeasu
 ghost use Rattle.arguments.specs.Taken.{Served};
 ghost use Rattle.column.specs.Put.{Readable};
 ghost use Rattle.model.specs.Column.{rowCount};
-ghost use Rattle.model.specs.Inner.{nowColumn, nowArguments, lentArgumentsFrom, lentFrom};
-ghost use Rattle.model.specs.Limits.{narrow};
+ghost use Rattle.model.specs.Inner.{lentArgumentsFrom, lentAt, nowArguments, nowColumnAt};
+ghost use Rattle.model.specs.Widths.{limitsAt, used};
 ghost use Rattle.ops.specs.Ops.{isResize};
 ghost use Rattle.sums.specs.Sums.{letThrough};
 ghost use mathlib.Core.Bool.{false};
@@ -51,27 +52,28 @@ fn measure_rows(
     xs: &[i64], xbits: &[u8], xstart: usize,
     ys: &[i64], ybits: &[u8], ystart: usize,
     zs: &[i64], zbits: &[u8], zstart: usize,
+    width: Width, large: &[i64],
 ) -> Measure
-    requires column { ⌜ Readable (nowColumn offsets rows rstart values elements estart) ⌝ }
-    requires arguments { ⌜ Served op (rowCount (now offsets)) (nowArguments xs xbits xstart) (nowArguments ys ybits ystart) (nowArguments zs zbits zstart) ⌝ }
+    requires column { ⌜ Readable (nowColumnAt width offsets large rows rstart values elements estart) ⌝ }
+    requires arguments { ⌜ Served op (rowCount (used width (now offsets) (now large))) (nowArguments xs xbits xstart) (nowArguments ys ybits ystart) (nowArguments zs zbits zstart) ⌝ }
     requires kind { ⌜ isResize op ≡ false ⌝ }
-    ensures { λ m. ⌜ m ≡ rowsMeasure op (lentFrom offsets rows rstart values elements estart) (lentArgumentsFrom xs xbits xstart) (lentArgumentsFrom ys ybits ystart) (lentArgumentsFrom zs zbits zstart) ⌝ }
-    ensures { λ m. ⌜ letThrough m ≤ narrow .offset ⌝ }
+    ensures { λ m. ⌜ m ≡ rowsMeasure (limitsAt width) op (lentAt width offsets large rows rstart values elements estart) (lentArgumentsFrom xs xbits xstart) (lentArgumentsFrom ys ybits ystart) (lentArgumentsFrom zs zbits zstart) ⌝ }
+    ensures { λ m. ⌜ letThrough m ≤ limitsAt width .offset ⌝ }
 {
-    let n = offsets::row_count(offsets);
+    let n = widths::row_count(width, offsets, large);
     let mut found: usize = 0;
     let mut r: usize = 0;
     let mut left = n;
     while 0 < left {
-        let a = offsets::offset_at(offsets, r);
-        let b = offsets::offset_at(offsets, r + 1);
+        let a = widths::offset_at(width, offsets, large, r);
+        let b = widths::offset_at(width, offsets, large, r + 1);
         let len = b - a;
         let o = taken::op_at(
             op, rows, rstart, n,
             xs, xbits, xstart,
             ys, ybits, ystart,
             zs, zbits, zstart,
-            r, len,
+            r, len, width,
         );
         let k = refusal_of(o);
         if k != 0 {
@@ -93,15 +95,16 @@ pub(crate) fn total(
     xs: &[i64], xbits: &[u8], xstart: usize,
     ys: &[i64], ybits: &[u8], ystart: usize,
     zs: &[i64], zbits: &[u8], zstart: usize,
+    width: Width, large: &[i64],
 ) -> Measure
-    requires column { ⌜ Readable (nowColumn offsets rows rstart values elements estart) ⌝ }
-    requires arguments { ⌜ Served op (rowCount (now offsets)) (nowArguments xs xbits xstart) (nowArguments ys ybits ystart) (nowArguments zs zbits zstart) ⌝ }
-    ensures { λ m. ⌜ m ≡ callMeasure op (lentFrom offsets rows rstart values elements estart) (lentArgumentsFrom xs xbits xstart) (lentArgumentsFrom ys ybits ystart) (lentArgumentsFrom zs zbits zstart) ⌝ }
-    ensures { λ m. ⌜ letThrough m ≤ narrow .offset ⌝ }
+    requires column { ⌜ Readable (nowColumnAt width offsets large rows rstart values elements estart) ⌝ }
+    requires arguments { ⌜ Served op (rowCount (used width (now offsets) (now large))) (nowArguments xs xbits xstart) (nowArguments ys ybits ystart) (nowArguments zs zbits zstart) ⌝ }
+    ensures { λ m. ⌜ m ≡ callMeasure (limitsAt width) op (lentAt width offsets large rows rstart values elements estart) (lentArgumentsFrom xs xbits xstart) (lentArgumentsFrom ys ybits ystart) (lentArgumentsFrom zs zbits zstart) ⌝ }
+    ensures { λ m. ⌜ letThrough m ≤ limitsAt width .offset ⌝ }
 {
     let t = ops::takes(op);
     if t.resize {
-        return sums::measure_resize(rows, rstart, offsets::row_count(offsets), xs, xbits, xstart);
+        return sums::measure_resize(rows, rstart, widths::row_count(width, offsets, large), xs, xbits, xstart, width);
     }
     measure_rows(
         op,
@@ -109,5 +112,6 @@ pub(crate) fn total(
         xs, xbits, xstart,
         ys, ybits, ystart,
         zs, zbits, zstart,
+        width, large,
     )
 }

@@ -1,14 +1,13 @@
 // Taking out of rows: one element, the first valid one, a slice, or all but the first or the last.
 // After extract.rs of datafusion-functions-nested 55.2.0, Apache License 2.0, Apache Software Foundation; changed, see NOTICE.
 use crate::plain;
-use column::offsets;
 use model::ListAnswer;
 use model::ListLengths;
 use model::Optional;
 use model::Unary;
 use model::ValueAnswer;
 use model::ValueLengths;
-use value_places::ValueOp;
+use model::Width;
 ghost use Rattle.model.specs.Asked.{askedList, askedValues};
 ghost use Rattle.model.specs.Contract.{ListAnswers, ValueAnswers, lentIf};
 ghost use Rattle.model.specs.Inner.{lentArgumentsFrom, lentFrom};
@@ -18,7 +17,7 @@ ghost use Rattle.model.specs.Outcome.{anyValueOutcome, elementOutcome, listOutc
 ghost use Rattle.model.specs.Rows.{slice, unary};
 ghost use mathlib.Core.Path.{_≡_};
 
-// The first valid element of each row. It takes no indexes: any slices stand in their places.
+// The first valid element of each row.
 pub fn general_array_any_value(
     offsets: &[i32],
     rows: &[u8],
@@ -31,23 +30,17 @@ pub fn general_array_any_value(
 ) -> ValueAnswer
     ensures { λ a. ⌜ ValueAnswers (anyValueOutcome (lentFrom offsets rows «rows_start» values elements «elements_start»)) a «out_values» «out_rows» ⌝ }
 {
-    let k = checks::list_refusal(offsets, rows, rows_start, values, elements, elements_start);
-    if k != 0 {
-        return ValueAnswer::Refused(k);
-    }
-    value_walk::write_fitting(
-        ValueOp::AnyValue,
+    value_run::any_value(
         offsets,
         rows,
         rows_start,
         values,
         elements,
         elements_start,
-        values,
-        elements,
-        elements_start,
         out_values,
         out_rows,
+        Width::Narrow,
+        values,
     )
 }
 
@@ -62,11 +55,16 @@ pub fn general_array_any_value_lengths(
 ) -> ValueLengths
     ensures { λ a. ⌜ askedValues a ≡ anyValueLengths (lentFrom offsets rows «rows_start» values elements «elements_start») ⌝ }
 {
-    let k = checks::list_refusal(offsets, rows, rows_start, values, elements, elements_start);
-    if k != 0 {
-        return ValueLengths::Refused(k);
-    }
-    checks::value_lengths_for(offsets::row_count(offsets))
+    value_run::any_value_lengths(
+        offsets,
+        rows,
+        rows_start,
+        values,
+        elements,
+        elements_start,
+        Width::Narrow,
+        values,
+    )
 }
 
 // The element of each row that its index names.
@@ -85,22 +83,7 @@ pub fn general_array_element(
 ) -> ValueAnswer
     ensures { λ a. ⌜ ValueAnswers (elementOutcome narrow (lentFrom offsets rows «rows_start» values elements «elements_start») (lentArgumentsFrom indexes «index_bits» «index_start»)) a «out_values» «out_rows» ⌝ }
 {
-    let k = value_places::element_refusal(
-        offsets,
-        rows,
-        rows_start,
-        values,
-        elements,
-        elements_start,
-        indexes,
-        index_bits,
-        index_start,
-    );
-    if k != 0 {
-        return ValueAnswer::Refused(k);
-    }
-    value_walk::write_fitting(
-        ValueOp::Element,
+    value_run::element(
         offsets,
         rows,
         rows_start,
@@ -112,6 +95,8 @@ pub fn general_array_element(
         index_start,
         out_values,
         out_rows,
+        Width::Narrow,
+        values,
     )
 }
 
@@ -129,7 +114,7 @@ pub fn general_array_element_lengths(
 ) -> ValueLengths
     ensures { λ a. ⌜ askedValues a ≡ elementLengths narrow (lentFrom offsets rows «rows_start» values elements «elements_start») (lentArgumentsFrom indexes «index_bits» «index_start») ⌝ }
 {
-    let k = value_places::element_refusal(
+    value_run::element_lengths(
         offsets,
         rows,
         rows_start,
@@ -139,11 +124,9 @@ pub fn general_array_element_lengths(
         indexes,
         index_bits,
         index_start,
-    );
-    if k != 0 {
-        return ValueLengths::Refused(k);
-    }
-    checks::value_lengths_for(offsets::row_count(offsets))
+        Width::Narrow,
+        values,
+    )
 }
 
 // The part of each row between two bounds, by a stride; without a stride, its slices and its starting bit are not looked at.

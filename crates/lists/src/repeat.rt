@@ -1,7 +1,8 @@
-// List-repeat: each list as many times as its count says.
+// List-repeat: each list as many times as its count says. 64-bit offsets are not looked at: the values stand in their place.
 // After repeat.rs of datafusion-functions-nested 55.2.0, Apache License 2.0, Apache Software Foundation; changed, see NOTICE.
 use model::RepeatAnswer;
 use model::RepeatLengths;
+use model::Width;
 ghost use Rattle.model.specs.Asked.{askedRepeat};
 ghost use Rattle.model.specs.Contract.{RepeatAnswers};
 ghost use Rattle.model.specs.Inner.{lentArgumentsFrom, lentFrom};
@@ -20,12 +21,15 @@ pub fn general_list_repeat(
 ) -> RepeatAnswer
     ensures { λ a. ⌜ RepeatAnswers (repeatOutcome narrow (lentFrom offsets rows «rows_start» values elements «elements_start») (lentArgumentsFrom «count_array» «count_bits» «count_start»)) a «out_offsets» «out_rows» «inner_offsets» «inner_rows» «out_values» «out_elements» ⌝ }
 {
+    let mut none = [0i64; 0];
+    let mut inner_none = [0i64; 0];
     repeat_walk::run(
         offsets, rows, rows_start, values, elements, elements_start,
         count_array, count_bits, count_start,
         out_offsets, out_rows,
         inner_offsets, inner_rows,
         out_values, out_elements,
+        Width::Narrow, values, &mut none, &mut inner_none,
     )
 }
 
@@ -39,5 +43,6 @@ pub fn general_list_repeat_lengths(
     repeat_walk::lengths(
         offsets, rows, rows_start, values, elements, elements_start,
         count_array, count_bits, count_start,
+        Width::Narrow, values,
     )
 }

@@ -5,6 +5,7 @@ use model::ListAnswer;
 use model::ListLengths;
 use model::SetOp;
 use model::Unary;
+use model::Width;
 ghost use Rattle.model.specs.Asked.{askedList};
 ghost use Rattle.model.specs.Contract.{ListAnswers};
 ghost use Rattle.model.specs.Inner.{lentFrom};
@@ -64,7 +65,7 @@ pub fn general_array_distinct_lengths(
     )
 }
 
-// Union or intersect, row by row.
+// Union or intersect, row by row. 64-bit offsets are not looked at: the values stand in their place.
 #[rattlefmt::skip]
 pub fn generic_set_lists<'a>(
     l_offsets: &[i32], l_rows: &[u8], l_rows_start: usize, l_values: &'a [i64], l_elements: &[u8], l_elements_start: usize,
@@ -74,11 +75,13 @@ pub fn generic_set_lists<'a>(
 ) -> ListAnswer
     ensures { λ a. ⌜ ListAnswers (listOutcome narrow (setOp «set_op» (lentFrom «l_offsets» «l_rows» «l_rows_start» «l_values» «l_elements» «l_elements_start») (lentFrom «r_offsets» «r_rows» «r_rows_start» «r_values» «r_elements» «r_elements_start»))) a «out_offsets» «out_rows» «out_values» «out_elements» ⌝ }
 {
+    let mut none = [0i64; 0];
     set_walk::run(
         set_op,
         l_offsets, l_rows, l_rows_start, l_values, l_elements, l_elements_start,
         r_offsets, r_rows, r_rows_start, r_values, r_elements, r_elements_start,
         out_offsets, out_rows, out_values, out_elements,
+        Width::Narrow, l_values, r_values, &mut none,
     )
 }
 
@@ -94,5 +97,6 @@ pub fn generic_set_lists_lengths<'a>(
         set_op,
         l_offsets, l_rows, l_rows_start, l_values, l_elements, l_elements_start,
         r_offsets, r_rows, r_rows_start, r_values, r_elements, r_elements_start,
+        Width::Narrow, l_values, r_values,
     )
 }

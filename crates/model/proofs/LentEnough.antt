@@ -13,10 +13,9 @@ use lib.Signed.{ltZ, mag}
 use lib.ListN.{length, getD, length-append}
 use Rattle.model.specs.Basics.{pick, tab, any, Lent, absent, given, All, none, more}
 use Rattle.model.specs.Bitmap.{validAt}
-use Rattle.model.specs.Limits.{Limits, narrow, largest}
+use Rattle.model.specs.Limits.{Limits, narrow, wide, largest}
 use Rattle.model.specs.Column.{Elem, nul, val, Row, nullRow, listRow, count, Column, Arguments, rowCount, offsetAt, lengthAt, elemAt, rowAt, rowsOf, shownBy, falls, badOffsets, refusal13, refusal13ᵃ, refusal1, refusal2, refusal2ᵃ}
 use Rattle.model.specs.Form.{Room, isRow, elemsOf, flat, lengthOf}
-use Rattle.model.specs.Slice.{fits}
 use Rattle.model.specs.Rows.{ListCall, unary, setOp, slice, resize, replace, remove, strideOf, fillOf, resizeRow, madeOf, rowOf, argumentOf, limitOf, atRow, rowsIn, rowMade, rowsMade, onLent}
 use Rattle.model.specs.Refusals.{orElse, firstOf, RowCount, uncounted, counted, rowCountOf, stopped, sum, plus, andThen, sumOf, sumRefusal, resizeRefusal, unionRefusal, sumsRefusal, rowsRefusal, total, timesOf}
 use Rattle.model.specs.Outcome.{Outcome, refused, made, gate, columnsRefusal, fitted, afterThree}
@@ -497,20 +496,23 @@ rules-out-nine L s p c d e a b o t m w hc h l z =
     passed true g = let k : _≡_ {A = ℕ} 15 9 = cc in let n : ⊥ = omega arith in absurd n
     passed false g = g
 
--- ---- the premises hold: of 32-bit offsets, of offsets that fit the width, and of lending just the limits
+-- ---- the premises hold: of 32-bit and of 64-bit offsets, of offsets that fit the width, and of lending just the limits
 
 pub narrow-eights : EightsWithin narrow
 narrow-eights = record { resized = omega arith; united = omega arith }
 
-pub offsets-fit : (L : Limits) (c : Column) → All (λ (z : ℤ). fits L z ≡ true) (c .offsets) → OffsetsFit L c
-unfolding fits count
+pub wide-eights : EightsWithin wide
+wide-eights = record { resized = omega arith; united = omega arith }
+
+pub offsets-fit : (L : Limits) (c : Column) → All (λ (z : ℤ). mag z ≤ L .offset) (c .offsets) → OffsetsFit L c
+unfolding count
 offsets-fit L c h r = each (c .offsets) r h
   where
-    within : (z : ℤ) → leb (mag z) (L .offset) ≡ true → count z ≤ L .offset
-    within (pos n) e = leb-true n (L .offset) e
+    within : (z : ℤ) → mag z ≤ L .offset → count z ≤ L .offset
+    within (pos n) e = e
     within (negsuc n) e = omega arith
 
-    each : (os : List ℤ) (r : ℕ) → All (λ (z : ℤ). fits L z ≡ true) os → offsetAt os r ≤ L .offset
+    each : (os : List ℤ) (r : ℕ) → All (λ (z : ℤ). mag z ≤ L .offset) os → offsetAt os r ≤ L .offset
     each os r none = omega arith
     each os zero (more {x} e h) = within x e
     each os (suc r) (more {xs = xs} e h) = each xs r h

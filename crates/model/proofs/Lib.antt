@@ -14,3 +14,5 @@ pub mod Cases
 pub mod LendingCases
 pub mod EarlyLaws
 pub mod AskedLaws
+pub mod WidthLaws
+pub mod LargeLaws

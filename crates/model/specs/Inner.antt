@@ -8,6 +8,8 @@ use Rattle.model.specs.Basics.{tab}
 use Rattle.model.specs.Bitmap.{Bits, from}
 use Rattle.model.specs.Column.{Elem, Column, column, Arguments, arguments, elemAt}
 use Rattle.model.specs.Contract.{Slice}
+use Rattle.model.specs.Widths.{used}
+use Rattle.model.specs.declared.Width.{Width}
 
 abbrev pub nowBits : RefT (List ℕ) → ℕ → Bits
 nowBits b i = from i (now b)
@@ -21,6 +23,13 @@ nowColumn o r i v e j = column (now o) (nowBits r i) (now v) (nowBits e j)
 
 abbrev pub lentFrom : Slice ℤ → Slice ℕ → ℕ → Slice ℤ → Slice ℕ → ℕ → Column
 lentFrom o r i v e j = nowColumn (o .entry) (r .entry) i (v .entry) (e .entry) j
+
+-- the same, the offsets of the width that is used, 32 or 64 bits
+abbrev pub nowColumnAt : Width → RefT (List ℤ) → RefT (List ℤ) → RefT (List ℕ) → ℕ → RefT (List ℤ) → RefT (List ℕ) → ℕ → Column
+nowColumnAt w o x r i v e j = column (used w (now o) (now x)) (nowBits r i) (now v) (nowBits e j)
+
+abbrev pub lentAt : Width → Slice ℤ → Slice ℤ → Slice ℕ → ℕ → Slice ℤ → Slice ℕ → ℕ → Column
+lentAt w o x r i v e j = nowColumnAt w (o .entry) (x .entry) (r .entry) i (v .entry) (e .entry) j
 
 -- values, bitmap and its first bit
 abbrev pub nowArguments : RefT (List ℤ) → RefT (List ℕ) → ℕ → Arguments

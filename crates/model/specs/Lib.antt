@@ -13,6 +13,7 @@ pub mod Tally
 pub mod Lengths
 pub mod Call
 pub mod Contract
+pub mod Widths
 pub mod Inner
 pub mod Run
 pub mod Asked

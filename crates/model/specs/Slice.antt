@@ -1,6 +1,6 @@
 -- Slice: the places that it takes of a row. Document 01, "Slice:" under refused calls and under what each row becomes.
 use Prim.Native.Nat.{ℕ, zero, suc, _+_, _-_, _*_, _/_}
-use mathlib.Core.Bool.{Bool, false}
+use mathlib.Core.Bool.{Bool, true, false}
 use mathlib.Core.List.{List}
 use lib.Dec.{leb, ltb, eqb}
 use lib.ListN.{getD}
@@ -10,9 +10,10 @@ use Rattle.model.specs.Basics.{pick, tab}
 use Rattle.model.specs.Limits.{Limits}
 use Rattle.model.specs.Column.{Elem, nul}
 
--- "fit 32 signed bits", −2147483648 to 2147483647: `mag` of −(n+1) is n, so −2147483648 gives 2147483647 and fits
+-- "fit 32 signed bits", −2147483648 to 2147483647: `mag` of −(n+1) is n, so −2147483648 gives 2147483647 and fits; of large
+-- lists, Note 5: "4 and 6 never occur"
 unfoldable pub fits : Limits → ℤ → Bool
-fits L z = leb (mag z) (L .offset)
+fits L z = pick (L .every) true (leb (mag z) (L .offset))
 
 -- a bound: a number that does not fit, a bound outside the row, or the place counted from 0
 pub data Bound : Type 0 where

@@ -20,6 +20,12 @@ pub enum Optional {
     Lent,
 }
 
+// The width of offsets: 32 or 64 signed bits.
+pub enum Width {
+    Narrow,
+    Wide,
+}
+
 // The answer of a list operation: its counts, or the number of a refusal.
 pub enum ListAnswer {
     Counts {

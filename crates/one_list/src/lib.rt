@@ -1,16 +1,16 @@
 // An operation on the carried list, its argument columns cut out of one slice. An inner crate: its callers meet what it asks.
 use model::ListAnswer;
+use model::Width;
 use ops::ListOp;
 ghost use Prim.Native.Nat.{_+_, _≤_};
 ghost use Rattle.bitmap.specs.Push.{Covers};
 ghost use Rattle.column.specs.Put.{Readable};
 ghost use Rattle.model.specs.Basics.{pick};
 ghost use Rattle.model.specs.Column.{rowCount, rowsOf, shownBy};
-ghost use Rattle.model.specs.Contract.{ListAnswers};
-ghost use Rattle.model.specs.Inner.{nowColumn, nowBits, lentArgumentsFrom, lentFrom};
-ghost use Rattle.model.specs.Limits.{narrow};
+ghost use Rattle.model.specs.Inner.{lentArgumentsFrom, lentAt, nowBits, nowColumnAt};
 ghost use Rattle.model.specs.Outcome.{afterThree};
 ghost use Rattle.model.specs.Recipe.{columnOf};
+ghost use Rattle.model.specs.Widths.{ListAnswersAt, limitsAt, used};
 ghost use Rattle.one_list.specs.Uses.{Uses};
 ghost use Rattle.ops.specs.Ops.{callOf};
 ghost use lib.ListN.{drop, length, take};
@@ -35,12 +35,13 @@ pub fn one_list(
     n: usize, first: usize, second: usize, third: usize,
     args: &[i64], bits: &[u8], start: usize,
     out_offsets: &mut [i32], out_rows: &mut [u8], out_values: &mut [i64], out_elements: &mut [u8],
+    width: Width, large: &[i64], out_large: &mut [i64],
 ) -> ListAnswer
-    requires column { ⌜ Readable (nowColumn offsets rows rstart values elements estart) ⌝ }
-    requires rows { ⌜ rowCount (now offsets) ≡ n ⌝ }
+    requires column { ⌜ Readable (nowColumnAt width offsets large rows rstart values elements estart) ⌝ }
+    requires rows { ⌜ rowCount (used width (now offsets) (now large)) ≡ n ⌝ }
     requires bits { ⌜ Covers (nowBits bits start) (length (now args)) ⌝ }
     requires uses { ⌜ Uses op n first second third (length (now args)) ⌝ }
-    ensures { λ k. ⌜ ListAnswers (afterThree narrow (callOf op (rowsOf (lentFrom offsets rows rstart values elements estart)) (columnOf (shownBy (lentArgumentsFrom args bits start)) n first) (columnOf (shownBy (lentArgumentsFrom args bits start)) n second) (columnOf (shownBy (lentArgumentsFrom args bits start)) n third))) k «out_offsets» «out_rows» «out_values» «out_elements» ⌝ }
+    ensures { λ k. ⌜ ListAnswersAt width (afterThree (limitsAt width) (callOf op (rowsOf (lentAt width offsets large rows rstart values elements estart)) (columnOf (shownBy (lentArgumentsFrom args bits start)) n first) (columnOf (shownBy (lentArgumentsFrom args bits start)) n second) (columnOf (shownBy (lentArgumentsFrom args bits start)) n third))) k «out_offsets» «out_large» «out_rows» «out_values» «out_elements» ⌝ }
 {
     let t = ops::takes(op);
     let k = t.columns;
@@ -63,5 +64,6 @@ pub fn one_list(
         y, ybits, ystart,
         z, zbits, zstart,
         out_offsets, out_rows, out_values, out_elements,
+        width, large, out_large,
     )
 }

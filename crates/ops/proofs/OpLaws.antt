@@ -9,7 +9,7 @@ use Rattle.model.specs.Basics.{pick}
 use Rattle.model.proofs.BoolLaws.{never-true}
 use Rattle.model.specs.Column.{Elem, nul, val, Row, nullRow, listRow}
 use Rattle.model.specs.Form.{elemsOf}
-use Rattle.model.specs.Limits.{narrow}
+use Rattle.model.specs.Limits.{Limits}
 use Rattle.model.specs.Rows.{makes, onRow, planned, strideOf, sliceRow, fillOf, resizeRow, replaceRow, removeRow, madeOf, rowMade}
 use Rattle.model.specs.Slice.{Plan, refuse, empty, places, slicePlan}
 use Rattle.index.specs.Plan as I
@@ -25,28 +25,28 @@ use Rattle.ops.specs.declared.ListOp.the-variants as L
 use Rattle.ops.specs.declared.RowOp.{RowOp}
 use Rattle.ops.specs.declared.RowOp.the-variants as R
 
--- a slice is planned by a stride, lent or 1; the others do not look at the row's length
-pub slice-planned : (op : ListOp) (n : ℕ) (x y z : Cell) → isSlice op ≡ true → strideOp n x y (strideFor op z) ≡ validOp op n x y z
+-- a slice is planned by a stride, lent or 1; the others look at neither the limits nor the row's length
+pub slice-planned : (lim : Limits) (op : ListOp) (n : ℕ) (x y z : Cell) → isSlice op ≡ true → strideOp lim n x y (strideFor op z) ≡ validOp lim op n x y z
 unfolding isSlice strideFor validOp strideOp sliceOp I.strideIn
-slice-planned (L.Plain u) n x y z h = never-true (sym h)
-slice-planned L.Slice n C.Null y z h = refl
-slice-planned L.Slice n (C.Value f) C.Null z h = refl
-slice-planned L.Slice n (C.Value f) (C.Value t) z h = refl
-slice-planned L.SliceBy n x y z h = refl
-slice-planned L.Resize n x y z h = never-true (sym h)
-slice-planned L.ResizeWith n x y z h = never-true (sym h)
-slice-planned L.Replace n x y z h = never-true (sym h)
-slice-planned L.Remove n x y z h = never-true (sym h)
+slice-planned lim (L.Plain u) n x y z h = never-true (sym h)
+slice-planned lim L.Slice n C.Null y z h = refl
+slice-planned lim L.Slice n (C.Value f) C.Null z h = refl
+slice-planned lim L.Slice n (C.Value f) (C.Value t) z h = refl
+slice-planned lim L.SliceBy n x y z h = refl
+slice-planned lim L.Resize n x y z h = never-true (sym h)
+slice-planned lim L.ResizeWith n x y z h = never-true (sym h)
+slice-planned lim L.Replace n x y z h = never-true (sym h)
+slice-planned lim L.Remove n x y z h = never-true (sym h)
 
-pub others-planned : (op : ListOp) (n : ℕ) (x y z : Cell) → isSlice op ≡ false → validOp op 0 x y z ≡ validOp op n x y z
+pub others-planned : (lim′ lim : Limits) (op : ListOp) (n : ℕ) (x y z : Cell) → isSlice op ≡ false → validOp lim′ op 0 x y z ≡ validOp lim op n x y z
 unfolding isSlice validOp
-others-planned (L.Plain u) n x y z h = refl
-others-planned L.Slice n x y z h = never-true h
-others-planned L.SliceBy n x y z h = never-true h
-others-planned L.Resize n x y z h = refl
-others-planned L.ResizeWith n x y z h = refl
-others-planned L.Replace n x y z h = refl
-others-planned L.Remove n x y z h = refl
+others-planned lim′ lim (L.Plain u) n x y z h = refl
+others-planned lim′ lim L.Slice n x y z h = never-true h
+others-planned lim′ lim L.SliceBy n x y z h = never-true h
+others-planned lim′ lim L.Resize n x y z h = refl
+others-planned lim′ lim L.ResizeWith n x y z h = refl
+others-planned lim′ lim L.Replace n x y z h = refl
+others-planned lim′ lim L.Remove n x y z h = refl
 
 -- a row of these elements, or a null one
 abbrev pub rowIf : Bool → List Elem → Row
@@ -58,48 +58,48 @@ plan-made (refuse k) es = refl
 plan-made empty es = refl
 plan-made (places a s n) es = refl
 
-slice-made : (es : List Elem) (f t : Cell) (z : ℤ) (s : Stride) → z ≡ I.strideIn s → opMade (sliceOp (length es) f t s) es ≡ sliceRow narrow (listRow es) (elemOf f) (elemOf t) (val z)
+slice-made : (lim : Limits) (es : List Elem) (f t : Cell) (z : ℤ) (s : Stride) → z ≡ I.strideIn s → opMade (sliceOp lim (length es) f t s) es ≡ sliceRow lim (listRow es) (elemOf f) (elemOf t) (val z)
 unfolding sliceOp sliceRow elemOf opMade
-slice-made es C.Null t z s e = refl
-slice-made es (C.Value f) C.Null z s e = refl
-slice-made es (C.Value f) (C.Value t) z s e = rw e (plan-made (slicePlan narrow (length es) f t (I.strideIn s)) es)
+slice-made lim es C.Null t z s e = refl
+slice-made lim es (C.Value f) C.Null z s e = refl
+slice-made lim es (C.Value f) (C.Value t) z s e = rw e (plan-made (slicePlan lim (length es) f t (I.strideIn s)) es)
 
-slice-null : (es : List Elem) (f t : Elem) → makes nullRow ≡ sliceRow narrow (listRow es) f t nul
+slice-null : (lim : Limits) (es : List Elem) (f t : Elem) → makes nullRow ≡ sliceRow lim (listRow es) f t nul
 unfolding sliceRow
-slice-null es nul t = refl
-slice-null es (val f) nul = refl
-slice-null es (val f) (val t) = refl
+slice-null lim es nul t = refl
+slice-null lim es (val f) nul = refl
+slice-null lim es (val f) (val t) = refl
 
-valid-made : (op : ListOp) (es : List Elem) (x y z : Cell) → opMade (validOp op (length es) x y z) es ≡ madeOf narrow (callOf op (listRow es) (elemOf x) (elemOf y) (elemOf z))
+valid-made : (lim : Limits) (op : ListOp) (es : List Elem) (x y z : Cell) → opMade (validOp lim op (length es) x y z) es ≡ madeOf lim (callOf op (listRow es) (elemOf x) (elemOf y) (elemOf z))
 unfolding validOp callOf madeOf opMade opElems onRow strideOf fillOf fillElem elemOf I.strideIn strideOp resizeOp replaceOp removeOp resizeRow replaceRow removeRow
-valid-made (L.Plain u) es x y z = refl
-valid-made L.Slice es x y z = slice-made es x y (pos 1) S.Absent refl
-valid-made L.SliceBy es x y C.Null = slice-null es (elemOf x) (elemOf y)
-valid-made L.SliceBy es x y (C.Value s) = slice-made es x y s (S.By s) refl
-valid-made L.Resize es C.Null y z = refl
-valid-made L.Resize es (C.Value n) y z = refl
-valid-made L.ResizeWith es C.Null y z = refl
-valid-made L.ResizeWith es (C.Value n) y z = refl
-valid-made L.Replace es x y C.Null = refl
-valid-made L.Replace es x y (C.Value n) = refl
-valid-made L.Remove es C.Null y z = refl
-valid-made L.Remove es (C.Value v) C.Null z = refl
-valid-made L.Remove es (C.Value v) (C.Value n) z = refl
+valid-made lim (L.Plain u) es x y z = refl
+valid-made lim L.Slice es x y z = slice-made lim es x y (pos 1) S.Absent refl
+valid-made lim L.SliceBy es x y C.Null = slice-null lim es (elemOf x) (elemOf y)
+valid-made lim L.SliceBy es x y (C.Value s) = slice-made lim es x y s (S.By s) refl
+valid-made lim L.Resize es C.Null y z = refl
+valid-made lim L.Resize es (C.Value n) y z = refl
+valid-made lim L.ResizeWith es C.Null y z = refl
+valid-made lim L.ResizeWith es (C.Value n) y z = refl
+valid-made lim L.Replace es x y C.Null = refl
+valid-made lim L.Replace es x y (C.Value n) = refl
+valid-made lim L.Remove es C.Null y z = refl
+valid-made lim L.Remove es (C.Value v) C.Null z = refl
+valid-made lim L.Remove es (C.Value v) (C.Value n) z = refl
 
-null-made : (op : ListOp) (x y z : Elem) → makes nullRow ≡ madeOf narrow (callOf op nullRow x y z)
+null-made : (lim : Limits) (op : ListOp) (x y z : Elem) → makes nullRow ≡ madeOf lim (callOf op nullRow x y z)
 unfolding callOf madeOf onRow sliceRow resizeRow replaceRow removeRow
-null-made (L.Plain u) x y z = refl
-null-made L.Slice x y z = refl
-null-made L.SliceBy x y z = refl
-null-made L.Resize x y z = refl
-null-made L.ResizeWith x y z = refl
-null-made L.Replace x y z = refl
-null-made L.Remove x y z = refl
+null-made lim (L.Plain u) x y z = refl
+null-made lim L.Slice x y z = refl
+null-made lim L.SliceBy x y z = refl
+null-made lim L.Resize x y z = refl
+null-made lim L.ResizeWith x y z = refl
+null-made lim L.Replace x y z = refl
+null-made lim L.Remove x y z = refl
 
-pub op-made : (op : ListOp) (valid : Bool) (es : List Elem) (x y z : Cell) → opMade (rowOpOf op valid (length es) x y z) es ≡ madeOf narrow (callOf op (rowIf valid es) (elemOf x) (elemOf y) (elemOf z))
+pub op-made : (lim : Limits) (op : ListOp) (valid : Bool) (es : List Elem) (x y z : Cell) → opMade (rowOpOf lim op valid (length es) x y z) es ≡ madeOf lim (callOf op (rowIf valid es) (elemOf x) (elemOf y) (elemOf z))
 unfolding rowOpOf opMade
-op-made op true es x y z = valid-made op es x y z
-op-made op false es x y z = null-made op (elemOf x) (elemOf y) (elemOf z)
+op-made lim op true es x y z = valid-made lim op es x y z
+op-made lim op false es x y z = null-made lim op (elemOf x) (elemOf y) (elemOf z)
 
 -- the parts of what is made
 pub elems-of-made : (o : RowOp) (es : List Elem) → elemsOf (rowMade (opMade o es)) ≡ opElems o es

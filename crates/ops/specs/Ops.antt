@@ -3,11 +3,11 @@ use Prim.Native.Nat.{ℕ}
 use mathlib.Core.Bool.{Bool, true, false}
 use mathlib.Core.List.{List, []}
 use lib.Dec.{eqb}
-use lib.IntN.{pos, natAbs}
+use lib.IntN.{pos}
 use Rattle.model.specs.Basics.{pick, absent, given}
 use Rattle.model.specs.Column.{Elem, nullRow, listRow, count}
 use Rattle.model.specs.Elements.{unaryElems, resized, replaced, removed}
-use Rattle.model.specs.Limits.{narrow}
+use Rattle.model.specs.Limits.{Limits}
 use Rattle.model.specs.Rows.{ListCall, unary, slice, resize, replace, remove, Made, refuses, makes}
 use Rattle.model.specs.Slice.{slicePlan, sliced}
 use Rattle.index.specs.Plan.{planOf, strideIn}
@@ -67,14 +67,14 @@ planOp P.Empty = R.Empty
 planOp (P.Steps a s n) = R.Steps a s n
 planOp (P.Refused k) = R.Refused k
 
-unfoldable pub sliceOp : ℕ → Cell → Cell → Stride → RowOp
-sliceOp n C.Null t s = R.Null
-sliceOp n (C.Value f) C.Null s = R.Null
-sliceOp n (C.Value f) (C.Value t) s = planOp (planOf (slicePlan narrow n f t (strideIn s)))
+unfoldable pub sliceOp : Limits → ℕ → Cell → Cell → Stride → RowOp
+sliceOp lim n C.Null t s = R.Null
+sliceOp lim n (C.Value f) C.Null s = R.Null
+sliceOp lim n (C.Value f) (C.Value t) s = planOp (planOf (slicePlan lim n f t (strideIn s)))
 
-unfoldable pub strideOp : ℕ → Cell → Cell → Cell → RowOp
-strideOp n f t C.Null = R.Null
-strideOp n f t (C.Value s) = sliceOp n f t (S.By s)
+unfoldable pub strideOp : Limits → ℕ → Cell → Cell → Cell → RowOp
+strideOp lim n f t C.Null = R.Null
+strideOp lim n f t (C.Value s) = sliceOp lim n f t (S.By s)
 
 unfoldable pub resizeOp : Cell → Fill → RowOp
 resizeOp C.Null f = R.Null
@@ -90,14 +90,14 @@ removeOp (C.Value v) C.Null = R.Null
 removeOp (C.Value v) (C.Value n) = R.Removed (C.Value v) (count n)
 
 -- what is done to a valid row of n elements
-unfoldable pub validOp : ListOp → ℕ → Cell → Cell → Cell → RowOp
-validOp (L.Plain u) n x y z = R.Plain u
-validOp L.Slice n x y z = sliceOp n x y S.Absent
-validOp L.SliceBy n x y z = strideOp n x y z
-validOp L.Resize n x y z = resizeOp x F.Absent
-validOp L.ResizeWith n x y z = resizeOp x (F.Own y)
-validOp L.Replace n x y z = replaceOp x y z
-validOp L.Remove n x y z = removeOp x y
+unfoldable pub validOp : Limits → ListOp → ℕ → Cell → Cell → Cell → RowOp
+validOp lim (L.Plain u) n x y z = R.Plain u
+validOp lim L.Slice n x y z = sliceOp lim n x y S.Absent
+validOp lim L.SliceBy n x y z = strideOp lim n x y z
+validOp lim L.Resize n x y z = resizeOp x F.Absent
+validOp lim L.ResizeWith n x y z = resizeOp x (F.Own y)
+validOp lim L.Replace n x y z = replaceOp x y z
+validOp lim L.Remove n x y z = removeOp x y
 
 unfoldable pub isSlice : ListOp → Bool
 isSlice (L.Plain u) = false
@@ -118,8 +118,8 @@ strideFor L.ResizeWith z = C.Value (pos 1)
 strideFor L.Replace z = C.Value (pos 1)
 strideFor L.Remove z = C.Value (pos 1)
 
-unfoldable pub rowOpOf : ListOp → Bool → ℕ → Cell → Cell → Cell → RowOp
-rowOpOf op valid n x y z = pick valid (validOp op n x y z) R.Null
+unfoldable pub rowOpOf : Limits → ListOp → Bool → ℕ → Cell → Cell → Cell → RowOp
+rowOpOf lim op valid n x y z = pick valid (validOp lim op n x y z) R.Null
 
 -- the elements that are made of a row's
 unfoldable pub opElems : RowOp → List Elem → List Elem
@@ -127,7 +127,7 @@ opElems R.Null es = []
 opElems (R.Refused k) es = []
 opElems (R.Plain u) es = unaryElems u es
 opElems R.Empty es = []
-opElems (R.Steps a s n) es = sliced (natAbs a) s (natAbs n) es
+opElems (R.Steps a s n) es = sliced a s n es
 opElems (R.Resized k f) es = resized k (fillElem f) es
 opElems (R.Replaced f t k) es = replaced k (elemOf f) (elemOf t) es
 opElems (R.Removed f k) es = removed k (elemOf f) es

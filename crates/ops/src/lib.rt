@@ -2,6 +2,7 @@
 use index::slice::SlicePlan;
 use index::slice::Stride;
 use model::Unary;
+use model::Width;
 use rows::Cell;
 use rows::Fill;
 use rows::utils;
@@ -9,6 +10,7 @@ ghost use Prim.Native.Nat.{_≤_};
 ghost use Rattle.index.specs.Plan.{planOf, strideIn};
 ghost use Rattle.model.specs.Limits.{narrow};
 ghost use Rattle.model.specs.Slice.{slicePlan};
+ghost use Rattle.model.specs.Widths.{limitsAt};
 ghost use Rattle.ops.specs.Ops.{isSlice, opNull, planOp, removeOp, replaceOp, resizeOp, rowOpOf, sliceOp, strideFor, strideOp, table, validOp};
 ghost use mathlib.Core.Bool.{false};
 ghost use mathlib.Core.Path.{_≡_};
@@ -37,18 +39,30 @@ pub enum RowOp {
     Refused(u8),
     Plain(Unary),
     Empty,
-    Steps { start: i32, stride: i32, count: i32 },
-    Resized { count: usize, fill: Fill },
-    Replaced { from: Cell, to: Cell, limit: usize },
-    Removed { element: Cell, limit: usize },
+    Steps {
+        start: usize,
+        stride: i64,
+        count: usize,
+    },
+    Resized {
+        count: usize,
+        fill: Fill,
+    },
+    Replaced {
+        from: Cell,
+        to: Cell,
+        limit: usize,
+    },
+    Removed {
+        element: Cell,
+        limit: usize,
+    },
 }
 
-// What a slice between these bounds does to a row of len elements.
-fn plan_op(len: usize, from: i64, to: i64, stride: Stride) -> RowOp
-    requires { ⌜ len ≤ narrow .offset ⌝ }
-    ensures { λ o. ⌜ o ≡ planOp (planOf (slicePlan narrow len from to (strideIn stride))) ⌝ }
+// What a slice with this plan does to a row.
+fn op_of(plan: SlicePlan) -> RowOp
+    ensures { λ o. ⌜ o ≡ planOp plan ⌝ }
 {
-    let plan = index::slice::compute_slice_plan(len as i32, from, to, stride);
     match plan {
         SlicePlan::Empty => RowOp::Empty,
         SlicePlan::Steps {
@@ -64,26 +78,37 @@ fn plan_op(len: usize, from: i64, to: i64, stride: Stride) -> RowOp
     }
 }
 
-fn slice_op(len: usize, from: Cell, to: Cell, stride: Stride) -> RowOp
-    requires { ⌜ len ≤ narrow .offset ⌝ }
-    ensures { λ o. ⌜ o ≡ sliceOp len from to stride ⌝ }
+// What a slice between these bounds does to a row of len elements.
+fn plan_op(len: usize, from: i64, to: i64, stride: Stride, width: Width) -> RowOp
+    requires { ⌜ len ≤ limitsAt width .offset ⌝ }
+    ensures { λ o. ⌜ o ≡ planOp (planOf (slicePlan (limitsAt width) len from to (strideIn stride))) ⌝ }
+{
+    match width {
+        Width::Narrow => op_of(index::slice::compute_slice_plan(len, from, to, stride)),
+        Width::Wide => op_of(large_index::slice::compute_slice_plan(len, from, to, stride)),
+    }
+}
+
+fn slice_op(len: usize, from: Cell, to: Cell, stride: Stride, width: Width) -> RowOp
+    requires { ⌜ len ≤ limitsAt width .offset ⌝ }
+    ensures { λ o. ⌜ o ≡ sliceOp (limitsAt width) len from to stride ⌝ }
 {
     match from {
         Cell::Null => RowOp::Null,
         Cell::Value(f) => match to {
             Cell::Null => RowOp::Null,
-            Cell::Value(t) => plan_op(len, f, t, stride),
+            Cell::Value(t) => plan_op(len, f, t, stride, width),
         },
     }
 }
 
-fn stride_op(len: usize, from: Cell, to: Cell, stride: Cell) -> RowOp
-    requires { ⌜ len ≤ narrow .offset ⌝ }
-    ensures { λ o. ⌜ o ≡ strideOp len from to stride ⌝ }
+fn stride_op(len: usize, from: Cell, to: Cell, stride: Cell, width: Width) -> RowOp
+    requires { ⌜ len ≤ limitsAt width .offset ⌝ }
+    ensures { λ o. ⌜ o ≡ strideOp (limitsAt width) len from to stride ⌝ }
 {
     match stride {
         Cell::Null => RowOp::Null,
-        Cell::Value(s) => slice_op(len, from, to, Stride::By(s)),
+        Cell::Value(s) => slice_op(len, from, to, Stride::By(s), width),
     }
 }
 
@@ -160,7 +185,7 @@ fn stride_for(op: ListOp, z: Cell) -> Cell
 // What an operation that is no slice does to a valid row with these arguments.
 fn other_op(op: ListOp, x: Cell, y: Cell, z: Cell) -> RowOp
     requires { ⌜ isSlice op ≡ false ⌝ }
-    ensures { λ o. ⌜ o ≡ validOp op 0 x y z ⌝ }
+    ensures { λ o. ⌜ o ≡ validOp narrow op 0 x y z ⌝ }
 {
     match op {
         ListOp::Plain(u) => RowOp::Plain(u),
@@ -174,15 +199,15 @@ fn other_op(op: ListOp, x: Cell, y: Cell, z: Cell) -> RowOp
 }
 
 // What the operation does to a row of len elements with these arguments. A slice is planned at one place, for both kinds.
-pub fn row_op(op: ListOp, valid: bool, len: usize, x: Cell, y: Cell, z: Cell) -> RowOp
-    requires { ⌜ len ≤ narrow .offset ⌝ }
-    ensures { λ o. ⌜ o ≡ rowOpOf op valid len x y z ⌝ }
+pub fn row_op(op: ListOp, valid: bool, len: usize, x: Cell, y: Cell, z: Cell, width: Width) -> RowOp
+    requires { ⌜ len ≤ limitsAt width .offset ⌝ }
+    ensures { λ o. ⌜ o ≡ rowOpOf (limitsAt width) op valid len x y z ⌝ }
 {
     if !valid {
         return RowOp::Null;
     }
     if is_slice(op) {
-        return stride_op(len, x, y, stride_for(op, z));
+        return stride_op(len, x, y, stride_for(op, z), width);
     }
     other_op(op, x, y, z)
 }

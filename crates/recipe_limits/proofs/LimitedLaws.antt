@@ -1,6 +1,6 @@
 -- Laws of a recipe's limits over numbers: the counts added up, one step, all steps; that they are the definitions' limits (`steps-are`); and
 -- what the call comes to.
-use Prim.Native.Nat.{ℕ, zero, suc, _+_, _-_, _*_, _/_, _%_, _≤_, _<_, max}
+use Prim.Native.Nat.{ℕ, zero, suc, _+_, _-_, _*_, _/_, _%_, _≤_, _<_, max, min}
 use mathlib.Core.Path.{_≡_, refl, sym, ap, _∙_}
 use mathlib.Core.Bool.{Bool, true, false, not, _||_}
 use mathlib.Core.List.{List, [], _∷_, map}
@@ -14,13 +14,13 @@ use Rattle.model.specs.Bitmap.{Bits, validAt}
 use Rattle.model.specs.Column.{Column, Arguments, elemAt, rowCount, rowsOf, shownBy}
 use Rattle.model.specs.Form.{flat}
 use Rattle.model.specs.Lengths.{lengthIf, shownIn, countsOver, capped, stepLimit, TrayLimits, trayLimits, stepsLimits, limitsOf, formedLimits, recipeLimits}
-use Rattle.model.specs.Limits.{narrow}
+use Rattle.model.specs.Limits.{Limits}
 use Rattle.model.specs.Outcome.{Outcome, refused, made, gate, columnsRefusal}
 use Rattle.model.specs.Recipe.{Step, stepAt, stepsOf, columnsOf, columnOf, wrongNumber, wrongStep, malformed, recipeUnequal}
 use Rattle.model.specs.Refusals.{orElse, timesOf, total}
 use Rattle.model.proofs.BoolLaws.{or-none}
 use Rattle.model.proofs.ColumnLaws.{length-rows}
-use Rattle.model.proofs.LimitLaws.{capped-le, capped-plus, shown-elements, counts-by-row, limit-by-code}
+use Rattle.model.proofs.LimitLaws.{shown-elements, counts-by-row, limit-by-code}
 use Rattle.model.proofs.EarlyLaws.{gates}
 use Rattle.model.proofs.OutcomeLaws.{gate-open, gate-shut}
 use Rattle.model.proofs.TabLaws.{length-map, tab-step, tab-none}
@@ -31,17 +31,18 @@ use Rattle.recipe_limits.specs.Limited.{countAt, countsFrom, limitAt, li
 
 -- ---- the cap
 
-pub sum-cut : (a b : ℕ) → narrow .offset - a < b → a ≤ narrow .offset → narrow .offset ≡ capped narrow (a + b)
-unfolding capped
-sum-cut a b h g = omega arith
+pub sum-cut : (most a b : ℕ) → most - a < b → a ≤ most → most ≡ min most (a + b)
+sum-cut most a b h g = omega arith
 
-pub sum-fits : (a b : ℕ) → b ≤ narrow .offset - a → a ≤ narrow .offset → a + b ≡ capped narrow (a + b)
-unfolding capped
-sum-fits a b h g = omega arith
+pub sum-fits : (most a b : ℕ) → b ≤ most - a → a ≤ most → a + b ≡ min most (a + b)
+sum-fits most a b h g = omega arith
 
-fits : (m : ℕ) → m ≤ narrow .offset → capped narrow m ≡ m
-unfolding capped
-fits m h = omega arith
+-- a sum may be cut after each addition
+cut-plus : (most a b : ℕ) → min most (min most a + b) ≡ min most (a + b)
+cut-plus most a b = omega arith
+
+fits : (most m : ℕ) → m ≤ most → min most m ≡ m
+fits most m h = omega arith
 
 -- ---- one row's count
 
@@ -55,10 +56,10 @@ valid-count b e a r m h q = rw (h, q)
 
 -- ---- the counts added up: the sum so far, those of the rows from r on being left
 
-pub record Counting (T : ℕ → ℕ) (n sum r left : ℕ) : Type 0 where
-  pub counts : capped narrow (sum + total (tab T r left)) ≡ capped narrow (total (tab T 0 n))
+pub record Counting (most : ℕ) (T : ℕ → ℕ) (n sum r left : ℕ) : Type 0 where
+  pub counts : min most (sum + total (tab T r left)) ≡ min most (total (tab T 0 n))
   pub rows : r + left ≡ n
-  pub small : sum ≤ narrow .offset
+  pub small : sum ≤ most
 
 total-step : (f : ℕ → ℕ) (r left : ℕ) → 0 < left → total (tab f r left) ≡ f r + total (tab f (r + 1) (left - 1))
 unfolding total
@@ -68,54 +69,54 @@ total-none : (f : ℕ → ℕ) (r left : ℕ) → left ≤ 0 → total (tab f r 
 unfolding total
 total-none f r left h = rw (tab-none f r left h)
 
-module _ (T : ℕ → ℕ) (n : ℕ) where
-  pub counts-begun : Counting T n 0 0 n
-  counts-begun = record { counts = ap (capped narrow) (zero-add (total (tab T 0 n))); rows = omega arith; small = omega arith }
+module _ (most : ℕ) (T : ℕ → ℕ) (n : ℕ) where
+  pub counts-begun : Counting most T n 0 0 n
+  counts-begun = record { counts = ap (min most) (zero-add (total (tab T 0 n))); rows = omega arith; small = omega arith }
 
-  module _ {sum r left : ℕ} (s : Counting T n sum r left) where
-    pub counts-more : (t m : ℕ) → 0 < left → t ≡ T r → m ≡ capped narrow (sum + t) → Counting T n m (r + 1) (left - 1)
+  module _ {sum r left : ℕ} (s : Counting most T n sum r left) where
+    pub counts-more : (t m : ℕ) → 0 < left → t ≡ T r → m ≡ min most (sum + t) → Counting most T n m (r + 1) (left - 1)
     counts-more t m h e q =
         let w = total (tab T (r + 1) (left - 1)) in
         let all : sum + t + w ≡ sum + total (tab T r left) = omega (arith, total-step T r left h) in
         record {
-          counts = rw q (capped-plus narrow (sum + t) w ∙ (ap (capped narrow) all ∙ s .counts));
+          counts = rw q (cut-plus most (sum + t) w ∙ (ap (min most) all ∙ s .counts));
           rows = omega (arith, s .rows);
-          small = omega (arith, capped-le narrow (sum + t));
+          small = omega (arith, q);
         }
 
-    pub counts-done : left ≤ 0 → sum ≡ capped narrow (total (tab T 0 n))
+    pub counts-done : left ≤ 0 → sum ≡ min most (total (tab T 0 n))
     counts-done h =
         let all : sum + total (tab T r left) ≡ sum = omega (arith, total-none T r left h) in
-        sym (fits sum (s .small)) ∙ (ap (capped narrow) (sym all) ∙ s .counts)
+        sym (fits most sum (s .small)) ∙ (ap (min most) (sym all) ∙ s .counts)
 
 -- ---- one step
 
-module _ (b : Bits) (n : ℕ) (e : Arguments) (second code first came : ℕ) where
-  pub limit-resized : code ≡ 6 → capped narrow (countsFrom b e (first * n) n) ≡ limitAt b n e second code first came
+module _ (most : ℕ) (b : Bits) (n : ℕ) (e : Arguments) (second code first came : ℕ) where
+  pub limit-resized : code ≡ 6 → min most (countsFrom b e (first * n) n) ≡ limitAt most b n e second code first came
   unfolding limitAt
   limit-resized h = rw (eq-eqb code 6 h)
 
-  pub limit-united : (code ≡ 6 → ⊥) → code ≡ 9 → capped narrow (came + second) ≡ limitAt b n e second code first came
+  pub limit-united : (code ≡ 6 → ⊥) → code ≡ 9 → min most (came + second) ≡ limitAt most b n e second code first came
   unfolding limitAt
   limit-united z h = rw (ne-eqb code 6 z, eq-eqb code 9 h)
 
-  pub limit-other : (code ≡ 6 → ⊥) → (code ≡ 9 → ⊥) → came ≤ narrow .offset → came ≡ limitAt b n e second code first came
+  pub limit-other : (code ≡ 6 → ⊥) → (code ≡ 9 → ⊥) → came ≤ most → came ≡ limitAt most b n e second code first came
   unfolding limitAt
-  limit-other z h l = rw (ne-eqb code 6 z, ne-eqb code 9 h) (sym (fits came l))
+  limit-other z h l = rw (ne-eqb code 6 z, ne-eqb code 9 h) (sym (fits most came l))
 
-  pub limit-le : limitAt b n e second code first came ≤ narrow .offset
+  pub limit-le : limitAt most b n e second code first came ≤ most
   unfolding limitAt
-  limit-le = capped-le narrow _
+  limit-le = omega arith
 
 -- ---- all steps
 
-module _ (b : Bits) (n : ℕ) (e : Arguments) (second : ℕ) (s : Step) (came m : ℕ) (q : m ≡ limitAt b n e second (s .code) (s .first) came) where
-  pub limits-last : (ss : List Step) → ss ≡ [] → trayLimits 0 0 m ≡ limitsFrom b n e second s ss came
+module _ (most : ℕ) (b : Bits) (n : ℕ) (e : Arguments) (second : ℕ) (s : Step) (came m : ℕ) (q : m ≡ limitAt most b n e second (s .code) (s .first) came) where
+  pub limits-last : (ss : List Step) → ss ≡ [] → trayLimits 0 0 m ≡ limitsFrom most b n e second s ss came
   unfolding limitsFrom
   limits-last ss z = rw (z, q)
 
-  pub limits-next : (ss : List Step) (t : Step) (ts : List Step) (x : TrayLimits) (g : ℕ) → ss ≡ t ∷ ts → x ≡ limitsFrom b n e second t ts m → g ≡ max m (x .two)
-      → trayLimits g (x .one) (x .output) ≡ limitsFrom b n e second s ss came
+  pub limits-next : (ss : List Step) (t : Step) (ts : List Step) (x : TrayLimits) (g : ℕ) → ss ≡ t ∷ ts → x ≡ limitsFrom most b n e second t ts m → g ≡ max m (x .two)
+      → trayLimits g (x .one) (x .output) ≡ limitsFrom most b n e second s ss came
   unfolding limitsFrom
   limits-next ss t ts x g z y f = rw (z, ← q, ← y, f)
 
@@ -178,29 +179,29 @@ all-steps ns k n len h e z = record {
 
 -- ---- the limits are the definitions'
 
-module _ (c d : Column) (e : Arguments) (k n : ℕ) (hc : rowCount (c .offsets) ≡ n) (hd : rowCount (d .offsets) ≡ n) (many : length (e .values) ≡ k * n) where
+module _ (L : Limits) (c d : Column) (e : Arguments) (k n : ℕ) (hc : rowCount (c .offsets) ≡ n) (hd : rowCount (d .offsets) ≡ n) (many : length (e .values) ≡ k * n) where
   abbrev Second : ℕ
   Second = length (flat (rowsOf d))
 
   step-is : (s : Step) (came : ℕ) → wrongStep k s ≡ false
-      → stepLimit narrow (map lengthIf (rowsOf c)) (map lengthIf (rowsOf d)) (shownBy e) s came ≡ limitAt (c .rows) n e Second (s .code) (s .first) came
-  unfolding stepLimit limitAt countsFrom countAt
+      → stepLimit L (map lengthIf (rowsOf c)) (map lengthIf (rowsOf d)) (shownBy e) s came ≡ limitAt (L .offset) (c .rows) n e Second (s .code) (s .first) came
+  unfolding stepLimit limitAt countsFrom countAt capped
   step-is s came h =
       rw (length-map lengthIf (rowsOf d), length-rows d, hd, limit-by-code (s .code) came (shownIn (map lengthIf (rowsOf d))) (map lengthIf (rowsOf c)) (columnOf (shownBy e) n (s .first)) (columnOf (shownBy e) n (s .second)) (columnOf (shownBy e) n (s .third)), shown-elements (rowsOf d))
       (cases (eqb (s .code) 6) refl)
     where
       cases : (t : Bool) → eqb (s .code) 6 ≡ t
-          → capped narrow (pick t (countsOver (map lengthIf (rowsOf c)) (columnOf (shownBy e) n (s .first))) (pick (eqb (s .code) 9) (came + Second) came)) ≡ capped narrow (pick t (total (tab (λ r. pick (validAt (c .rows) r) (timesOf (elemAt (e .values) (e .bits) (s .first * n + r))) 0) 0 n)) (pick (eqb (s .code) 9) (came + Second) came))
-      cases true q = ap (capped narrow) (counts-by-row c e n (s .first) hc (counted-in k n (length (e .values)) s many h (eqb-true (s .code) 6 q)))
+          → min (L .offset) (pick t (countsOver (map lengthIf (rowsOf c)) (columnOf (shownBy e) n (s .first))) (pick (eqb (s .code) 9) (came + Second) came)) ≡ min (L .offset) (pick t (total (tab (λ r. pick (validAt (c .rows) r) (timesOf (elemAt (e .values) (e .bits) (s .first * n + r))) 0) 0 n)) (pick (eqb (s .code) 9) (came + Second) came))
+      cases true q = ap (min (L .offset)) (counts-by-row c e n (s .first) hc (counted-in k n (length (e .values)) s many h (eqb-true (s .code) 6 q)))
       cases false q = refl
 
   pub steps-are : (s : Step) (ss : List Step) (came : ℕ) → any (wrongStep k) (s ∷ ss) ≡ false
-      → stepsLimits narrow (map lengthIf (rowsOf c)) (map lengthIf (rowsOf d)) (shownBy e) s ss came ≡ limitsFrom (c .rows) n e Second s ss came
+      → stepsLimits L (map lengthIf (rowsOf c)) (map lengthIf (rowsOf d)) (shownBy e) s ss came ≡ limitsFrom (L .offset) (c .rows) n e Second s ss came
   unfolding stepsLimits limitsFrom any
   steps-are s [] came h = rw (step-is s came (or-none (wrongStep k s) _ h .0))
   steps-are s (t ∷ ts) came h =
       let r = or-none (wrongStep k s) _ h in
-      rw (step-is s came (r .0), steps-are t ts (limitAt (c .rows) n e Second (s .code) (s .first) came) (r .1))
+      rw (step-is s came (r .0), steps-are t ts (limitAt (L .offset) (c .rows) n e Second (s .code) (s .first) came) (r .1))
 
 -- ---- what the call comes to
 
@@ -208,37 +209,38 @@ ten : {A : Type 0} (x y : Outcome A) → gate 10 x ≡ gate 10 y
 unfolding gate
 ten x y = refl
 
-module _ (ns : List ℕ) (k : ℕ) (c d : Column) (e : Arguments) where
-  abbrev Limits : TrayLimits
-  Limits = limitsOf narrow (map lengthIf (rowsOf c)) (map lengthIf (rowsOf d)) (shownBy e) (stepsOf ns)
+module _ (L : Limits) (ns : List ℕ) (k : ℕ) (c d : Column) (e : Arguments) where
+  abbrev Trays : TrayLimits
+  Trays = limitsOf L (map lengthIf (rowsOf c)) (map lengthIf (rowsOf d)) (shownBy e) (stepsOf ns)
 
-  limits-are : recipeLimits narrow (recipe ns k) c d e ≡ gate (recipeRefusal (recipe ns k) c d e) (made Limits)
+  limits-are : recipeLimits L (recipe ns k) c d e ≡ gate (recipeRefusal (recipe ns k) c d e) (made Trays)
   unfolding recipeLimits formedLimits recipeRefusal
   limits-are = cases (malformed (recipe ns k))
     where
-      cases : (t : Bool) → gate (pick t 10 0) (gate (columnsRefusal (c ∷ d ∷ []) (e ∷ [])) (gate (pick (recipeUnequal k (rowsOf c) (rowsOf d) (shownBy e)) 3 0) (made Limits))) ≡ gate (pick t 10 (orElse (columnsRefusal (c ∷ d ∷ []) (e ∷ [])) (pick (recipeUnequal k (rowsOf c) (rowsOf d) (shownBy e)) 3 0))) (made Limits)
+      cases : (t : Bool) → gate (pick t 10 0) (gate (columnsRefusal (c ∷ d ∷ []) (e ∷ [])) (gate (pick (recipeUnequal k (rowsOf c) (rowsOf d) (shownBy e)) 3 0) (made Trays))) ≡ gate (pick t 10 (orElse (columnsRefusal (c ∷ d ∷ []) (e ∷ [])) (pick (recipeUnequal k (rowsOf c) (rowsOf d) (shownBy e)) 3 0))) (made Trays)
       cases true = ten _ _
       cases false = gate-open 0 _ refl ∙ gates (columnsRefusal (c ∷ d ∷ []) (e ∷ [])) (pick (recipeUnequal k (rowsOf c) (rowsOf d) (shownBy e)) 3 0) _
 
-  pub limits-refused : (j : ℕ) → j ≡ recipeRefusal (recipe ns k) c d e → (j ≡ 0 → ⊥) → refused j ≡ recipeLimits narrow (recipe ns k) c d e
-  limits-refused j q z = sym (limits-are ∙ rw (← q) (gate-shut j (made Limits) z))
+  pub limits-refused : (j : ℕ) → j ≡ recipeRefusal (recipe ns k) c d e → (j ≡ 0 → ⊥) → refused j ≡ recipeLimits L (recipe ns k) c d e
+  limits-refused j q z = sym (limits-are ∙ rw (← q) (gate-shut j (made Trays) z))
 
-  module _ (p : recipeRefusal (recipe ns k) c d e ≡ 0) (came : ℕ) (shown : came ≡ length (flat (rowsOf c))) (small : came ≤ narrow .offset) where
-    first-in : capped narrow (shownIn (map lengthIf (rowsOf c))) ≡ came
-    first-in = rw (shown-elements (rowsOf c), ← shown) (fits came small)
+  module _ (p : recipeRefusal (recipe ns k) c d e ≡ 0) (came : ℕ) (shown : came ≡ length (flat (rowsOf c))) (small : came ≤ L .offset) where
+    first-in : capped L (shownIn (map lengthIf (rowsOf c))) ≡ came
+    unfolding capped
+    first-in = rw (shown-elements (rowsOf c), ← shown) (fits (L .offset) came small)
 
     -- a recipe of no steps
-    pub limits-copy : length ns / 4 ≡ 0 → made (trayLimits 0 0 came) ≡ recipeLimits narrow (recipe ns k) c d e
+    pub limits-copy : length ns / 4 ≡ 0 → made (trayLimits 0 0 came) ≡ recipeLimits L (recipe ns k) c d e
     unfolding limitsOf stepsOf
     limits-copy z = sym (limits-are ∙ (gate-open _ _ p ∙ rw (z, tab-none (stepAt ns) 0 0 (omega arith), first-in)))
 
     -- one of some steps
     pub limits-steps : (n second : ℕ) (x : TrayLimits) → n ≡ rowCount (c .offsets) → second ≡ length (flat (rowsOf d)) → (length ns / 4 ≡ 0 → ⊥)
-        → x ≡ limitsFrom (c .rows) n e second (stepAt ns 0) (tab (stepAt ns) (0 + 1) (length ns / 4 - 1)) came → made x ≡ recipeLimits narrow (recipe ns k) c d e
+        → x ≡ limitsFrom (L .offset) (c .rows) n e second (stepAt ns 0) (tab (stepAt ns) (0 + 1) (length ns / 4 - 1)) came → made x ≡ recipeLimits L (recipe ns k) c d e
     unfolding limitsOf stepsOf
     limits-steps n second x hn hs z y =
         let f = passed ns k c d e p in
         let all = tab-step (stepAt ns) 0 (length ns / 4) (omega arith) in
         let right = rw all at (right-steps ns k (f .formed)) in
-        let one = steps-are c d e k n (sym hn) (f .equal ∙ sym hn) (rw hn (f .many)) (stepAt ns 0) (tab (stepAt ns) (0 + 1) (length ns / 4 - 1)) came right in
+        let one = steps-are L c d e k n (sym hn) (f .equal ∙ sym hn) (rw hn (f .many)) (stepAt ns 0) (tab (stepAt ns) (0 + 1) (length ns / 4 - 1)) came right in
         sym (limits-are ∙ (gate-open _ _ p ∙ rw (all, first-in, one, ← hs, ← y)))

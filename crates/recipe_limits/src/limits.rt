@@ -1,11 +1,11 @@
-// The limits of a recipe's steps, over numbers.
-ghost use Prim.Native.Nat.{_*_, _+_, _-_, _<_, _≤_, max};
+// The limits of a recipe's steps, over numbers; most is the largest offset.
+use model::Width;
+ghost use Prim.Native.Nat.{_*_, _+_, _-_, _<_, _≤_, max, min};
 ghost use Rattle.bitmap.specs.Push.{Covers};
 ghost use Rattle.model.specs.Basics.{tab};
 ghost use Rattle.model.specs.Inner.{lentArgumentsFrom, lentBits, nowBits};
-ghost use Rattle.model.specs.Lengths.{capped};
-ghost use Rattle.model.specs.Limits.{narrow};
 ghost use Rattle.model.specs.Recipe.{stepAt};
+ghost use Rattle.model.specs.Widths.{limitsAt};
 ghost use Rattle.recipe_limits.specs.Limited.{StepsThere, countAt, countsFrom, limitAt, limitsFrom, limitsIn};
 ghost use lib.ListN.{length};
 ghost use mathlib.Core.Path.{_≡_};
@@ -17,13 +17,23 @@ pub struct Trays {
     pub output: usize,
 }
 
-// The sum of two limits, which stops at the largest offset.
-fn plus(a: usize, b: usize) -> usize
-    requires { ⌜ a ≤ narrow .offset ⌝ }
-    ensures { λ m. ⌜ m ≡ capped narrow (a + b) ⌝ }
+// The largest offset of a width.
+pub fn largest_offset(width: Width) -> usize
+    ensures { λ n. ⌜ n ≡ limitsAt width .offset ⌝ }
 {
-    if 2147483647 - a < b {
-        return 2147483647;
+    match width {
+        Width::Narrow => 2147483647,
+        Width::Wide => 9223372036854775807,
+    }
+}
+
+// The sum of two limits, which stops at the largest offset.
+fn plus(a: usize, b: usize, most: usize) -> usize
+    requires { ⌜ a ≤ most ⌝ }
+    ensures { λ m. ⌜ m ≡ min most (a + b) ⌝ }
+{
+    if most - a < b {
+        return most;
     }
     a + b
 }
@@ -60,19 +70,19 @@ fn count_at(
 #[rattlefmt::skip]
 fn counts_over(
     rows: &[u8], rstart: usize, n: usize,
-    args: &[i64], bits: &[u8], start: usize, a: usize,
+    args: &[i64], bits: &[u8], start: usize, a: usize, most: usize,
 ) -> usize
     requires rows { ⌜ Covers (nowBits rows rstart) n ⌝ }
     requires bits { ⌜ Covers (nowBits bits start) (length (now args)) ⌝ }
     requires there { ⌜ a + n ≤ length (now args) ⌝ }
-    ensures { λ m. ⌜ m ≡ capped narrow (countsFrom (lentBits rows rstart) (lentArgumentsFrom args bits start) a n) ⌝ }
+    ensures { λ m. ⌜ m ≡ min most (countsFrom (lentBits rows rstart) (lentArgumentsFrom args bits start) a n) ⌝ }
 {
     let mut sum: usize = 0;
     let mut r: usize = 0;
     let mut left = n;
     while 0 < left {
         let count = count_at(rows, rstart, n, args, bits, start, a, r);
-        sum = plus(sum, count);
+        sum = plus(sum, count, most);
         r += 1;
         left -= 1;
     }
@@ -84,19 +94,19 @@ fn counts_over(
 fn step_limit(
     code: u32, first: u32,
     rows: &[u8], rstart: usize, n: usize, args: &[i64], bits: &[u8], start: usize,
-    second: usize, came: usize,
+    second: usize, came: usize, most: usize,
 ) -> usize
     requires rows { ⌜ Covers (nowBits rows rstart) n ⌝ }
     requires bits { ⌜ Covers (nowBits bits start) (length (now args)) ⌝ }
     requires there { ⌜ (code ≡ 6 → first * n + n ≤ length (now args)) ⌝ }
-    requires small { ⌜ came ≤ narrow .offset ⌝ }
-    ensures { λ m. ⌜ m ≡ limitAt (lentBits rows rstart) n (lentArgumentsFrom args bits start) second code first came ⌝ }
+    requires small { ⌜ came ≤ most ⌝ }
+    ensures { λ m. ⌜ m ≡ limitAt most (lentBits rows rstart) n (lentArgumentsFrom args bits start) second code first came ⌝ }
 {
     if code == 6 {
-        return counts_over(rows, rstart, n, args, bits, start, first as usize * n);
+        return counts_over(rows, rstart, n, args, bits, start, first as usize * n, most);
     }
     if code == 9 {
-        return plus(came, second);
+        return plus(came, second, most);
     }
     came
 }
@@ -107,19 +117,19 @@ fn step_limit(
 pub fn steps_limits(
     numbers: &[u32], k: usize, left: usize,
     rows: &[u8], rstart: usize, n: usize, args: &[i64], bits: &[u8], start: usize,
-    second: usize, came: usize,
+    second: usize, came: usize, most: usize,
 ) -> Trays
     requires steps { ⌜ StepsThere (now numbers) n (length (now args)) k left ⌝ }
     requires rows { ⌜ Covers (nowBits rows rstart) n ⌝ }
     requires bits { ⌜ Covers (nowBits bits start) (length (now args)) ⌝ }
-    requires small { ⌜ came ≤ narrow .offset ⌝ }
-    ensures { λ t. ⌜ limitsIn t ≡ limitsFrom (lentBits rows rstart) n (lentArgumentsFrom args bits start) second (stepAt (now (numbers .entry)) k) (tab (stepAt (now (numbers .entry))) (k + 1) (left - 1)) came ⌝ }
+    requires small { ⌜ came ≤ most ⌝ }
+    ensures { λ t. ⌜ limitsIn t ≡ limitsFrom most (lentBits rows rstart) n (lentArgumentsFrom args bits start) second (stepAt (now (numbers .entry)) k) (tab (stepAt (now (numbers .entry))) (k + 1) (left - 1)) came ⌝ }
 {
     let i = 4 * k;
     let m = step_limit(
         numbers[i], numbers[i + 1],
         rows, rstart, n, args, bits, start,
-        second, came,
+        second, came, most,
     );
     if left == 1 {
         return Trays { one: 0, two: 0, output: m };
@@ -127,7 +137,7 @@ pub fn steps_limits(
     let later = steps_limits(
         numbers, k + 1, left - 1,
         rows, rstart, n, args, bits, start,
-        second, m,
+        second, m, most,
     );
     Trays {
         one: greater(m, later.two),

@@ -10,7 +10,7 @@ use lib.ListN.{length}
 use Rattle.model.specs.Basics.{pick, any}
 use Rattle.model.specs.Column.{Column, Arguments, rowsOf, shownBy, rowCount, refusal13, refusal13ᵃ, refusal1, refusal2, refusal2ᵃ}
 use Rattle.model.specs.Form.{Room}
-use Rattle.model.specs.Limits.{narrow}
+use Rattle.model.specs.Limits.{Limits}
 use Rattle.model.specs.Outcome.{Outcome, refused, gate, columnsRefusal}
 use Rattle.model.specs.Recipe.{Recipe, malformed, stepsOf, wrongStep, stepped, recipeUnequal, formedRecipe, recipeOutcome}
 use Rattle.model.specs.Refusals.{orElse}
@@ -37,11 +37,11 @@ none : {A : Type 0} (x : Outcome A) → gate 0 x ≡ x
 unfolding gate
 none x = refl
 
-pub outcome-is : (p : Recipe) (c d : Column) (e : Arguments) (a b o : Room) → recipeOutcome narrow p c d e a b o ≡ gate (recipeRefusal p c d e) (stepped narrow (stepsOf (p .numbers)) (rowsOf c) (rowsOf d) (shownBy e) a b o)
+pub outcome-is : (L : Limits) (p : Recipe) (c d : Column) (e : Arguments) (a b o : Room) → recipeOutcome L p c d e a b o ≡ gate (recipeRefusal p c d e) (stepped L (stepsOf (p .numbers)) (rowsOf c) (rowsOf d) (shownBy e) a b o)
 unfolding recipeOutcome formedRecipe recipeRefusal
-outcome-is p c d e a b o = cases (malformed p)
+outcome-is L p c d e a b o = cases (malformed p)
   where
-    cases : (t : Bool) → gate (pick t 10 0) (gate (columnsRefusal (c ∷ d ∷ []) (e ∷ [])) (gate (pick (recipeUnequal (p .columns) (rowsOf c) (rowsOf d) (shownBy e)) 3 0) (stepped narrow (stepsOf (p .numbers)) (rowsOf c) (rowsOf d) (shownBy e) a b o))) ≡ gate (pick t 10 (orElse (columnsRefusal (c ∷ d ∷ []) (e ∷ [])) (pick (recipeUnequal (p .columns) (rowsOf c) (rowsOf d) (shownBy e)) 3 0))) (stepped narrow (stepsOf (p .numbers)) (rowsOf c) (rowsOf d) (shownBy e) a b o)
+    cases : (t : Bool) → gate (pick t 10 0) (gate (columnsRefusal (c ∷ d ∷ []) (e ∷ [])) (gate (pick (recipeUnequal (p .columns) (rowsOf c) (rowsOf d) (shownBy e)) 3 0) (stepped L (stepsOf (p .numbers)) (rowsOf c) (rowsOf d) (shownBy e) a b o))) ≡ gate (pick t 10 (orElse (columnsRefusal (c ∷ d ∷ []) (e ∷ [])) (pick (recipeUnequal (p .columns) (rowsOf c) (rowsOf d) (shownBy e)) 3 0))) (stepped L (stepsOf (p .numbers)) (rowsOf c) (rowsOf d) (shownBy e) a b o)
     cases true = ten _ _
     cases false = none _ ∙ before (columnsRefusal (c ∷ d ∷ []) (e ∷ [])) (pick (recipeUnequal (p .columns) (rowsOf c) (rowsOf d) (shownBy e)) 3 0) _
 

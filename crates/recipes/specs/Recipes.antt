@@ -1,22 +1,18 @@
--- What a recipe comes to.
+-- What a recipe comes to, at 32 bits.
 use Prim.Native.Nat.{ℕ}
 use mathlib.Core.List.{List}
 use lib.IntN.{ℤ}
-use denote.Ref.{now}
 use Rattle.model.specs.Column.{Row}
 use Rattle.model.specs.Contract.{Slice}
 use Rattle.model.specs.Form.{Room}
-use Rattle.model.specs.Inner.{lentFrom, lentArgumentsFrom}
 use Rattle.model.specs.Limits.{narrow}
 use Rattle.model.specs.Outcome.{Outcome}
-use Rattle.model.specs.Recipe.{Recipe, recipeOutcome, stationed}
+use Rattle.model.specs.Recipe.{Recipe}
+use Rattle.attempt.specs.Lent.{recipeIn}
 use Rattle.recipe_refusal.specs.Refused as refused
 
 abbrev pub recipe : List ℕ → ℕ → Recipe
 recipe = refused.recipe
 
--- what a recipe comes to for the lengths of tray one, tray two and the output, of slices as the call begins: the station, how many
--- argument columns, the recipe's numbers, the first list, the second list, and the argument columns, each bitmap with its starting bit
 abbrev pub recipeLent : ℕ → ℕ → Slice ℕ → Slice ℤ → Slice ℕ → ℕ → Slice ℤ → Slice ℕ → ℕ → Slice ℤ → Slice ℕ → ℕ → Slice ℤ → Slice ℕ → ℕ → Slice ℤ → Slice ℕ → ℕ → Room → Room → Room → Outcome (List Row)
-recipeLent station columns ns o r i v e j so sr si sv se sj a b k l m n =
-    stationed station (recipeOutcome narrow (recipe (now (ns .entry)) columns) (lentFrom o r i v e j) (lentFrom so sr si sv se sj) (lentArgumentsFrom a b k) l m n)
+recipeLent = recipeIn narrow

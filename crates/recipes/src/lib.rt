@@ -1,7 +1,5 @@
 // Recipes: chains of list operations through two lent trays, with a tally. A recipe, a tray and a tally are document 01's own terms.
-mod call;
-
-use model::ListAnswer;
+use model::Width;
 use tally::RecipeAnswer;
 use tally::Tally;
 ghost use Rattle.model.specs.Contract.{Clears, ListAnswers, roomOf};
@@ -28,19 +26,20 @@ pub fn run_recipe<'a>(
     ensures { λ _. ⌜ Clears «two_offsets» «two_rows» «two_values» «two_elements» ⌝ }
     ensures { λ a. ⌜ tallyOf (a .tally) ≡ tallied station (recipeLent station columns numbers offsets rows «rows_start» values elements «elements_start» «second_offsets» «second_rows» «second_rows_start» «second_values» «second_elements» «second_elements_start» arguments «argument_bits» «argument_start» (roomOf «one_offsets» «one_rows» «one_values» «one_elements») (roomOf «two_offsets» «two_rows» «two_values» «two_elements») (roomOf «out_offsets» «out_rows» «out_values» «out_elements»)) (tallyOf tally) ⌝ }
 {
-    let answer = if station > 15 {
-        ListAnswer::Refused(15)
-    } else {
-        call::attempt(
-            numbers, columns,
-            offsets, rows, rows_start, values, elements, elements_start,
-            second_offsets, second_rows, second_rows_start, second_values, second_elements, second_elements_start,
-            arguments, argument_bits, argument_start,
-            one_offsets, one_rows, one_values, one_elements,
-            two_offsets, two_rows, two_values, two_elements,
-            out_offsets, out_rows, out_values, out_elements,
-        )
-    };
+    let mut one_large = [0i64; 0];
+    let mut two_large = [0i64; 0];
+    let mut out_large = [0i64; 0];
+    let answer = attempt::attempt(
+        station, numbers, columns,
+        offsets, rows, rows_start, values, elements, elements_start,
+        second_offsets, second_rows, second_rows_start, second_values, second_elements, second_elements_start,
+        arguments, argument_bits, argument_start,
+        one_offsets, one_rows, one_values, one_elements,
+        two_offsets, two_rows, two_values, two_elements,
+        out_offsets, out_rows, out_values, out_elements,
+        Width::Narrow, values, second_values,
+        &mut one_large, &mut two_large, &mut out_large,
+    );
     copies::clear(one_offsets, one_rows, one_values, one_elements);
     copies::clear(two_offsets, two_rows, two_values, two_elements);
     tally::settle(tally, station, answer)

@@ -1,18 +1,18 @@
 -- Laws of list-repeat's counts and sums.
-use mathlib.Core.Path.{_≡_, refl}
+use mathlib.Core.Path.{_≡_, refl, sym}
 use mathlib.Core.Bool.{Bool, true, false, _||_}
 use mathlib.Core.List.{List}
-use Prim.Native.Nat.{ℕ, _+_, _-_, _*_, _^_, _≤_, _<_}
+use Prim.Native.Nat.{ℕ, _+_, _-_, _*_, _/_, _^_, _≤_, _<_}
 use native.Mathlib.Omega.{arith}
-use native.Mathlib.Nat.{mul-le-mul}
-use borrow.Author.Tests.{lt-ltb, le-ltb}
+use native.Mathlib.Nat.{mul-le-mul, div-lt-iff-lt-mul, le-div-iff-mul-le}
+use borrow.Author.Tests.{lt-ltb, le-ltb, ltb-true, ltb-false}
 use lib.Dec.{ltb}
 use lib.IntN.{ℤ, pos}
 use lib.ListN.{length, getD}
-use Rattle.model.specs.Basics.{pick, tab}
+use Rattle.model.specs.Basics.{tab}
 use Rattle.model.specs.Bitmap.{Bits, validAt}
 use Rattle.model.specs.Column.{Column, count, elemAt, offsetAt}
-use Rattle.model.specs.Limits.{narrow}
+use Rattle.model.specs.Limits.{Limits}
 use Rattle.model.specs.Refusals.{timesOf, total}
 use Rattle.model.proofs.TabLaws.{tab-step, tab-none}
 use Rattle.bitmap.specs.Push.{Covers}
@@ -31,15 +31,6 @@ by-count e h = rw e h
 pub rising : (c : Column) → Readable c → Rising (c .offsets)
 rising c w = record { step = λ r h. mono (c .offsets) (length (c .values)) r (w .offsets) (omega arith) }
 
-low : (v : Bool) (x y : ℕ) → pick v (y - x) 0 ≤ y
-low true x y = omega arith
-low false x y = omega arith
-
--- a row is no longer than where it ends
-pub len-low : (rb : Bits) (r a b : ℕ) → lenFrom rb r a b ≤ b
-unfolding lenFrom
-len-low rb r a b = low (validAt rb r) a b
-
 -- ---- one count
 
 pub times-null : (cs : List ℤ) (cb : Bits) (r : ℕ) → validAt cb r ≡ false → 0 ≡ timesAt cs cb r
@@ -49,6 +40,25 @@ times-null cs cb r e = rw e
 pub times-valid : (cs : List ℤ) (cb : Bits) (r : ℕ) → validAt cb r ≡ true → count (getD cs r (pos 0)) ≡ timesAt cs cb r
 unfolding timesAt timesOf elemAt
 times-valid cs cb r e = rw e
+
+-- ---- a product, tested before it is made
+
+-- of two factors of 32 bits
+pub product : (t l : ℕ) → t ≤ 4294967295 → l ≤ 4294967295 → t * l < 2 ^ 64
+product t l h k =
+    let m : t * l ≤ 4294967295 * 4294967295 = mul-le-mul h k in
+    omega arith
+
+-- by a division, and where there is nothing to divide by
+pub none-over : (t l m : ℕ) → l ≡ 0 → false ≡ ltb m (t * l)
+none-over t l m e = let z : t * l ≡ 0 = rw e (omega arith) in sym (le-ltb m (t * l) (omega arith))
+
+pub quotient-under : (t l m : ℕ) → 0 < l → ltb (m / l) t ≡ ltb m (t * l)
+quotient-under t l m h = decided (ltb m (t * l)) refl
+  where
+    decided : (b : Bool) → ltb m (t * l) ≡ b → ltb (m / l) t ≡ b
+    decided true e = lt-ltb (m / l) t (div-lt-iff-lt-mul {k = l} {x = m} {y = t} h .1 (ltb-true m (t * l) e))
+    decided false e = le-ltb (m / l) t (le-div-iff-mul-le {k = l} {x = t} {y = m} h .1 (ltb-false m (t * l) e))
 
 -- ---- the sums
 
@@ -60,53 +70,48 @@ total-none : (f : ℕ → ℕ) (r left : ℕ) → left ≤ 0 → total (tab f r 
 unfolding total
 total-none f r left h = rw (tab-none f r left h)
 
--- a product of two numbers that offsets can hold
-pub product : (t l : ℕ) → t ≤ narrow .outer → l ≤ narrow .offset → t * l < 2 ^ 64
-product t l h k =
-    let m : t * l ≤ 2147483647 * 2147483647 = mul-le-mul h k in
-    omega arith
-
 or-right : (a : Bool) → a || true ≡ true
 or-right true = refl
 or-right false = refl
 
-lists-over : (t v : ℕ) → narrow .outer < t → TooMany ≡ sums t v
-unfolding sums
-lists-over t v h = rw (lt-ltb (narrow .outer) t h)
+module _ (L : Limits) where
+  lists-over : (t v : ℕ) → L .outer < t → TooMany ≡ sums L t v
+  unfolding sums
+  lists-over t v h = rw (lt-ltb (L .outer) t h)
 
-values-over : (t v : ℕ) → narrow .repeated < v → TooMany ≡ sums t v
-unfolding sums
-values-over t v h = rw (lt-ltb (narrow .repeated) v h, or-right (ltb (narrow .outer) t))
+  values-over : (t v : ℕ) → L .repeated < v → TooMany ≡ sums L t v
+  unfolding sums
+  values-over t v h = rw (lt-ltb (L .repeated) v h, or-right (ltb (L .outer) t))
 
-both-fit : (t v x y : ℕ) → x ≡ t → y ≡ v → x ≤ narrow .outer → y ≤ narrow .repeated → Of x y ≡ sums t v
-unfolding sums
-both-fit t v x y e f h k = rw (← e, ← f, le-ltb (narrow .outer) x h, le-ltb (narrow .repeated) y k)
+  both-fit : (t v x y : ℕ) → x ≡ t → y ≡ v → x ≤ L .outer → y ≤ L .repeated → Of x y ≡ sums L t v
+  unfolding sums
+  both-fit t v x y e f h k = rw (← e, ← f, le-ltb (L .outer) x h, le-ltb (L .repeated) y k)
 
 -- both sums so far, those of the rows from r on being left
-pub record Summing (T R : ℕ → ℕ) (n lists values r left : ℕ) : Type 0 where
+pub record Summing (L : Limits) (T R : ℕ → ℕ) (n lists values r left : ℕ) : Type 0 where
   pub times : lists + total (tab T r left) ≡ total (tab T 0 n)
   pub repeated : values + total (tab R r left) ≡ total (tab R 0 n)
   pub rows : r + left ≡ n
-  pub few : lists ≤ narrow .outer
-  pub small : values ≤ narrow .repeated
+  pub few : lists ≤ L .outer
+  pub small : values ≤ L .repeated
 
-module _ (T R : ℕ → ℕ) (n : ℕ) where
-  pub sums-begun : Summing T R n 0 0 0 n
+module _ (L : Limits) (T R : ℕ → ℕ) (n : ℕ) where
+  pub sums-begun : Summing L T R n 0 0 0 n
   sums-begun = record { times = omega arith; repeated = omega arith; rows = omega arith; few = omega arith; small = omega arith }
 
-  module _ {lists values r left : ℕ} (s : Summing T R n lists values r left) where
-    pub sums-done : left ≤ 0 → Of lists values ≡ sums (total (tab T 0 n)) (total (tab R 0 n))
-    sums-done h = both-fit _ _ lists values (omega (arith, s .times, total-none T r left h)) (omega (arith, s .repeated, total-none R r left h)) (s .few) (s .small)
+  module _ {lists values r left : ℕ} (s : Summing L T R n lists values r left) where
+    pub sums-done : left ≤ 0 → Of lists values ≡ sums L (total (tab T 0 n)) (total (tab R 0 n))
+    sums-done h = both-fit L _ _ lists values (omega (arith, s .times, total-none T r left h)) (omega (arith, s .repeated, total-none R r left h)) (s .few) (s .small)
 
     module _ (t : ℕ) (h : 0 < left) (e : t ≡ T r) where
-      pub sums-many : narrow .outer - lists < t → TooMany ≡ sums (total (tab T 0 n)) (total (tab R 0 n))
-      sums-many k = lists-over _ _ (omega (arith, s .times, total-step T r left h))
+      pub sums-many : L .outer - lists < t → TooMany ≡ sums L (total (tab T 0 n)) (total (tab R 0 n))
+      sums-many k = lists-over L _ _ (omega (arith, s .times, total-step T r left h))
 
       module _ (v : ℕ) (f : v ≡ R r) where
-        pub sums-large : narrow .repeated - values < v → TooMany ≡ sums (total (tab T 0 n)) (total (tab R 0 n))
-        sums-large k = values-over _ _ (omega (arith, s .repeated, total-step R r left h))
+        pub sums-large : L .repeated - values < v → TooMany ≡ sums L (total (tab T 0 n)) (total (tab R 0 n))
+        sums-large k = values-over L _ _ (omega (arith, s .repeated, total-step R r left h))
 
-        pub sums-more : t ≤ narrow .outer - lists → v ≤ narrow .repeated - values → Summing T R n (lists + t) (values + v) (r + 1) (left - 1)
+        pub sums-more : t ≤ L .outer - lists → v ≤ L .repeated - values → Summing L T R n (lists + t) (values + v) (r + 1) (left - 1)
         sums-more k l = record {
           times = omega (arith, s .times, total-step T r left h);
           repeated = omega (arith, s .repeated, total-step R r left h);

@@ -7,7 +7,7 @@ use lib.IntN.{ℤ}
 use Rattle.model.specs.Basics.{pick, tab}
 use Rattle.model.specs.Bitmap.{Bits}
 use Rattle.model.specs.Column.{elemAt, rowCount, offsetAt}
-use Rattle.model.specs.Limits.{narrow}
+use Rattle.model.specs.Limits.{Limits}
 use Rattle.model.specs.Refusals.{timesOf, total}
 use Rattle.column.specs.Rows.{lenFrom}
 use Rattle.repeat_sums.specs.declared.Sums.{Sums}
@@ -25,9 +25,9 @@ timesAt cs cb r = timesOf (elemAt cs cb r)
 unfoldable pub repeatedAt : List ℤ → Bits → List ℤ → Bits → ℕ → ℕ
 repeatedAt o rb cs cb r = timesAt cs cb r * lenFrom rb r (offsetAt o r) (offsetAt o (r + 1))
 
--- "8 if the outer lists, or the values they repeat, exceed 2147483647"
-unfoldable pub sums : ℕ → ℕ → Sums
-sums t v = pick (ltb (narrow .outer) t || ltb (narrow .repeated) v) TooMany (Of t v)
+-- "8 if the outer lists, or the values they repeat, exceed" their limits
+unfoldable pub sums : Limits → ℕ → ℕ → Sums
+sums L t v = pick (ltb (L .outer) t || ltb (L .repeated) v) TooMany (Of t v)
 
-unfoldable pub sumsOf : List ℤ → Bits → List ℤ → Bits → Sums
-sumsOf o rb cs cb = sums (total (tab (timesAt cs cb) 0 (rowCount o))) (total (tab (repeatedAt o rb cs cb) 0 (rowCount o)))
+unfoldable pub sumsOf : Limits → List ℤ → Bits → List ℤ → Bits → Sums
+sumsOf L o rb cs cb = sums L (total (tab (timesAt cs cb) 0 (rowCount o))) (total (tab (repeatedAt o rb cs cb) 0 (rowCount o)))

@@ -1,19 +1,21 @@
 // List-repeat's counts, the walk that sums, and the outer rows that are written. An inner crate: its callers meet what it asks.
 // After repeat.rs of datafusion-functions-nested 55.2.0, Apache License 2.0, Apache Software Foundation; changed, see NOTICE.
-use column::offsets;
+use column::widths;
+use model::Width;
 use rows::utils;
-ghost use Prim.Native.Nat.{_+_, _/_, _<_, _≤_};
+ghost use Prim.Native.Nat.{_*_, _+_, _/_, _<_, _≤_};
 ghost use Rattle.bitmap.specs.Push.{Covers, pushBit};
 ghost use Rattle.model.specs.Bitmap.{validAt};
 ghost use Rattle.model.specs.Column.{rowCount};
 ghost use Rattle.model.specs.Inner.{lentBits, nowBits};
-ghost use Rattle.model.specs.Limits.{narrow};
+ghost use Rattle.model.specs.Widths.{entryAt, exitAt, limitsAt, used};
 ghost use Rattle.repeat_sums.specs.Counts.{Rising, sumsOf, timesAt};
+ghost use lib.Dec.{ltb};
 ghost use lib.IntN.{pos};
 ghost use lib.ListN.{length, set};
 ghost use mathlib.Core.Path.{_≡_};
 
-// What is summed: the outer lists and the values that they repeat, or that one of them exceeds 2147483647.
+// What is summed: the outer lists and the values that they repeat, or that one of them exceeds its limit.
 pub enum Sums {
     Of { lists: usize, values: usize },
     TooMany,
@@ -32,7 +34,51 @@ pub fn repeat_count(counts: &[i64], count_bits: &[u8], cstart: usize, n: usize, 
     utils::limit_of(counts[r])
 }
 
-// Sums the outer lists, null ones among them, and the values that they repeat. A sum that exceeds 2147483647 ends the walk.
+// The most outer lists.
+fn most_lists(width: Width) -> usize
+    ensures { λ n. ⌜ n ≡ limitsAt width .outer ⌝ }
+{
+    match width {
+        Width::Narrow => 2147483647,
+        Width::Wide => 1152921504606846974,
+    }
+}
+
+// The most values that they repeat.
+fn most_values(width: Width) -> usize
+    ensures { λ n. ⌜ n ≡ limitsAt width .repeated ⌝ }
+{
+    match width {
+        Width::Narrow => 2147483647,
+        Width::Wide => 1152921504606846975,
+    }
+}
+
+// Whether a product is over a number, by a division.
+fn is_large_product_over(times: usize, len: usize, most: usize) -> bool
+    ensures { λ t. ⌜ t ≡ ltb most (times * len) ⌝ }
+{
+    if len == 0 {
+        return false;
+    }
+    most / len < times
+}
+
+// Whether a product is over a number: it is made where its factors have 32 bits, so that it does not wrap.
+fn is_product_over(times: usize, len: usize, most: usize) -> bool
+    ensures { λ t. ⌜ t ≡ ltb most (times * len) ⌝ }
+{
+    if 4294967295 < times {
+        return is_large_product_over(times, len, most);
+    }
+    if 4294967295 < len {
+        return is_large_product_over(times, len, most);
+    }
+    let product = times * len;
+    most < product
+}
+
+// Sums the outer lists, null ones among them, and the values that they repeat. A sum that exceeds its limit ends the walk.
 pub fn sum_repeats(
     offsets: &[i32],
     rows: &[u8],
@@ -40,30 +86,35 @@ pub fn sum_repeats(
     counts: &[i64],
     count_bits: &[u8],
     cstart: usize,
+    width: Width,
+    large: &[i64],
 ) -> Sums
-    requires rising { ⌜ Rising (now offsets) ⌝ }
-    requires { ⌜ Covers (nowBits rows rstart) (rowCount (now offsets)) ⌝ }
-    requires { ⌜ Covers (nowBits «count_bits» cstart) (rowCount (now offsets)) ⌝ }
-    requires { ⌜ length (now counts) ≡ rowCount (now offsets) ⌝ }
-    ensures { λ s. ⌜ s ≡ sumsOf (now (offsets .entry)) (lentBits rows rstart) (now (counts .entry)) (lentBits «count_bits» cstart) ⌝ }
+    requires rising { ⌜ Rising (used width (now offsets) (now large)) ⌝ }
+    requires { ⌜ Covers (nowBits rows rstart) (rowCount (used width (now offsets) (now large))) ⌝ }
+    requires { ⌜ Covers (nowBits «count_bits» cstart) (rowCount (used width (now offsets) (now large))) ⌝ }
+    requires { ⌜ length (now counts) ≡ rowCount (used width (now offsets) (now large)) ⌝ }
+    ensures { λ s. ⌜ s ≡ sumsOf (limitsAt width) (entryAt width offsets large) (lentBits rows rstart) (now (counts .entry)) (lentBits «count_bits» cstart) ⌝ }
 {
-    let n = offsets::row_count(offsets);
+    let n = widths::row_count(width, offsets, large);
+    let list_limit = most_lists(width);
+    let value_limit = most_values(width);
     let mut lists: usize = 0;
     let mut values: usize = 0;
     let mut r: usize = 0;
     let mut left = n;
     while 0 < left {
         let times = repeat_count(counts, count_bits, cstart, n, r);
-        if 2147483647 - lists < times {
+        if list_limit - lists < times {
             return Sums::TooMany;
         }
-        let a = offsets::offset_at(offsets, r);
-        let b = offsets::offset_at(offsets, r + 1);
+        let a = widths::offset_at(width, offsets, large, r);
+        let b = widths::offset_at(width, offsets, large, r + 1);
         let len = column::rows::row_len(rows, rstart, n, r, a, b);
-        let repeated = times * len;
-        if 2147483647 - values < repeated {
+        let room = value_limit - values;
+        if is_product_over(times, len, room) {
             return Sums::TooMany;
         }
+        let repeated = times * len;
         lists += times;
         values += repeated;
         r += 1;
@@ -81,17 +132,19 @@ pub fn put_outer(
     lists: usize,
     out_offsets: &mut [i32],
     out_rows: &mut [u8],
+    width: Width,
+    out_large: &mut [i64],
 )
     requires bits { ⌜ Covers (nowBits «count_bits» cstart) n ⌝ }
     requires there { ⌜ r < n ⌝ }
-    requires few { ⌜ lists ≤ narrow .offset ⌝ }
-    requires slot { ⌜ r + 1 < length (now «out_offsets») ⌝ }
+    requires few { ⌜ lists ≤ limitsAt width .offset ⌝ }
+    requires slot { ⌜ r + 1 < length (used width (now «out_offsets») (now «out_large»)) ⌝ }
     requires bit { ⌜ r / 8 < length (now «out_rows») ⌝ }
-    ensures { λ _. ⌜ now («out_offsets» .exit) ≡ set (now («out_offsets» .entry)) (r + 1) (pos lists) ⌝ }
+    ensures { λ _. ⌜ exitAt width «out_offsets» «out_large» ≡ set (entryAt width «out_offsets» «out_large») (r + 1) (pos lists) ⌝ }
     ensures { λ _. ⌜ now («out_rows» .exit) ≡ pushBit (now («out_rows» .entry)) r (validAt (lentBits «count_bits» cstart) r) ⌝ }
 {
     let valid = bitmap::is_valid(count_bits, cstart, r, n);
     bitmap::push_bit(out_rows, r, valid);
     let next = r + 1;
-    offsets::put_offset(out_offsets, next, lists);
+    widths::put_offset(width, out_offsets, out_large, next, lists);
 }

@@ -10,7 +10,7 @@ use lib.IntN.{ℤ}
 use lib.ListN.{length}
 use Rattle.model.specs.Bitmap.{bytesFor, pack, nulls}
 use Rattle.model.specs.Form.{RepeatRoom, Outer, isOuter, isRow, isVal, inner, flat, over, fitsIn, fitsRepeat}
-use Rattle.model.specs.Limits.{narrow}
+use Rattle.model.specs.Limits.{Limits}
 use Rattle.model.specs.Outcome.{Outcome, refused, made, fittedRepeat}
 use Rattle.model.specs.Call.{answerOf, written}
 use Rattle.model.specs.Contract.{toldRepeat, RepeatMeets, room, repeatRoom}
@@ -32,8 +32,8 @@ repeat-refused k q = rw q (record { answer = refl; offsets = refl; rows = refl; 
 -- ---- room
 
 -- counts that are the rows' fit as the rows do
-pub same-fit : (os : List Outer) (l : RepeatRoom) {n t m : ℕ} → n ≡ length os → t ≡ length (inner os) → m ≡ length (flat (inner os)) → fitsCounts n t m l ≡ fitsRepeat os l
-same-fit os l e f g = rw (e, f, g)
+pub same-fit : (os : List Outer) (lo lr li lj lv le : ℕ) {n t m ho hi : ℕ} → n ≡ length os → t ≡ length (inner os) → m ≡ length (flat (inner os)) → ho ≡ lo → hi ≡ li → fitsCounts n t m (repeatRoom ho lr hi lj lv le) ≡ fitsRepeat os (repeatRoom lo lr li lj lv le)
+same-fit os lo lr li lj lv le e f g p q = rw (e, f, g, p, q)
 
 pub fitted-made : (os : List Outer) (l : RepeatRoom) → fitsRepeat os l ≡ true → fittedRepeat os l ≡ made os
 unfolding fittedRepeat
@@ -43,8 +43,8 @@ pub fitted-short : (os : List Outer) (l : RepeatRoom) → fitsRepeat os l ≡ fa
 unfolding fittedRepeat
 fitted-short os l h = rw h
 
-pub outer-room : (os : List Outer) (lo lr li lj lv le : ℕ) → fitsRepeat os (repeatRoom lo lr li lj lv le) ≡ true → length (inner os) ≤ narrow .outer → length (flat (inner os)) ≤ narrow .offset → RoomForOutersˡ os lo lr li lj lv le
-outer-room os lo lr li lj lv le h f g =
+pub outer-room : (L : Limits) (os : List Outer) (lo lr li lj lv le : ℕ) → fitsRepeat os (repeatRoom lo lr li lj lv le) ≡ true → length (inner os) ≤ L .outer → length (flat (inner os)) ≤ L .offset → RoomForOutersˡ L os lo lr li lj lv le
+outer-room L os lo lr li lj lv le h f g =
     let a = and-true (leb (length os + 1) lo && leb (bytesFor (length os)) lr) (fitsIn (length (inner os)) (length (flat (inner os))) (room li lj lv le)) h in
     let b = and-true (leb (length os + 1) lo) (leb (bytesFor (length os)) lr) (a .0) in
     let r = has-room (length (inner os)) (length (flat (inner os))) li lj lv le (a .1) in

@@ -11,7 +11,7 @@ use Rattle.model.specs.Basics.{tab}
 use Rattle.model.specs.Bitmap.{bytesFor, pack, packN}
 use Rattle.model.specs.Column.{Elem, Row}
 use Rattle.model.specs.Form.{valueOf, isVal, isRow, elemsOf, flat, over, offsetsFrom, Outer, isOuter, innerOf, inner, outerLength}
-use Rattle.model.specs.Limits.{narrow}
+use Rattle.model.specs.Limits.{Limits}
 use Rattle.model.proofs.TabLaws.{length-map, length-tab, tab-step, tab-none}
 use Rattle.model.proofs.FormLaws.{length-offsets}
 use Rattle.bitmap.specs.Push.{pushBit}
@@ -40,9 +40,9 @@ put-at s (w ∷ ws) = let e = put-at (putRow s w) ws in omega (arith, length-app
 
 -- ---- room, row by row
 
-module _ {ws : List Row} {i at lo lr lv le : ℕ} (f : RoomForRowsˡ ws i at lo lr lv le) where
+module _ {L : Limits} {ws : List Row} {i at lo lr lv le : ℕ} (f : RoomForRowsˡ L ws i at lo lr lv le) where
   -- as many rows and elements from another place
-  fits-as : {vs : List Row} {j k lo′ lr′ lv′ le′ : ℕ} → j + length vs ≤ i + length ws → k + length (flat vs) ≤ at + length (flat ws) → lo′ ≡ lo → lr′ ≡ lr → lv′ ≡ lv → le′ ≡ le → RoomForRowsˡ vs j k lo′ lr′ lv′ le′
+  fits-as : {vs : List Row} {j k lo′ lr′ lv′ le′ : ℕ} → j + length vs ≤ i + length ws → k + length (flat vs) ≤ at + length (flat ws) → lo′ ≡ lo → lr′ ≡ lr → lv′ ≡ lv → le′ ≡ le → RoomForRowsˡ L vs j k lo′ lr′ lv′ le′
   fits-as n m eo er ev ee = record {
     few = omega (arith, f .few);
     small = omega (arith, f .small);
@@ -56,20 +56,20 @@ module _ {ws : List Row} {i at lo lr lv le : ℕ} (f : RoomForRowsˡ ws i at lo 
 
 -- ---- the copies of one row: those in left are still to be written
 
-pub record Copying (w : Row) (first place times : ℕ) (io₀ : List ℤ) (ir₀ : List ℕ) (v₀ : List ℤ) (e₀ : List ℕ) (io : List ℤ) (ir : List ℕ) (v : List ℤ) (e : List ℕ) (i at left : ℕ) : Type 0 where
+pub record Copying (L : Limits) (w : Row) (first place times : ℕ) (io₀ : List ℤ) (ir₀ : List ℕ) (v₀ : List ℤ) (e₀ : List ℕ) (io : List ℤ) (ir : List ℕ) (v : List ℤ) (e : List ℕ) (i at left : ℕ) : Type 0 where
   pub same : putRows (outs io ir v e i at) (replicate left w) ≡ putRows (outs io₀ ir₀ v₀ e₀ first place) (replicate times w)
   pub rows : i + left ≡ first + times
-  pub fits : RoomForRowsˡ (replicate left w) i at (length io) (length ir) (length v) (length e)
+  pub fits : RoomForRowsˡ L (replicate left w) i at (length io) (length ir) (length v) (length e)
   pub lo : length io ≡ length io₀
   pub lr : length ir ≡ length ir₀
   pub lv : length v ≡ length v₀
   pub le : length e ≡ length e₀
 
-module _ (w : Row) (first place times : ℕ) where
-  pub copy-begun : {io : List ℤ} {ir : List ℕ} {v : List ℤ} {e : List ℕ} → RoomForRowsˡ (replicate times w) first place (length io) (length ir) (length v) (length e) → Copying w first place times io ir v e io ir v e first place times
+module _ (L : Limits) (w : Row) (first place times : ℕ) where
+  pub copy-begun : {io : List ℤ} {ir : List ℕ} {v : List ℤ} {e : List ℕ} → RoomForRowsˡ L (replicate times w) first place (length io) (length ir) (length v) (length e) → Copying L w first place times io ir v e io ir v e first place times
   copy-begun f = record { same = refl; rows = refl; fits = f; lo = refl; lr = refl; lv = refl; le = refl }
 
-  pub copy-done : {io₀ : List ℤ} {ir₀ : List ℕ} {v₀ : List ℤ} {e₀ : List ℕ} {io : List ℤ} {ir : List ℕ} {v : List ℤ} {e : List ℕ} {i at left : ℕ} → Copying w first place times io₀ ir₀ v₀ e₀ io ir v e i at left → left ≤ 0
+  pub copy-done : {io₀ : List ℤ} {ir₀ : List ℕ} {v₀ : List ℤ} {e₀ : List ℕ} {io : List ℤ} {ir : List ℕ} {v : List ℤ} {e : List ℕ} {i at left : ℕ} → Copying L w first place times io₀ ir₀ v₀ e₀ io ir v e i at left → left ≤ 0
       → outs io ir v e (first + times) at ≡ putRows (outs io₀ ir₀ v₀ e₀ first place) (replicate times w)
   unfolding putRows
   copy-done {io = io} {ir = ir} {v = v} {e = e} {i = i} {at = at} {left = left} s h =
@@ -77,7 +77,7 @@ module _ (w : Row) (first place times : ℕ) where
       rw q (rw (replicate-none left w h) at (s .same))
 
   -- a turn that writes one copy, the elements es
-  module _ {io₀ : List ℤ} {ir₀ : List ℕ} {v₀ : List ℤ} {e₀ : List ℕ} {io : List ℤ} {ir : List ℕ} {v : List ℤ} {e : List ℕ} {i at left : ℕ} (es : List Elem) (h : 0 < left) (elems : elemsOf w ≡ es) (s : Copying w first place times io₀ ir₀ v₀ e₀ io ir v e i at left) where
+  module _ {io₀ : List ℤ} {ir₀ : List ℕ} {v₀ : List ℤ} {e₀ : List ℕ} {io : List ℤ} {ir : List ℕ} {v : List ℤ} {e : List ℕ} {i at left : ℕ} (es : List Elem) (h : 0 < left) (elems : elemsOf w ≡ es) (s : Copying L w first place times io₀ ir₀ v₀ e₀ io ir v e i at left) where
     turn : length (flat (replicate left w)) ≡ length es + length (flat (replicate (left - 1) w))
     unfolding flat
     turn = rw (replicate-step left w h, length-append, elems)
@@ -94,17 +94,17 @@ module _ (w : Row) (first place times : ℕ) where
     pub copy-slot : i + 1 < length io
     copy-slot = omega (arith, s .fits .room .offsets, count)
 
-    pub copy-few : i + left ≤ narrow .outer
+    pub copy-few : i + left ≤ L .outer
     copy-few = omega (arith, s .fits .few, count)
 
     module _ {v′ : List ℤ} {e′ : List ℕ} {k : ℕ} (p : Writesˡ es at v v′ e e′ k) where
-      pub copy-small : k ≤ narrow .offset
+      pub copy-small : k ≤ L .offset
       copy-small = omega (arith, s .fits .small, turn, p .next)
 
       put-same : (on : Bool) (io′ : List ℤ) (ir′ : List ℕ) → isRow w ≡ on → ir′ ≡ pushBit ir i on → io′ ≡ set io (i + 1) (pos k) → outs io′ ir′ v′ e′ (i + 1) k ≡ putRow (outs io ir v e i at) w
       put-same on io′ ir′ b q t = rw (t, q, elems, b, p .values, p .elements, p .next)
 
-      pub copy-more : (on : Bool) {io′ : List ℤ} {ir′ : List ℕ} → isRow w ≡ on → ir′ ≡ pushBit ir i on → io′ ≡ set io (i + 1) (pos k) → Copying w first place times io₀ ir₀ v₀ e₀ io′ ir′ v′ e′ (i + 1) k (left - 1)
+      pub copy-more : (on : Bool) {io′ : List ℤ} {ir′ : List ℕ} → isRow w ≡ on → ir′ ≡ pushBit ir i on → io′ ≡ set io (i + 1) (pos k) → Copying L w first place times io₀ ir₀ v₀ e₀ io′ ir′ v′ e′ (i + 1) k (left - 1)
       copy-more on {io′} {ir′} b q t =
           let lo = ap length t ∙ length-set io (i + 1) (pos k) in
           let lr = ap length q ∙ length-pushBit ir i on in
@@ -198,7 +198,7 @@ module _ (d₁ : List ℤ) (d₂ : List ℕ) (d₃ : List ℤ) (d₄ : List ℕ)
   walked : (os : List Outer) → Wide os → putOuters (outers (set d₁ 0 (pos 0)) d₂ 0 (outs (set d₃ 0 (pos 0)) d₄ d₅ d₆ 0 0)) os ≡ whole os
   walked os h = rw (starts (omega (arith, h .offsets)) (omega (arith, h .lists .offsets))) (outers-all os [] h)
 
-  wide : (os : List Outer) → RoomForOutersˡ os (length d₁) (length d₂) (length d₃) (length d₄) (length d₅) (length d₆) → Wide os
+  wide : {L : Limits} (os : List Outer) → RoomForOutersˡ L os (length d₁) (length d₂) (length d₃) (length d₄) (length d₅) (length d₆) → Wide os
   wide os h =
       let r = h .lists .room in
       record {
@@ -209,10 +209,10 @@ module _ (d₁ : List ℤ) (d₂ : List ℕ) (d₃ : List ℤ) (d₄ : List ℕ)
 
 -- ---- the walk: O r is the outer row that is made for row r, of n
 
-pub record Repeating (O : ℕ → Outer) (n : ℕ) (oo₀ : List ℤ) (ob₀ : List ℕ) (io₀ : List ℤ) (ir₀ : List ℕ) (v₀ : List ℤ) (e₀ : List ℕ) (oo : List ℤ) (ob : List ℕ) (io : List ℤ) (ir : List ℕ) (v : List ℤ) (e : List ℕ) (r i at left : ℕ) : Type 0 where
+pub record Repeating (L : Limits) (O : ℕ → Outer) (n : ℕ) (oo₀ : List ℤ) (ob₀ : List ℕ) (io₀ : List ℤ) (ir₀ : List ℕ) (v₀ : List ℤ) (e₀ : List ℕ) (oo : List ℤ) (ob : List ℕ) (io : List ℤ) (ir : List ℕ) (v : List ℤ) (e : List ℕ) (r i at left : ℕ) : Type 0 where
   pub same : putOuters (outers oo ob r (outs io ir v e i at)) (tab O r left) ≡ putOuters (outers oo₀ ob₀ 0 (outs io₀ ir₀ v₀ e₀ 0 0)) (tab O 0 n)
   pub rows : r + left ≡ n
-  pub fits : RoomForRowsˡ (inner (tab O r left)) i at (length io) (length ir) (length v) (length e)
+  pub fits : RoomForRowsˡ L (inner (tab O r left)) i at (length io) (length ir) (length v) (length e)
   pub lo : length oo ≡ length oo₀
   pub lr : length ob ≡ length ob₀
   pub li : length io ≡ length io₀
@@ -224,12 +224,12 @@ outers-more : (os os′ : List Outer) (x : Outer) (a a′ G : Outers) → os ≡
 unfolding putOuters
 outers-more os os′ x a a′ G n p h = rw p (rw n at h)
 
-module _ (O : ℕ → Outer) (n : ℕ) where
-  pub outer-begun : {oo : List ℤ} {ob : List ℕ} {io : List ℤ} {ir : List ℕ} {v : List ℤ} {e : List ℕ} → RoomForRowsˡ (inner (tab O 0 n)) 0 0 (length io) (length ir) (length v) (length e) → Repeating O n oo ob io ir v e oo ob io ir v e 0 0 0 n
+module _ (L : Limits) (O : ℕ → Outer) (n : ℕ) where
+  pub outer-begun : {oo : List ℤ} {ob : List ℕ} {io : List ℤ} {ir : List ℕ} {v : List ℤ} {e : List ℕ} → RoomForRowsˡ L (inner (tab O 0 n)) 0 0 (length io) (length ir) (length v) (length e) → Repeating L O n oo ob io ir v e oo ob io ir v e 0 0 0 n
   outer-begun f = record { same = refl; rows = omega arith; fits = f; lo = refl; lr = refl; li = refl; lj = refl; lv = refl; le = refl }
 
   -- a turn that writes outer row r, the rows ws
-  module _ {oo₀ : List ℤ} {ob₀ : List ℕ} {io₀ : List ℤ} {ir₀ : List ℕ} {v₀ : List ℤ} {e₀ : List ℕ} {oo : List ℤ} {ob : List ℕ} {io : List ℤ} {ir : List ℕ} {v : List ℤ} {e : List ℕ} {r i at left : ℕ} (ws : List Row) (h : 0 < left) (same-rows : innerOf (O r) ≡ ws) (s : Repeating O n oo₀ ob₀ io₀ ir₀ v₀ e₀ oo ob io ir v e r i at left) where
+  module _ {oo₀ : List ℤ} {ob₀ : List ℕ} {io₀ : List ℤ} {ir₀ : List ℕ} {v₀ : List ℤ} {e₀ : List ℕ} {oo : List ℤ} {ob : List ℕ} {io : List ℤ} {ir : List ℕ} {v : List ℤ} {e : List ℕ} {r i at left : ℕ} (ws : List Row) (h : 0 < left) (same-rows : innerOf (O r) ≡ ws) (s : Repeating L O n oo₀ ob₀ io₀ ir₀ v₀ e₀ oo ob io ir v e r i at left) where
     rows-turn : length (inner (tab O r left)) ≡ length ws + length (inner (tab O (r + 1) (left - 1)))
     unfolding inner
     rows-turn = rw (tab-step O r left h, length-append, same-rows)
@@ -238,13 +238,13 @@ module _ (O : ℕ → Outer) (n : ℕ) where
     unfolding inner
     elems-turn = rw (tab-step O r left h, flat-append (innerOf (O r)) (inner (tab O (r + 1) (left - 1))), length-append, same-rows)
 
-    pub outer-fits : RoomForRowsˡ ws i at (length io) (length ir) (length v) (length e)
+    pub outer-fits : RoomForRowsˡ L ws i at (length io) (length ir) (length v) (length e)
     outer-fits = fits-as (s .fits) (omega (arith, rows-turn)) (omega (arith, elems-turn)) refl refl refl refl
 
-    pub outer-few : i + length ws ≤ narrow .outer
+    pub outer-few : i + length ws ≤ L .outer
     outer-few = outer-fits .few
 
-    module _ (m : RoomForOutersˡ (tab O 0 n) (length oo₀) (length ob₀) (length io₀) (length ir₀) (length v₀) (length e₀)) where
+    module _ (m : RoomForOutersˡ L (tab O 0 n) (length oo₀) (length ob₀) (length io₀) (length ir₀) (length v₀) (length e₀)) where
       pub outer-bit : r / 8 < length ob
       outer-bit = omega (arith, s .rows, s .lr, m .rows, length-tab O 0 n)
 
@@ -259,7 +259,7 @@ module _ (O : ℕ → Outer) (n : ℕ) where
       outer-same on oo′ ob′ b q o = rw (p, q, o, b, same-rows, eq)
 
       pub outer-more : (on : Bool) {oo′ : List ℤ} {ob′ : List ℕ} → isOuter (O r) ≡ on → ob′ ≡ pushBit ob r on → oo′ ≡ set oo (r + 1) (pos (i + t)) → length io′ ≡ length io → length ir′ ≡ length ir → length v′ ≡ length v → length e′ ≡ length e
-          → Repeating O n oo₀ ob₀ io₀ ir₀ v₀ e₀ oo′ ob′ io′ ir′ v′ e′ (r + 1) (i + t) k (left - 1)
+          → Repeating L O n oo₀ ob₀ io₀ ir₀ v₀ e₀ oo′ ob′ io′ ir′ v′ e′ (r + 1) (i + t) k (left - 1)
       outer-more on {oo′} {ob′} b q o li lj lv le = record {
         same = outers-more _ _ (O r) _ _ _ (tab-step O r left h) (outer-same on oo′ ob′ b q o) (s .same);
         rows = omega (arith, s .rows);
@@ -274,8 +274,8 @@ module _ (O : ℕ → Outer) (n : ℕ) where
 
   -- the end
   pub outer-done : (d₁ : List ℤ) (d₃ : List ℤ) {oo₀ : List ℤ} {ob₀ : List ℕ} {io₀ : List ℤ} {ir₀ : List ℕ} {v₀ : List ℤ} {e₀ : List ℕ} {oo : List ℤ} {ob : List ℕ} {io : List ℤ} {ir : List ℕ} {v : List ℤ} {e : List ℕ} {r i at left : ℕ}
-      → Repeating O n oo₀ ob₀ io₀ ir₀ v₀ e₀ oo ob io ir v e r i at left → left ≤ 0 → oo₀ ≡ set d₁ 0 (pos 0) → io₀ ≡ set d₃ 0 (pos 0)
-      → RoomForOutersˡ (tab O 0 n) (length d₁) (length ob₀) (length d₃) (length ir₀) (length v₀) (length e₀) → FillsOutersˡ (tab O 0 n) d₁ oo ob₀ ob d₃ io ir₀ ir v₀ v e₀ e
+      → Repeating L O n oo₀ ob₀ io₀ ir₀ v₀ e₀ oo ob io ir v e r i at left → left ≤ 0 → oo₀ ≡ set d₁ 0 (pos 0) → io₀ ≡ set d₃ 0 (pos 0)
+      → RoomForOutersˡ L (tab O 0 n) (length d₁) (length ob₀) (length d₃) (length ir₀) (length v₀) (length e₀) → FillsOutersˡ (tab O 0 n) d₁ oo ob₀ ob d₃ io ir₀ ir v₀ v e₀ e
   unfolding putOuters
   outer-done d₁ d₃ {ob₀ = ob₀} {ir₀ = ir₀} {v₀ = v₀} {e₀ = e₀} {r = r} {left = left} s h q t m =
       let w = walked d₁ ob₀ d₃ ir₀ v₀ e₀ (tab O 0 n) (wide d₁ ob₀ d₃ ir₀ v₀ e₀ (tab O 0 n) m) in

@@ -2,7 +2,7 @@
 use mathlib.Core.Path.{_≡_, refl, sym, ap, _∙_}
 use mathlib.Core.Bool.{Bool, true, false, _||_}
 use mathlib.Core.List.{List, [], _∷_}
-use Prim.Native.Nat.{ℕ, zero, suc, _+_, _*_, _≤_}
+use Prim.Native.Nat.{ℕ, zero, suc, _+_, _*_, _≤_, _<_}
 use native.Mathlib.Omega.{arith}
 use borrow.Author.Tests.{eq-eqb, ne-eqb, ltb-false}
 use lib.Dec.{ltb}
@@ -13,10 +13,13 @@ use Rattle.model.specs.Bitmap.{Bits, validAt, shortBits}
 use Rattle.model.specs.Column.{Elem, nul, val, Row, Column, Arguments, elemAt, rowAt, rowsOf, shownBy, rowCount, offsetAt, refusal13ᵃ, refusal2ᵃ}
 use Rattle.model.specs.Form.{isOuter, innerOf, inner, lengthOf, flat, RepeatRoom}
 use Rattle.model.specs.Lengths.{roomOfOuter, repeatLengthsShown, repeatLengths}
-use Rattle.model.specs.Limits.{narrow}
+use Rattle.model.specs.Limits.{Limits}
 use Rattle.model.specs.Refusals.{timesOf, repeatedBy, total, repeatRefusal}
 use Rattle.model.specs.Rows.{repeatOf, rowOf, argumentOf}
 use Rattle.model.specs.Outcome.{refused, made, gate, columnsRefusal, fittedRepeat, repeatsMade, repeatShown, repeatOutcome}
+use Rattle.model.specs.Widths.{used}
+use Rattle.model.specs.declared.Width.{Width}
+use Rattle.model.specs.declared.Width.the-variants as W
 use Rattle.model.proofs.TabLaws.{length-tab, tab-ext}
 use Rattle.model.proofs.ColumnLaws.{length-rows, length-shown, by-row}
 use Rattle.model.proofs.EarlyLaws.{or-first, gates}
@@ -57,7 +60,7 @@ module _ (c : Column) (a : Arguments) (n : ℕ) (e : n ≡ rowCount (c .offsets)
   unfolding repeatRows
   rows-at = rw e
 
-  pub room-at : {lo lo′ lr li li′ lj lv le : ℕ} → RoomForOutersˡ (repeatRows c a) lo lr li lj lv le → lo′ ≡ lo → li′ ≡ li → RoomForOutersˡ (tab (repeatAt c a) 0 n) lo′ lr li′ lj lv le
+  pub room-at : {L : Limits} {lo lo′ lr li li′ lj lv le : ℕ} → RoomForOutersˡ L (repeatRows c a) lo lr li lj lv le → lo′ ≡ lo → li′ ≡ li → RoomForOutersˡ L (tab (repeatAt c a) 0 n) lo′ lr li′ lj lv le
   room-at h p q = rw (p, q, rows-at) h
 
 -- ---- the counts of what is made
@@ -110,67 +113,9 @@ module _ (c : Column) (a : Arguments) where
   unfolding repeatRows
   length-repeats = length-tab (repeatAt c a) 0 (rowCount (c .offsets))
 
--- ---- the call
-
--- what the sums refuse
-eight : Sums → ℕ
-eight TooMany = 8
-eight (Of t v) = 0
-
-eight-if : (b : Bool) (t v : ℕ) → _≡_ {A = ℕ} (pick b 8 0) (eight (pick b TooMany (Of t v)))
-unfolding eight
-eight-if true t v = refl
-eight-if false t v = refl
-
-eight-sums : (t v : ℕ) → _≡_ {A = ℕ} (pick (ltb (narrow .outer) t || ltb (narrow .repeated) v) 8 0) (eight (sums t v))
-unfolding sums
-eight-sums t v = eight-if (ltb (narrow .outer) t || ltb (narrow .repeated) v) t v
-
-fit-if : (b d : Bool) (t v x y : ℕ) → Of x y ≡ pick (b || d) TooMany (Of t v) → (b ≡ false) × (d ≡ false) × (x ≡ t) × (y ≡ v)
-unfolding eight
-fit-if true d t v x y e = let z : _≡_ {A = ℕ} 0 8 = ap eight e in let n : ⊥ = omega arith in absurd n
-fit-if false true t v x y e = let z : _≡_ {A = ℕ} 0 8 = ap eight e in let n : ⊥ = omega arith in absurd n
-fit-if false false t v x y e = (refl, refl, ap (λ (s : Sums). one s) e, ap (λ (s : Sums). two s) e)
-  where
-    one : Sums → ℕ
-    one TooMany = 0
-    one (Of a b) = a
-
-    two : Sums → ℕ
-    two TooMany = 0
-    two (Of a b) = b
+-- ---- the refusals before the sums
 
 module _ (c : Column) (a : Arguments) where
-  abbrev found : Sums
-  found = sumsOf (c .offsets) (c .rows) (a .values) (a .bits)
-
-  module _ (e : length (a .values) ≡ rowCount (c .offsets)) where
-    made-repeats : repeatsMade (rowsOf c) (shownBy a) ≡ repeatRows c a
-    unfolding repeatsMade repeatRows
-    made-repeats = by-row repeatOf c a e
-
-    times-shown : tab (λ r. timesOf (argumentOf (shownBy a) r)) 0 (length (rowsOf c)) ≡ tab (timesAt (a .values) (a .bits)) 0 (rowCount (c .offsets))
-    unfolding timesAt
-    times-shown = by-row (λ w n. timesOf n) c a e
-
-    values-shown : tab (λ r. repeatedBy (rowOf (rowsOf c) r) (argumentOf (shownBy a) r)) 0 (length (rowsOf c)) ≡ tab (repeatedAt (c .offsets) (c .rows) (a .values) (a .bits)) 0 (rowCount (c .offsets))
-    values-shown = by-row repeatedBy c a e ∙ tab-ext _ _ 0 0 (rowCount (c .offsets)) (λ r h. repeated-by c a (0 + r))
-
-    refuses-eight : repeatRefusal narrow (rowsOf c) (shownBy a) ≡ eight found
-    unfolding repeatRefusal sumsOf
-    refuses-eight = rw (times-shown, values-shown) (eight-sums (total (tab (timesAt (a .values) (a .bits)) 0 (rowCount (c .offsets)))) (total (tab (repeatedAt (c .offsets) (c .rows) (a .values) (a .bits)) 0 (rowCount (c .offsets)))))
-
-  -- what the sums that do not exceed 2147483647 are
-  pub sums-are : (t v : ℕ) → Of t v ≡ found → (t ≡ length (inner (repeatRows c a))) × (v ≡ length (flat (inner (repeatRows c a)))) × (t ≤ narrow .outer) × (v ≤ narrow .repeated)
-  unfolding sumsOf sums
-  sums-are t v q =
-      let T = total (tab (timesAt (a .values) (a .bits)) 0 (rowCount (c .offsets))) in
-      let U = total (tab (repeatedAt (c .offsets) (c .rows) (a .values) (a .bits)) 0 (rowCount (c .offsets))) in
-      let f = fit-if (ltb (narrow .outer) T) (ltb (narrow .repeated) U) T U t v q in
-      (f .2 ∙ sym (lists-are c a), f .3 ∙ sym (values-are c a), rw (f .2) (ltb-false (narrow .outer) T (f .0)), rw (f .3) (ltb-false (narrow .repeated) U (f .1)))
-
-  -- the refusals before the sums
-
   pub early-starts : ltb 7 (a .bits .start) ≡ true → 13 ≡ earlyRepeat c a
   unfolding earlyRepeat any refusal13ᵃ
   early-starts h = rw (thirteen-of-arguments (c ∷ []) (a ∷ []) (rw h))
@@ -197,48 +142,107 @@ module _ (c : Column) (a : Arguments) where
       unfolding earlyRepeat any refusal2ᵃ
       early-none q = rw (arguments-next (c ∷ []) (a ∷ []) not-over k e h, t, length-rows c, length-shown a, eq-eqb (length (a .values)) (rowCount (c .offsets)) q)
 
-  -- the run and the measure both begin with them
+-- ---- the call
+
+-- what the sums refuse
+eight : Sums → ℕ
+eight TooMany = 8
+eight (Of t v) = 0
+
+eight-if : (b : Bool) (t v : ℕ) → _≡_ {A = ℕ} (pick b 8 0) (eight (pick b TooMany (Of t v)))
+unfolding eight
+eight-if true t v = refl
+eight-if false t v = refl
+
+eight-sums : (L : Limits) (t v : ℕ) → _≡_ {A = ℕ} (pick (ltb (L .outer) t || ltb (L .repeated) v) 8 0) (eight (sums L t v))
+unfolding sums
+eight-sums L t v = eight-if (ltb (L .outer) t || ltb (L .repeated) v) t v
+
+fit-if : (b d : Bool) (t v x y : ℕ) → Of x y ≡ pick (b || d) TooMany (Of t v) → (b ≡ false) × (d ≡ false) × (x ≡ t) × (y ≡ v)
+unfolding eight
+fit-if true d t v x y e = let z : _≡_ {A = ℕ} 0 8 = ap eight e in let n : ⊥ = omega arith in absurd n
+fit-if false true t v x y e = let z : _≡_ {A = ℕ} 0 8 = ap eight e in let n : ⊥ = omega arith in absurd n
+fit-if false false t v x y e = (refl, refl, ap (λ (s : Sums). one s) e, ap (λ (s : Sums). two s) e)
+  where
+    one : Sums → ℕ
+    one TooMany = 0
+    one (Of a b) = a
+
+    two : Sums → ℕ
+    two TooMany = 0
+    two (Of a b) = b
+
+module _ (L : Limits) (c : Column) (a : Arguments) where
+  abbrev found : Sums
+  found = sumsOf L (c .offsets) (c .rows) (a .values) (a .bits)
+
+  module _ (e : length (a .values) ≡ rowCount (c .offsets)) where
+    made-repeats : repeatsMade (rowsOf c) (shownBy a) ≡ repeatRows c a
+    unfolding repeatsMade repeatRows
+    made-repeats = by-row repeatOf c a e
+
+    times-shown : tab (λ r. timesOf (argumentOf (shownBy a) r)) 0 (length (rowsOf c)) ≡ tab (timesAt (a .values) (a .bits)) 0 (rowCount (c .offsets))
+    unfolding timesAt
+    times-shown = by-row (λ w n. timesOf n) c a e
+
+    values-shown : tab (λ r. repeatedBy (rowOf (rowsOf c) r) (argumentOf (shownBy a) r)) 0 (length (rowsOf c)) ≡ tab (repeatedAt (c .offsets) (c .rows) (a .values) (a .bits)) 0 (rowCount (c .offsets))
+    values-shown = by-row repeatedBy c a e ∙ tab-ext _ _ 0 0 (rowCount (c .offsets)) (λ r h. repeated-by c a (0 + r))
+
+    refuses-eight : repeatRefusal L (rowsOf c) (shownBy a) ≡ eight found
+    unfolding repeatRefusal sumsOf
+    refuses-eight = rw (times-shown, values-shown) (eight-sums L (total (tab (timesAt (a .values) (a .bits)) 0 (rowCount (c .offsets)))) (total (tab (repeatedAt (c .offsets) (c .rows) (a .values) (a .bits)) 0 (rowCount (c .offsets)))))
+
+  -- what the sums that do not exceed their limits are
+  pub sums-are : (t v : ℕ) → Of t v ≡ found → (t ≡ length (inner (repeatRows c a))) × (v ≡ length (flat (inner (repeatRows c a)))) × (t ≤ L .outer) × (v ≤ L .repeated)
+  unfolding sumsOf sums
+  sums-are t v q =
+      let T = total (tab (timesAt (a .values) (a .bits)) 0 (rowCount (c .offsets))) in
+      let U = total (tab (repeatedAt (c .offsets) (c .rows) (a .values) (a .bits)) 0 (rowCount (c .offsets))) in
+      let f = fit-if (ltb (L .outer) T) (ltb (L .repeated) U) T U t v q in
+      (f .2 ∙ sym (lists-are c a), f .3 ∙ sym (values-are c a), rw (f .2) (ltb-false (L .outer) T (f .0)), rw (f .3) (ltb-false (L .repeated) U (f .1)))
+
+  -- the run and the measure both begin with the refusals above
 
   abbrev refusal : ℕ
-  refusal = repeatRefusal narrow (rowsOf c) (shownBy a)
+  refusal = repeatRefusal L (rowsOf c) (shownBy a)
 
-  outcome-is : (l : RepeatRoom) → repeatOutcome narrow c a l ≡ gate (earlyRepeat c a) (gate refusal (fittedRepeat (repeatsMade (rowsOf c) (shownBy a)) l))
+  outcome-is : (l : RepeatRoom) → repeatOutcome L c a l ≡ gate (earlyRepeat c a) (gate refusal (fittedRepeat (repeatsMade (rowsOf c) (shownBy a)) l))
   unfolding repeatOutcome repeatShown earlyRepeat
   outcome-is l = gates _ _ _
 
-  lengths-are : repeatLengths narrow c a ≡ gate (earlyRepeat c a) (gate refusal (made (roomOfOuter (repeatsMade (rowsOf c) (shownBy a)))))
+  lengths-are : repeatLengths L c a ≡ gate (earlyRepeat c a) (gate refusal (made (roomOfOuter (repeatsMade (rowsOf c) (shownBy a)))))
   unfolding repeatLengths repeatLengthsShown earlyRepeat
   lengths-are = gates _ _ _
 
   -- a call that is refused early, or goes on; k is what the code found
   module _ (k : ℕ) (e : k ≡ earlyRepeat c a) where
-    pub run-early : (l : RepeatRoom) → (k ≡ 0 → ⊥) → repeatOutcome narrow c a l ≡ refused k
+    pub run-early : (l : RepeatRoom) → (k ≡ 0 → ⊥) → repeatOutcome L c a l ≡ refused k
     run-early l h = outcome-is l ∙ rw (← e) (gate-shut k _ h)
 
-    pub lengths-early : (k ≡ 0 → ⊥) → refused k ≡ repeatLengths narrow c a
+    pub lengths-early : (k ≡ 0 → ⊥) → refused k ≡ repeatLengths L c a
     lengths-early h = sym (lengths-are ∙ rw (← e) (gate-shut k _ h))
 
     module _ (h : k ≡ 0) (q : length (a .values) ≡ rowCount (c .offsets)) where
-      run-goes : (l : RepeatRoom) → repeatOutcome narrow c a l ≡ gate (eight found) (fittedRepeat (repeatRows c a) l)
+      run-goes : (l : RepeatRoom) → repeatOutcome L c a l ≡ gate (eight found) (fittedRepeat (repeatRows c a) l)
       run-goes l = outcome-is l ∙ gate-open (earlyRepeat c a) _ (sym e ∙ h) ∙ rw (refuses-eight q, made-repeats q)
 
-      lengths-go : repeatLengths narrow c a ≡ gate (eight found) (made (roomOfOuter (repeatRows c a)))
+      lengths-go : repeatLengths L c a ≡ gate (eight found) (made (roomOfOuter (repeatRows c a)))
       lengths-go = lengths-are ∙ gate-open (earlyRepeat c a) _ (sym e ∙ h) ∙ rw (refuses-eight q, made-repeats q)
 
       module _ (f : TooMany ≡ found) where
-        pub run-eight : (l : RepeatRoom) → repeatOutcome narrow c a l ≡ refused 8
+        pub run-eight : (l : RepeatRoom) → repeatOutcome L c a l ≡ refused 8
         unfolding eight gate
         run-eight l = run-goes l ∙ rw (← f)
 
-        pub lengths-eight : refused 8 ≡ repeatLengths narrow c a
+        pub lengths-eight : refused 8 ≡ repeatLengths L c a
         unfolding eight gate
         lengths-eight = sym (lengths-go ∙ rw (← f))
 
       module _ (t v : ℕ) (f : Of t v ≡ found) where
-        pub run-fits : (l : RepeatRoom) → repeatOutcome narrow c a l ≡ fittedRepeat (repeatRows c a) l
+        pub run-fits : (l : RepeatRoom) → repeatOutcome L c a l ≡ fittedRepeat (repeatRows c a) l
         unfolding eight gate
         run-fits l = run-goes l ∙ rw (← f)
 
-        pub lengths-made : (n : ℕ) → n ≡ rowCount (c .offsets) → made (roomForOuter n t v) ≡ repeatLengths narrow c a
+        pub lengths-made : (n : ℕ) → n ≡ rowCount (c .offsets) → made (roomForOuter n t v) ≡ repeatLengths L c a
         unfolding eight gate
         lengths-made n en = let m = sums-are t v f in sym (lengths-go ∙ rw (← f, length-repeats c a, ← m .0, ← m .1, ← en))

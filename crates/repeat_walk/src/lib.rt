@@ -1,8 +1,9 @@
 // List-repeat: the walk that writes, after the sums are taken. An inner crate: its callers meet what it asks.
 // After repeat.rs of datafusion-functions-nested 55.2.0, Apache License 2.0, Apache Software Foundation; changed, see NOTICE.
-use column::offsets;
+use column::widths;
 use model::RepeatAnswer;
 use model::RepeatLengths;
+use model::Width;
 use repeat_sums::Sums;
 use rows::utils;
 ghost use Prim.Native.Nat.{_+_, _<_, _≤_};
@@ -13,13 +14,14 @@ ghost use Rattle.column.specs.Rows.{rowFrom};
 ghost use Rattle.model.specs.Asked.{askedRepeat};
 ghost use Rattle.model.specs.Bitmap.{bytesFor};
 ghost use Rattle.model.specs.Column.{rowCount};
-ghost use Rattle.model.specs.Contract.{RepeatAnswers, repeatRoom};
+ghost use Rattle.model.specs.Contract.{repeatRoom};
 ghost use Rattle.model.specs.Form.{flat, inner};
-ghost use Rattle.model.specs.Inner.{nowColumn, nowArguments, nowBits, nowElem, lentArgumentsFrom, lentBits, lentElem, lentFrom};
+ghost use Rattle.model.specs.Inner.{nowColumnAt, nowArguments, nowBits, nowElem, lentArgumentsFrom, lentAt, lentBits, lentElem};
 ghost use Rattle.model.specs.Lengths.{repeatLengths};
-ghost use Rattle.model.specs.Limits.{largest, narrow};
+ghost use Rattle.model.specs.Limits.{largest};
 ghost use Rattle.model.specs.Outcome.{fittedRepeat, made, repeatOutcome};
-ghost use Rattle.repeat_walk.specs.Outers.{FillsOuters, RoomForOuters, RoomForRows};
+ghost use Rattle.model.specs.Widths.{RepeatAnswersAt, entryAt, exitAt, limitsAt, used};
+ghost use Rattle.repeat_walk.specs.Outers.{FillsOutersAt, RoomForOutersAt, RoomForRowsAt};
 ghost use Rattle.repeat_walk.specs.Repeats.{Begun, earlyRepeat, fitsCounts, repeatAnswerFrom, repeatRows, roomForOuter};
 ghost use lib.ListN.{length, replicate};
 ghost use mathlib.Core.Path.{_≡_};
@@ -34,10 +36,11 @@ fn put_copies(
     inner_offsets: &mut [i32], inner_rows: &mut [u8],
     out_values: &mut [i64], out_elements: &mut [u8],
     first: usize, place: usize,
+    width: Width, inner_large: &mut [i64],
 ) -> usize
     requires row { ⌜ ReadableRow rows rstart n values elements estart r a b ⌝ }
-    requires room { ⌜ RoomForRows (replicate times (rowFrom (nowBits rows rstart) (nowElem values elements estart) r a b)) first place «inner_offsets» «inner_rows» «out_values» «out_elements» ⌝ }
-    ensures { λ k. ⌜ outs (now («inner_offsets» .exit)) (now («inner_rows» .exit)) (now («out_values» .exit)) (now («out_elements» .exit)) (first + times) k ≡ putRows (outs (now («inner_offsets» .entry)) (now («inner_rows» .entry)) (now («out_values» .entry)) (now («out_elements» .entry)) first place) (replicate times (rowFrom (lentBits rows rstart) (lentElem values elements estart) r a b)) ⌝ }
+    requires room { ⌜ RoomForRowsAt width (replicate times (rowFrom (nowBits rows rstart) (nowElem values elements estart) r a b)) first place «inner_offsets» «inner_large» «inner_rows» «out_values» «out_elements» ⌝ }
+    ensures { λ k. ⌜ outs (exitAt width «inner_offsets» «inner_large») (now («inner_rows» .exit)) (now («out_values» .exit)) (now («out_elements» .exit)) (first + times) k ≡ putRows (outs (entryAt width «inner_offsets» «inner_large») (now («inner_rows» .entry)) (now («out_values» .entry)) (now («out_elements» .entry)) first place) (replicate times (rowFrom (lentBits rows rstart) (lentElem values elements estart) r a b)) ⌝ }
 {
     let valid = bitmap::is_valid(rows, rstart, r, n);
     let len = column::rows::row_len(rows, rstart, n, r, a, b);
@@ -51,7 +54,7 @@ fn put_copies(
             at,
         );
         bitmap::push_bit(inner_rows, i, valid);
-        offsets::put_offset(inner_offsets, i + 1, at);
+        widths::put_offset(width, inner_offsets, inner_large, i + 1, at);
         i += 1;
         left -= 1;
     }
@@ -66,24 +69,25 @@ fn write_repeats(
     out_offsets: &mut [i32], out_rows: &mut [u8],
     inner_offsets: &mut [i32], inner_rows: &mut [u8],
     out_values: &mut [i64], out_elements: &mut [u8],
+    width: Width, large: &[i64], out_large: &mut [i64], inner_large: &mut [i64],
 )
-    requires list { ⌜ Readable (nowColumn offsets rows rstart values elements estart) ⌝ }
-    requires bits { ⌜ Covers (nowBits «count_bits» cstart) (rowCount (now offsets)) ⌝ }
-    requires equal { ⌜ length (now counts) ≡ rowCount (now offsets) ⌝ }
-    requires room { ⌜ RoomForOuters (repeatRows (nowColumn offsets rows rstart values elements estart) (nowArguments counts «count_bits» cstart)) «out_offsets» «out_rows» «inner_offsets» «inner_rows» «out_values» «out_elements» ⌝ }
-    ensures { λ _. ⌜ FillsOuters (repeatRows (lentFrom offsets rows rstart values elements estart) (lentArgumentsFrom counts «count_bits» cstart)) «out_offsets» «out_rows» «inner_offsets» «inner_rows» «out_values» «out_elements» ⌝ }
+    requires list { ⌜ Readable (nowColumnAt width offsets large rows rstart values elements estart) ⌝ }
+    requires bits { ⌜ Covers (nowBits «count_bits» cstart) (rowCount (used width (now offsets) (now large))) ⌝ }
+    requires equal { ⌜ length (now counts) ≡ rowCount (used width (now offsets) (now large)) ⌝ }
+    requires room { ⌜ RoomForOutersAt width (repeatRows (nowColumnAt width offsets large rows rstart values elements estart) (nowArguments counts «count_bits» cstart)) «out_offsets» «out_large» «out_rows» «inner_offsets» «inner_large» «inner_rows» «out_values» «out_elements» ⌝ }
+    ensures { λ _. ⌜ FillsOutersAt width (repeatRows (lentAt width offsets large rows rstart values elements estart) (lentArgumentsFrom counts «count_bits» cstart)) «out_offsets» «out_large» «out_rows» «inner_offsets» «inner_large» «inner_rows» «out_values» «out_elements» ⌝ }
 {
-    let n = offsets::row_count(offsets);
-    offsets::put_offset(out_offsets, 0, 0);
-    offsets::put_offset(inner_offsets, 0, 0);
+    let n = widths::row_count(width, offsets, large);
+    widths::put_offset(width, out_offsets, out_large, 0, 0);
+    widths::put_offset(width, inner_offsets, inner_large, 0, 0);
     let mut r: usize = 0;
     let mut i: usize = 0;
     let mut at: usize = 0;
     let mut left = n;
     while 0 < left {
         let times = repeat_sums::repeat_count(counts, count_bits, cstart, n, r);
-        let a = offsets::offset_at(offsets, r);
-        let b = offsets::offset_at(offsets, r + 1);
+        let a = widths::offset_at(width, offsets, large, r);
+        let b = widths::offset_at(width, offsets, large, r + 1);
         at = put_copies(
             rows, rstart, n, values, elements, estart,
             r, a, b,
@@ -91,9 +95,10 @@ fn write_repeats(
             inner_offsets, inner_rows,
             out_values, out_elements,
             i, at,
+            width, inner_large,
         );
         i += times;
-        repeat_sums::put_outer(count_bits, cstart, n, r, i, out_offsets, out_rows);
+        repeat_sums::put_outer(count_bits, cstart, n, r, i, out_offsets, out_rows, width, out_large);
         r += 1;
         left -= 1;
     }
@@ -176,21 +181,24 @@ fn fill(
     out_offsets: &mut [i32], out_rows: &mut [u8],
     inner_offsets: &mut [i32], inner_rows: &mut [u8],
     out_values: &mut [i64], out_elements: &mut [u8],
+    width: Width, large: &[i64], out_large: &mut [i64], inner_large: &mut [i64],
 ) -> RepeatAnswer
-    requires list { ⌜ Readable (nowColumn offsets rows rstart values elements estart) ⌝ }
-    requires bits { ⌜ Covers (nowBits «count_bits» cstart) (rowCount (now offsets)) ⌝ }
-    requires equal { ⌜ length (now counts) ≡ rowCount (now offsets) ⌝ }
-    requires lists { ⌜ lists ≡ length (inner (repeatRows (nowColumn offsets rows rstart values elements estart) (nowArguments counts «count_bits» cstart))) ⌝ }
-    requires elements { ⌜ m ≡ length (flat (inner (repeatRows (nowColumn offsets rows rstart values elements estart) (nowArguments counts «count_bits» cstart)))) ⌝ }
-    requires few { ⌜ lists ≤ narrow .outer ⌝ }
-    requires small { ⌜ m ≤ narrow .repeated ⌝ }
-    ensures { λ k. ⌜ RepeatAnswers (fittedRepeat (repeatRows (lentFrom offsets rows rstart values elements estart) (lentArgumentsFrom counts «count_bits» cstart))) k «out_offsets» «out_rows» «inner_offsets» «inner_rows» «out_values» «out_elements» ⌝ }
+    requires list { ⌜ Readable (nowColumnAt width offsets large rows rstart values elements estart) ⌝ }
+    requires bits { ⌜ Covers (nowBits «count_bits» cstart) (rowCount (used width (now offsets) (now large))) ⌝ }
+    requires equal { ⌜ length (now counts) ≡ rowCount (used width (now offsets) (now large)) ⌝ }
+    requires lists { ⌜ lists ≡ length (inner (repeatRows (nowColumnAt width offsets large rows rstart values elements estart) (nowArguments counts «count_bits» cstart))) ⌝ }
+    requires elements { ⌜ m ≡ length (flat (inner (repeatRows (nowColumnAt width offsets large rows rstart values elements estart) (nowArguments counts «count_bits» cstart)))) ⌝ }
+    requires few { ⌜ lists ≤ limitsAt width .outer ⌝ }
+    requires small { ⌜ m ≤ limitsAt width .repeated ⌝ }
+    ensures { λ k. ⌜ RepeatAnswersAt width (fittedRepeat (repeatRows (lentAt width offsets large rows rstart values elements estart) (lentArgumentsFrom counts «count_bits» cstart))) k «out_offsets» «out_large» «out_rows» «inner_offsets» «inner_large» «inner_rows» «out_values» «out_elements» ⌝ }
 {
-    let n = offsets::row_count(offsets);
+    let n = widths::row_count(width, offsets, large);
+    let outer_slots = widths::pick(width, out_offsets.len(), out_large.len());
+    let inner_slots = widths::pick(width, inner_offsets.len(), inner_large.len());
     if !has_room(
         n, lists, m,
-        out_offsets.len(), out_rows.len(),
-        inner_offsets.len(), inner_rows.len(),
+        outer_slots, out_rows.len(),
+        inner_slots, inner_rows.len(),
         out_values.len(), out_elements.len(),
     ) {
         return RepeatAnswer::Refused(9);
@@ -201,6 +209,7 @@ fn fill(
         out_offsets, out_rows,
         inner_offsets, inner_rows,
         out_values, out_elements,
+        width, large, out_large, inner_large,
     );
     repeat_answer(out_rows, n, inner_rows, lists, out_elements, m)
 }
@@ -210,21 +219,22 @@ fn fill(
 fn early(
     offsets: &[i32], rows: &[u8], rstart: usize, values: &[i64], elements: &[u8], estart: usize,
     counts: &[i64], count_bits: &[u8], cstart: usize,
+    width: Width, large: &[i64],
 ) -> u8
-    ensures { λ k. ⌜ k ≡ earlyRepeat (lentFrom offsets rows rstart values elements estart) (lentArgumentsFrom counts «count_bits» cstart) ⌝ }
-    ensures { λ k. ⌜ (k ≡ 0 → Begun (lentFrom offsets rows rstart values elements estart) (lentArgumentsFrom counts «count_bits» cstart)) ⌝ }
+    ensures { λ k. ⌜ k ≡ earlyRepeat (lentAt width offsets large rows rstart values elements estart) (lentArgumentsFrom counts «count_bits» cstart) ⌝ }
+    ensures { λ k. ⌜ (k ≡ 0 → Begun (lentAt width offsets large rows rstart values elements estart) (lentArgumentsFrom counts «count_bits» cstart)) ⌝ }
 {
     if 7 < cstart {
         return 13;
     }
-    let k = checks::list_refusal(offsets, rows, rstart, values, elements, estart);
+    let k = checks::list_refusal(offsets, rows, rstart, values, elements, estart, width, large);
     if k != 0 {
         return k;
     }
     if bitmap::is_short(count_bits, cstart, counts.len()) {
         return 2;
     }
-    if counts.len() != offsets::row_count(offsets) {
+    if counts.len() != widths::row_count(width, offsets, large) {
         return 3;
     }
     0
@@ -235,19 +245,21 @@ fn early(
 pub fn lengths(
     offsets: &[i32], rows: &[u8], rstart: usize, values: &[i64], elements: &[u8], estart: usize,
     counts: &[i64], count_bits: &[u8], cstart: usize,
+    width: Width, large: &[i64],
 ) -> RepeatLengths
-    ensures { λ a. ⌜ askedRepeat a ≡ repeatLengths narrow (lentFrom offsets rows rstart values elements estart) (lentArgumentsFrom counts «count_bits» cstart) ⌝ }
+    ensures { λ a. ⌜ askedRepeat a ≡ repeatLengths (limitsAt width) (lentAt width offsets large rows rstart values elements estart) (lentArgumentsFrom counts «count_bits» cstart) ⌝ }
 {
     let k = early(
         offsets, rows, rstart, values, elements, estart,
         counts, count_bits, cstart,
+        width, large,
     );
     if k != 0 {
         return RepeatLengths::Refused(k);
     }
-    match repeat_sums::sum_repeats(offsets, rows, rstart, counts, count_bits, cstart) {
+    match repeat_sums::sum_repeats(offsets, rows, rstart, counts, count_bits, cstart, width, large) {
         Sums::TooMany => RepeatLengths::Refused(8),
-        Sums::Of { lists, values: m } => lengths_for(offsets::row_count(offsets), lists, m),
+        Sums::Of { lists, values: m } => lengths_for(widths::row_count(width, offsets, large), lists, m),
     }
 }
 
@@ -259,17 +271,19 @@ pub fn run(
     out_offsets: &mut [i32], out_rows: &mut [u8],
     inner_offsets: &mut [i32], inner_rows: &mut [u8],
     out_values: &mut [i64], out_elements: &mut [u8],
+    width: Width, large: &[i64], out_large: &mut [i64], inner_large: &mut [i64],
 ) -> RepeatAnswer
-    ensures { λ k. ⌜ RepeatAnswers (repeatOutcome narrow (lentFrom offsets rows rstart values elements estart) (lentArgumentsFrom counts «count_bits» cstart)) k «out_offsets» «out_rows» «inner_offsets» «inner_rows» «out_values» «out_elements» ⌝ }
+    ensures { λ k. ⌜ RepeatAnswersAt width (repeatOutcome (limitsAt width) (lentAt width offsets large rows rstart values elements estart) (lentArgumentsFrom counts «count_bits» cstart)) k «out_offsets» «out_large» «out_rows» «inner_offsets» «inner_large» «inner_rows» «out_values» «out_elements» ⌝ }
 {
     let k = early(
         offsets, rows, rstart, values, elements, estart,
         counts, count_bits, cstart,
+        width, large,
     );
     if k != 0 {
         return RepeatAnswer::Refused(k);
     }
-    match repeat_sums::sum_repeats(offsets, rows, rstart, counts, count_bits, cstart) {
+    match repeat_sums::sum_repeats(offsets, rows, rstart, counts, count_bits, cstart, width, large) {
         Sums::TooMany => RepeatAnswer::Refused(8),
         Sums::Of { lists, values: m } => fill(
             offsets, rows, rstart, values, elements, estart,
@@ -277,6 +291,7 @@ pub fn run(
             out_offsets, out_rows,
             inner_offsets, inner_rows,
             out_values, out_elements,
+            width, large, out_large, inner_large,
         ),
     }
 }

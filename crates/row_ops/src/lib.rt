@@ -120,7 +120,7 @@ pub fn measure(
             start: _,
             stride: _,
             count,
-        } => strided::to_usize(count),
+        } => count,
         RowOp::Resized { count, fill: _ } => count,
         RowOp::Replaced {
             from: _,

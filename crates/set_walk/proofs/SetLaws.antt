@@ -14,7 +14,7 @@ use Rattle.model.specs.Column.{Elem, Row, nullRow, listRow, Column, rowsOf, ele
 use Rattle.model.specs.Elements.{setElems}
 use Rattle.model.specs.Form.{Room, isRow, elemsOf, flat}
 use Rattle.model.specs.Lengths.{roomFor, listLengths}
-use Rattle.model.specs.Limits.{Limits, narrow}
+use Rattle.model.specs.Limits.{Limits}
 use Rattle.model.specs.Rows.{setOp, onRows, onCall, listsIn, argumentsIn, makes, madeOf, atRow, rowOf, rowsIn, rowByRow, rowMade, rowsMade}
 use Rattle.model.specs.Refusals.{unequal, firstOf, refusalOf, sumsRefusal, unionRefusal, rowsRefusal}
 use Rattle.model.specs.Outcome.{refused, gate, columnsRefusal, fitted, afterThree, listOutcome, earlyRefusal}
@@ -88,10 +88,10 @@ bound-grows Intersect h k = h
 pub bound-same : (op : SetOp) {a b c d : ℕ} → a ≡ b → c ≡ d → boundOf op b d ≡ boundOf op a c
 bound-same op h k = rw (h, k)
 
-pub bound-small : (op : SetOp) → boundOf op (narrow .offset) (narrow .offset) ≤ 4294967294
+pub bound-small : (op : SetOp) {n : ℕ} → n ≤ 9223372036854775807 → boundOf op n n ≤ 18446744073709551614
 unfolding boundOf
-bound-small Union = omega arith
-bound-small Intersect = omega arith
+bound-small Union h = omega arith
+bound-small Intersect h = omega arith
 
 -- rows between the offsets are the columns' rows
 pub same-pair : (op : SetOp) (c d : Column) (r p q u v : ℕ) → p ≡ offsetAt (c .offsets) r → q ≡ offsetAt (c .offsets) (r + 1) → u ≡ offsetAt (d .offsets) r → v ≡ offsetAt (d .offsets) (r + 1)
@@ -119,14 +119,14 @@ module _ (op : SetOp) (c d : Column) where
     pub room-at : {lo lo′ lr lv le : ℕ} → RoomInˡ (rowCount (c .offsets)) (length (flat (pairRows op c d))) lo lr lv le → lo′ ≡ lo → RoomInˡ n (length (flat (tab (pairAt op c d) 0 n))) lo′ lr lv le
     room-at h q = rw (q, rows-at, e) h
 
-  module _ (e : rowCount (d .offsets) ≡ rowCount (c .offsets)) where
-    rows-made : rowsMade narrow (setOp op (rowsOf c) (rowsOf d)) ≡ pairRows op c d
+  module _ (L : Limits) (e : rowCount (d .offsets) ≡ rowCount (c .offsets)) where
+    rows-made : rowsMade L (setOp op (rowsOf c) (rowsOf d)) ≡ pairRows op c d
     unfolding rowsMade rowByRow madeOf atRow rowMade rowsIn pairRows
     rows-made = map-tab rowMade (λ r. makes (onRows (setElems op) (rowOf (rowsOf c) r) (rowOf (rowsOf d) r))) 0 (length (rowsOf c)) ∙ rw (length-rows c) (tab-ext _ _ 0 0 (rowCount (c .offsets)) (λ r h. rw (zero-add r, row-at c r h, row-at d r (rw e h))))
 
-    refusal-is : rowsRefusal narrow (setOp op (rowsOf c) (rowsOf d)) ≡ unionRefusal narrow op (length (flat (pairRows op c d)))
+    refusal-is : rowsRefusal L (setOp op (rowsOf c) (rowsOf d)) ≡ unionRefusal L op (length (flat (pairRows op c d)))
     unfolding rowsRefusal rowByRow sumsRefusal rowsIn
-    refusal-is = rw (none-of narrow op (rowsOf c) (rowsOf d) 0 (length (rowsOf c)), rows-made)
+    refusal-is = rw (none-of L op (rowsOf c) (rowsOf d) 0 (length (rowsOf c)), rows-made)
 
   -- ---- the refusals before the rows
 
@@ -144,34 +144,34 @@ module _ (op : SetOp) (c d : Column) where
     early-none e = rw (z, length-rows c, length-rows d, eq-eqb (rowCount (d .offsets)) (rowCount (c .offsets)) e)
 
   -- a call that is refused early, or goes on; k is what the code found
-  module _ (k : ℕ) (e : k ≡ earlyRefusal (setOp op c d)) where
-    pub run-early : (l : Room) → (k ≡ 0 → ⊥) → listOutcome narrow (setOp op c d) l ≡ refused k
-    run-early l h = early-outcome narrow (setOp op c d) l ∙ rw (← e) (gate-shut k _ h)
+  module _ (L : Limits) (k : ℕ) (e : k ≡ earlyRefusal (setOp op c d)) where
+    pub run-early : (l : Room) → (k ≡ 0 → ⊥) → listOutcome L (setOp op c d) l ≡ refused k
+    run-early l h = early-outcome L (setOp op c d) l ∙ rw (← e) (gate-shut k _ h)
 
-    pub run-goes : (l : Room) → k ≡ 0 → listOutcome narrow (setOp op c d) l ≡ afterThree narrow (setOp op (rowsOf c) (rowsOf d)) l
+    pub run-goes : (l : Room) → k ≡ 0 → listOutcome L (setOp op c d) l ≡ afterThree L (setOp op (rowsOf c) (rowsOf d)) l
     unfolding onCall
-    run-goes l h = early-outcome narrow (setOp op c d) l ∙ gate-open (earlyRefusal (setOp op c d)) _ (sym e ∙ h)
+    run-goes l h = early-outcome L (setOp op c d) l ∙ gate-open (earlyRefusal (setOp op c d)) _ (sym e ∙ h)
 
-    pub lengths-early : (k ≡ 0 → ⊥) → refused k ≡ listLengths narrow (setOp op c d)
-    lengths-early h = sym (early-lengths narrow (setOp op c d) ∙ rw (← e) (gate-shut k _ h))
+    pub lengths-early : (k ≡ 0 → ⊥) → refused k ≡ listLengths L (setOp op c d)
+    lengths-early h = sym (early-lengths L (setOp op c d) ∙ rw (← e) (gate-shut k _ h))
 
-    pub lengths-go : k ≡ 0 → rowCount (d .offsets) ≡ rowCount (c .offsets) → listLengths narrow (setOp op c d) ≡ gate (unionRefusal narrow op (length (flat (pairRows op c d)))) (O.made (roomFor (rowCount (c .offsets)) (length (flat (pairRows op c d)))))
+    pub lengths-go : k ≡ 0 → rowCount (d .offsets) ≡ rowCount (c .offsets) → listLengths L (setOp op c d) ≡ gate (unionRefusal L op (length (flat (pairRows op c d)))) (O.made (roomFor (rowCount (c .offsets)) (length (flat (pairRows op c d)))))
     unfolding onCall
     lengths-go h q =
-        early-lengths narrow (setOp op c d)
+        early-lengths L (setOp op c d)
         ∙ gate-open (earlyRefusal (setOp op c d)) _ (sym e ∙ h)
-        ∙ rw (rows-made q, refusal-is q, length-pairs)
+        ∙ rw (rows-made L q, refusal-is L q, length-pairs)
 
-  pub set-after : (l : Room) → rowCount (d .offsets) ≡ rowCount (c .offsets) → afterThree narrow (setOp op (rowsOf c) (rowsOf d)) l ≡ gate (unionRefusal narrow op (length (flat (pairRows op c d)))) (fitted (pairRows op c d) l)
+  pub set-after : (L : Limits) (l : Room) → rowCount (d .offsets) ≡ rowCount (c .offsets) → afterThree L (setOp op (rowsOf c) (rowsOf d)) l ≡ gate (unionRefusal L op (length (flat (pairRows op c d)))) (fitted (pairRows op c d) l)
   unfolding afterThree
-  set-after l e = rw (rows-made e, refusal-is e)
+  set-after L l e = rw (rows-made L e, refusal-is L e)
 
 not-eight : (n m : ℕ) (t : Bool) → ltb n m ≡ t → _≡_ {A = ℕ} (pick t 8 0) 0 → m ≤ n
 not-eight n m true e z = let k : ⊥ = omega arith in absurd k
 not-eight n m false e z = ltb-false n m e
 
 -- what 8 leaves is no more than an offset holds
-pub united : (op : SetOp) (m : ℕ) → m ≤ boundOf op (narrow .offset) (narrow .offset) → unionRefusal narrow op m ≡ 0 → m ≤ narrow .offset
+pub united : (L : Limits) (op : SetOp) (m : ℕ) → L .united ≤ L .offset → m ≤ boundOf op (L .offset) (L .offset) → unionRefusal L op m ≡ 0 → m ≤ L .offset
 unfolding boundOf unionRefusal
-united Union m h z = not-eight (narrow .united) m (ltb (narrow .united) m) refl z
-united Intersect m h z = h
+united L Union m u h z = omega (arith, not-eight (L .united) m (ltb (L .united) m) refl z)
+united L Intersect m u h z = h

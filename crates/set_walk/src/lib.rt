@@ -1,24 +1,25 @@
 // The operations on two lists: one walk measures the pairs of rows, a second writes. An inner crate: its callers meet what it asks.
 // After set_ops.rs of datafusion-functions-nested 55.2.0, Apache License 2.0, Apache Software Foundation; changed, see NOTICE.
-use column::offsets;
+use column::widths;
 use model::ListAnswer;
 use model::ListLengths;
 use model::SetOp;
+use model::Width;
 use set_rows::set_ops;
 ghost use Prim.Native.Nat.{_<_, _≤_};
-ghost use Rattle.column.specs.Outputs.{Fills, ReadableRow, RoomForRow, RoomIn, WritesRow};
+ghost use Rattle.column.specs.Outputs.{FillsAt, ReadableRow, RoomAt, RoomForRow, WritesRow};
 ghost use Rattle.column.specs.Put.{Readable};
 ghost use Rattle.column.specs.Rows.{rowFrom};
 ghost use Rattle.model.specs.Asked.{askedList};
 ghost use Rattle.model.specs.Column.{rowCount, rowsOf};
-ghost use Rattle.model.specs.Contract.{ListAnswers};
 ghost use Rattle.model.specs.Elements.{setElems};
 ghost use Rattle.model.specs.Form.{elemsOf, flat};
-ghost use Rattle.model.specs.Inner.{nowColumn, nowBits, nowElem, lentBits, lentElem, lentFrom};
+ghost use Rattle.model.specs.Inner.{lentAt, lentBits, lentElem, nowBits, nowColumnAt, nowElem};
 ghost use Rattle.model.specs.Lengths.{listLengths};
-ghost use Rattle.model.specs.Limits.{narrow};
+ghost use Rattle.model.specs.Limits.{wide};
 ghost use Rattle.model.specs.Outcome.{afterThree, earlyRefusal, listOutcome};
 ghost use Rattle.model.specs.Rows.{onRows, setOp};
+ghost use Rattle.model.specs.Widths.{ListAnswersAt, limitsAt, used};
 ghost use Rattle.set_walk.specs.Pairs.{Begun, boundOf, pairRows};
 ghost use lib.ListN.{length};
 ghost use mathlib.Core.Path.{_≡_};
@@ -32,8 +33,8 @@ fn measure_pair<'a>(
 ) -> usize
     requires left { ⌜ ReadableRow lrows «l_rstart» n lvalues lelements «l_estart» r a b ⌝ }
     requires right { ⌜ ReadableRow rrows «r_rstart» n rvalues relements «r_estart» r c d ⌝ }
-    requires small { ⌜ b ≤ narrow .offset ⌝ }
-    requires low { ⌜ d ≤ narrow .offset ⌝ }
+    requires small { ⌜ b ≤ wide .offset ⌝ }
+    requires low { ⌜ d ≤ wide .offset ⌝ }
     ensures { λ k. ⌜ k ≡ length (elemsOf (onRows (setElems op) (rowFrom (lentBits lrows «l_rstart») (lentElem lvalues lelements «l_estart») r a b) (rowFrom (lentBits rrows «r_rstart») (lentElem rvalues relements «r_estart») r c d))) ⌝ }
 {
     if !set_checks::are_valid(lrows, l_rstart, rrows, r_rstart, n, r) {
@@ -79,22 +80,23 @@ fn measure_pairs<'a>(
     op: SetOp,
     loffsets: &[i32], lrows: &[u8], l_rstart: usize, lvalues: &'a [i64], lelements: &[u8], l_estart: usize,
     roffsets: &[i32], rrows: &[u8], r_rstart: usize, rvalues: &'a [i64], relements: &[u8], r_estart: usize,
+    width: Width, llarge: &[i64], rlarge: &[i64],
 ) -> usize
-    requires left { ⌜ Readable (nowColumn loffsets lrows «l_rstart» lvalues lelements «l_estart») ⌝ }
-    requires right { ⌜ Readable (nowColumn roffsets rrows «r_rstart» rvalues relements «r_estart») ⌝ }
-    requires equal { ⌜ rowCount (now roffsets) ≡ rowCount (now loffsets) ⌝ }
-    ensures { λ m. ⌜ m ≡ length (flat (pairRows op (lentFrom loffsets lrows «l_rstart» lvalues lelements «l_estart») (lentFrom roffsets rrows «r_rstart» rvalues relements «r_estart»))) ⌝ }
-    ensures { λ m. ⌜ m ≤ boundOf op (narrow .offset) (narrow .offset) ⌝ }
+    requires left { ⌜ Readable (nowColumnAt width loffsets llarge lrows «l_rstart» lvalues lelements «l_estart») ⌝ }
+    requires right { ⌜ Readable (nowColumnAt width roffsets rlarge rrows «r_rstart» rvalues relements «r_estart») ⌝ }
+    requires equal { ⌜ rowCount (used width (now roffsets) (now rlarge)) ≡ rowCount (used width (now loffsets) (now llarge)) ⌝ }
+    ensures { λ m. ⌜ m ≡ length (flat (pairRows op (lentAt width loffsets llarge lrows «l_rstart» lvalues lelements «l_estart») (lentAt width roffsets rlarge rrows «r_rstart» rvalues relements «r_estart»))) ⌝ }
+    ensures { λ m. ⌜ m ≤ boundOf op (limitsAt width .offset) (limitsAt width .offset) ⌝ }
 {
-    let n = offsets::row_count(loffsets);
+    let n = widths::row_count(width, loffsets, llarge);
     let mut found: usize = 0;
     let mut r: usize = 0;
     let mut left = n;
     while 0 < left {
-        let a = offsets::offset_at(loffsets, r);
-        let b = offsets::offset_at(loffsets, r + 1);
-        let c = offsets::offset_at(roffsets, r);
-        let d = offsets::offset_at(roffsets, r + 1);
+        let a = widths::offset_at(width, loffsets, llarge, r);
+        let b = widths::offset_at(width, loffsets, llarge, r + 1);
+        let c = widths::offset_at(width, roffsets, rlarge, r);
+        let d = widths::offset_at(width, roffsets, rlarge, r + 1);
         let len = measure_pair(
             op, lrows, l_rstart, lvalues, lelements, l_estart,
             a, b, rrows, r_rstart, rvalues, relements, r_estart,
@@ -114,31 +116,32 @@ fn write_pairs<'a>(
     loffsets: &[i32], lrows: &[u8], l_rstart: usize, lvalues: &'a [i64], lelements: &[u8], l_estart: usize,
     roffsets: &[i32], rrows: &[u8], r_rstart: usize, rvalues: &'a [i64], relements: &[u8], r_estart: usize,
     out_offsets: &mut [i32], out_rows: &mut [u8], out_values: &mut [i64], out_elements: &mut [u8],
+    width: Width, llarge: &[i64], rlarge: &[i64], out_large: &mut [i64],
 )
-    requires left { ⌜ Readable (nowColumn loffsets lrows «l_rstart» lvalues lelements «l_estart») ⌝ }
-    requires right { ⌜ Readable (nowColumn roffsets rrows «r_rstart» rvalues relements «r_estart») ⌝ }
-    requires equal { ⌜ rowCount (now roffsets) ≡ rowCount (now loffsets) ⌝ }
-    requires small { ⌜ length (flat (pairRows op (nowColumn loffsets lrows «l_rstart» lvalues lelements «l_estart») (nowColumn roffsets rrows «r_rstart» rvalues relements «r_estart»))) ≤ narrow .offset ⌝ }
-    requires room { ⌜ RoomIn (rowCount (now loffsets)) (length (flat (pairRows op (nowColumn loffsets lrows «l_rstart» lvalues lelements «l_estart») (nowColumn roffsets rrows «r_rstart» rvalues relements «r_estart»)))) «out_offsets» «out_rows» «out_values» «out_elements» ⌝ }
-    ensures { λ _. ⌜ Fills (pairRows op (lentFrom loffsets lrows «l_rstart» lvalues lelements «l_estart») (lentFrom roffsets rrows «r_rstart» rvalues relements «r_estart»)) «out_offsets» «out_rows» «out_values» «out_elements» ⌝ }
+    requires left { ⌜ Readable (nowColumnAt width loffsets llarge lrows «l_rstart» lvalues lelements «l_estart») ⌝ }
+    requires right { ⌜ Readable (nowColumnAt width roffsets rlarge rrows «r_rstart» rvalues relements «r_estart») ⌝ }
+    requires equal { ⌜ rowCount (used width (now roffsets) (now rlarge)) ≡ rowCount (used width (now loffsets) (now llarge)) ⌝ }
+    requires small { ⌜ length (flat (pairRows op (nowColumnAt width loffsets llarge lrows «l_rstart» lvalues lelements «l_estart») (nowColumnAt width roffsets rlarge rrows «r_rstart» rvalues relements «r_estart»))) ≤ limitsAt width .offset ⌝ }
+    requires room { ⌜ RoomAt width (rowCount (used width (now loffsets) (now llarge))) (length (flat (pairRows op (nowColumnAt width loffsets llarge lrows «l_rstart» lvalues lelements «l_estart») (nowColumnAt width roffsets rlarge rrows «r_rstart» rvalues relements «r_estart»)))) «out_offsets» «out_large» «out_rows» «out_values» «out_elements» ⌝ }
+    ensures { λ _. ⌜ FillsAt width (pairRows op (lentAt width loffsets llarge lrows «l_rstart» lvalues lelements «l_estart») (lentAt width roffsets rlarge rrows «r_rstart» rvalues relements «r_estart»)) «out_offsets» «out_large» «out_rows» «out_values» «out_elements» ⌝ }
 {
-    let n = offsets::row_count(loffsets);
-    offsets::put_offset(out_offsets, 0, 0);
+    let n = widths::row_count(width, loffsets, llarge);
+    widths::put_offset(width, out_offsets, out_large, 0, 0);
     let mut r: usize = 0;
     let mut at: usize = 0;
     let mut left = n;
     while 0 < left {
-        let a = offsets::offset_at(loffsets, r);
-        let b = offsets::offset_at(loffsets, r + 1);
-        let c = offsets::offset_at(roffsets, r);
-        let d = offsets::offset_at(roffsets, r + 1);
+        let a = widths::offset_at(width, loffsets, llarge, r);
+        let b = widths::offset_at(width, loffsets, llarge, r + 1);
+        let c = widths::offset_at(width, roffsets, rlarge, r);
+        let d = widths::offset_at(width, roffsets, rlarge, r + 1);
         at = put_pair(
             op, lrows, l_rstart, lvalues, lelements, l_estart,
             a, b, rrows, r_rstart, rvalues, relements, r_estart,
             c, d, n, r, out_rows, out_values, out_elements,
             at,
         );
-        offsets::put_offset(out_offsets, r + 1, at);
+        widths::put_offset(width, out_offsets, out_large, r + 1, at);
         r += 1;
         left -= 1;
     }
@@ -151,26 +154,28 @@ pub fn after_three<'a>(
     loffsets: &[i32], lrows: &[u8], l_rstart: usize, lvalues: &'a [i64], lelements: &[u8], l_estart: usize,
     roffsets: &[i32], rrows: &[u8], r_rstart: usize, rvalues: &'a [i64], relements: &[u8], r_estart: usize,
     out_offsets: &mut [i32], out_rows: &mut [u8], out_values: &mut [i64], out_elements: &mut [u8],
+    width: Width, llarge: &[i64], rlarge: &[i64], out_large: &mut [i64],
 ) -> ListAnswer
-    requires left { ⌜ Readable (nowColumn loffsets lrows «l_rstart» lvalues lelements «l_estart») ⌝ }
-    requires right { ⌜ Readable (nowColumn roffsets rrows «r_rstart» rvalues relements «r_estart») ⌝ }
-    requires equal { ⌜ rowCount (now roffsets) ≡ rowCount (now loffsets) ⌝ }
-    ensures { λ k. ⌜ ListAnswers (afterThree narrow (setOp op (rowsOf (lentFrom loffsets lrows «l_rstart» lvalues lelements «l_estart»)) (rowsOf (lentFrom roffsets rrows «r_rstart» rvalues relements «r_estart»)))) k «out_offsets» «out_rows» «out_values» «out_elements» ⌝ }
+    requires left { ⌜ Readable (nowColumnAt width loffsets llarge lrows «l_rstart» lvalues lelements «l_estart») ⌝ }
+    requires right { ⌜ Readable (nowColumnAt width roffsets rlarge rrows «r_rstart» rvalues relements «r_estart») ⌝ }
+    requires equal { ⌜ rowCount (used width (now roffsets) (now rlarge)) ≡ rowCount (used width (now loffsets) (now llarge)) ⌝ }
+    ensures { λ k. ⌜ ListAnswersAt width (afterThree (limitsAt width) (setOp op (rowsOf (lentAt width loffsets llarge lrows «l_rstart» lvalues lelements «l_estart»)) (rowsOf (lentAt width roffsets rlarge rrows «r_rstart» rvalues relements «r_estart»)))) k «out_offsets» «out_large» «out_rows» «out_values» «out_elements» ⌝ }
 {
-    let n = offsets::row_count(loffsets);
+    let n = widths::row_count(width, loffsets, llarge);
     let m = measure_pairs(
         op,
         loffsets, lrows, l_rstart, lvalues, lelements, l_estart,
         roffsets, rrows, r_rstart, rvalues, relements, r_estart,
+        width, llarge, rlarge,
     );
-    let long = set_checks::union_refusal(op, m);
+    let long = set_checks::union_refusal(op, m, width);
     if long != 0 {
         return ListAnswer::Refused(long);
     }
     if !checks::has_room(
         n,
         m,
-        out_offsets.len(),
+        widths::pick(width, out_offsets.len(), out_large.len()),
         out_rows.len(),
         out_values.len(),
         out_elements.len(),
@@ -182,6 +187,7 @@ pub fn after_three<'a>(
         loffsets, lrows, l_rstart, lvalues, lelements, l_estart,
         roffsets, rrows, r_rstart, rvalues, relements, r_estart,
         out_offsets, out_rows, out_values, out_elements,
+        width, llarge, rlarge, out_large,
     );
     answers::list_answer(out_rows, n, out_elements, m)
 }
@@ -191,18 +197,20 @@ pub fn after_three<'a>(
 fn early(
     loffsets: &[i32], lrows: &[u8], l_rstart: usize, lvalues: &[i64], lelements: &[u8], l_estart: usize,
     roffsets: &[i32], rrows: &[u8], r_rstart: usize, rvalues: &[i64], relements: &[u8], r_estart: usize,
+    width: Width, llarge: &[i64], rlarge: &[i64],
 ) -> u8
-    ensures { λ k. ⌜ ((op : SetOp) → k ≡ earlyRefusal (setOp op (lentFrom loffsets lrows «l_rstart» lvalues lelements «l_estart») (lentFrom roffsets rrows «r_rstart» rvalues relements «r_estart»))) ⌝ }
-    ensures { λ k. ⌜ (k ≡ 0 → Begun (lentFrom loffsets lrows «l_rstart» lvalues lelements «l_estart») (lentFrom roffsets rrows «r_rstart» rvalues relements «r_estart»)) ⌝ }
+    ensures { λ k. ⌜ ((op : SetOp) → k ≡ earlyRefusal (setOp op (lentAt width loffsets llarge lrows «l_rstart» lvalues lelements «l_estart») (lentAt width roffsets rlarge rrows «r_rstart» rvalues relements «r_estart»))) ⌝ }
+    ensures { λ k. ⌜ (k ≡ 0 → Begun (lentAt width loffsets llarge lrows «l_rstart» lvalues lelements «l_estart») (lentAt width roffsets rlarge rrows «r_rstart» rvalues relements «r_estart»)) ⌝ }
 {
     let k = set_checks::lists_refusal(
         loffsets, lrows, l_rstart, lvalues, lelements, l_estart,
         roffsets, rrows, r_rstart, rvalues, relements, r_estart,
+        width, llarge, rlarge,
     );
     if k != 0 {
         return k;
     }
-    if !set_checks::same_row_count(loffsets, roffsets) {
+    if !set_checks::same_row_count(loffsets, roffsets, width, llarge, rlarge) {
         return 3;
     }
     0
@@ -214,12 +222,14 @@ pub fn lengths<'a>(
     op: SetOp,
     loffsets: &[i32], lrows: &[u8], l_rstart: usize, lvalues: &'a [i64], lelements: &[u8], l_estart: usize,
     roffsets: &[i32], rrows: &[u8], r_rstart: usize, rvalues: &'a [i64], relements: &[u8], r_estart: usize,
+    width: Width, llarge: &[i64], rlarge: &[i64],
 ) -> ListLengths
-    ensures { λ a. ⌜ askedList a ≡ listLengths narrow (setOp op (lentFrom loffsets lrows «l_rstart» lvalues lelements «l_estart») (lentFrom roffsets rrows «r_rstart» rvalues relements «r_estart»)) ⌝ }
+    ensures { λ a. ⌜ askedList a ≡ listLengths (limitsAt width) (setOp op (lentAt width loffsets llarge lrows «l_rstart» lvalues lelements «l_estart») (lentAt width roffsets rlarge rrows «r_rstart» rvalues relements «r_estart»)) ⌝ }
 {
     let k = early(
         loffsets, lrows, l_rstart, lvalues, lelements, l_estart,
         roffsets, rrows, r_rstart, rvalues, relements, r_estart,
+        width, llarge, rlarge,
     );
     if k != 0 {
         return ListLengths::Refused(k);
@@ -228,12 +238,13 @@ pub fn lengths<'a>(
         op,
         loffsets, lrows, l_rstart, lvalues, lelements, l_estart,
         roffsets, rrows, r_rstart, rvalues, relements, r_estart,
+        width, llarge, rlarge,
     );
-    let long = set_checks::union_refusal(op, m);
+    let long = set_checks::union_refusal(op, m, width);
     if long != 0 {
         return ListLengths::Refused(long);
     }
-    checks::lengths_for(offsets::row_count(loffsets), m)
+    checks::lengths_for(widths::row_count(width, loffsets, llarge), m)
 }
 
 // Checks the columns and the outputs, and writes what the operation makes.
@@ -243,12 +254,14 @@ pub fn run<'a>(
     loffsets: &[i32], lrows: &[u8], l_rstart: usize, lvalues: &'a [i64], lelements: &[u8], l_estart: usize,
     roffsets: &[i32], rrows: &[u8], r_rstart: usize, rvalues: &'a [i64], relements: &[u8], r_estart: usize,
     out_offsets: &mut [i32], out_rows: &mut [u8], out_values: &mut [i64], out_elements: &mut [u8],
+    width: Width, llarge: &[i64], rlarge: &[i64], out_large: &mut [i64],
 ) -> ListAnswer
-    ensures { λ k. ⌜ ListAnswers (listOutcome narrow (setOp op (lentFrom loffsets lrows «l_rstart» lvalues lelements «l_estart») (lentFrom roffsets rrows «r_rstart» rvalues relements «r_estart»))) k «out_offsets» «out_rows» «out_values» «out_elements» ⌝ }
+    ensures { λ k. ⌜ ListAnswersAt width (listOutcome (limitsAt width) (setOp op (lentAt width loffsets llarge lrows «l_rstart» lvalues lelements «l_estart») (lentAt width roffsets rlarge rrows «r_rstart» rvalues relements «r_estart»))) k «out_offsets» «out_large» «out_rows» «out_values» «out_elements» ⌝ }
 {
     let k = early(
         loffsets, lrows, l_rstart, lvalues, lelements, l_estart,
         roffsets, rrows, r_rstart, rvalues, relements, r_estart,
+        width, llarge, rlarge,
     );
     if k != 0 {
         return ListAnswer::Refused(k);
@@ -258,5 +271,6 @@ pub fn run<'a>(
         loffsets, lrows, l_rstart, lvalues, lelements, l_estart,
         roffsets, rrows, r_rstart, rvalues, relements, r_estart,
         out_offsets, out_rows, out_values, out_elements,
+        width, llarge, rlarge, out_large,
     )
 }

@@ -11,6 +11,8 @@ use Rattle.model.specs.Bitmap.{from, bytesFor}
 use Rattle.model.specs.Column.{Elem, Row, Column, column, Arguments, rowCount, rowsOf}
 use Rattle.model.specs.Contract.{Slice}
 use Rattle.model.specs.Recipe.{Step}
+use Rattle.model.specs.Widths.{entryAt}
+use Rattle.model.specs.declared.Width.{Width}
 use Rattle.model.specs.Rows.{ListCall, unary, setOp}
 use Rattle.model.specs.declared.Unary.the-variants.{Reverse}
 use Rattle.bitmap.specs.Push.{Covers}
@@ -32,8 +34,8 @@ abbrev pub front : List ℤ → List ℕ → List ℤ → List ℕ → ℕ → �
 front o r v e n m = column (take (n + 1) o) (from 0 (take (bytesFor n) r)) (take m v) (from 0 (take (bytesFor m) e))
 
 -- of the slices of a tray as the call begins
-abbrev pub lentFront : Slice ℤ → Slice ℕ → Slice ℤ → Slice ℕ → ℕ → ℕ → Column
-lentFront o r v e n m = front (now (o .entry)) (now (r .entry)) (now (v .entry)) (now (e .entry)) n m
+abbrev pub lentFront : Width → Slice ℤ → Slice ℤ → Slice ℕ → Slice ℤ → Slice ℕ → ℕ → ℕ → Column
+lentFront w o x r v e n m = front (entryAt w o x) (now (r .entry)) (now (v .entry)) (now (e .entry)) n m
 
 pub record AtFront (n m : ℕ) (o : List ℤ) (r : List ℕ) (v : List ℤ) (e : List ℕ) : Type 0 where
   pub offsets : n + 1 ≤ length o

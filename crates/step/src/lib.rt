@@ -1,15 +1,16 @@
 // One step of a recipe. An inner crate: its callers meet what it asks.
 use codes::Operation;
+use column::widths;
 use model::ListAnswer;
+use model::Width;
 ghost use Prim.Native.Nat.{_+_, _*_, _≤_};
 ghost use Rattle.codes.specs.Codes.{step};
 ghost use Rattle.column.specs.Put.{Readable};
 ghost use Rattle.model.specs.Column.{rowCount, rowsOf, shownBy};
-ghost use Rattle.model.specs.Contract.{ListAnswers};
-ghost use Rattle.model.specs.Inner.{nowColumn, nowArguments, lentArgumentsFrom, lentFrom};
-ghost use Rattle.model.specs.Limits.{narrow};
+ghost use Rattle.model.specs.Inner.{lentArgumentsFrom, lentAt, nowArguments, nowColumnAt};
 ghost use Rattle.model.specs.Outcome.{afterThree};
 ghost use Rattle.model.specs.Recipe.{stepAt, stepCall};
+ghost use Rattle.model.specs.Widths.{ListAnswersAt, limitsAt, used};
 ghost use Rattle.step.specs.Step.{AtFront, Beside, StepFits, Taken, lentFront, rowsTaken};
 ghost use lib.ListN.{length};
 ghost use mathlib.Core.Path.{_≡_};
@@ -22,12 +23,13 @@ fn step<'a>(
     roffsets: &[i32], rrows: &[u8], r_rstart: usize, rvalues: &'a [i64], relements: &[u8], r_estart: usize,
     args: &[i64], bits: &[u8], start: usize,
     out_offsets: &mut [i32], out_rows: &mut [u8], out_values: &mut [i64], out_elements: &mut [u8],
+    width: Width, large: &[i64], rlarge: &[i64], out_large: &mut [i64],
 ) -> ListAnswer
-    requires column { ⌜ Readable (nowColumn offsets rows rstart values elements estart) ⌝ }
-    requires rows { ⌜ rowCount (now offsets) ≡ n ⌝ }
-    requires beside { ⌜ Beside n (nowColumn roffsets rrows «r_rstart» rvalues relements «r_estart») (nowArguments args bits start) ⌝ }
+    requires column { ⌜ Readable (nowColumnAt width offsets large rows rstart values elements estart) ⌝ }
+    requires rows { ⌜ rowCount (used width (now offsets) (now large)) ≡ n ⌝ }
+    requires beside { ⌜ Beside n (nowColumnAt width roffsets rlarge rrows «r_rstart» rvalues relements «r_estart») (nowArguments args bits start) ⌝ }
     requires fits { ⌜ StepFits (step code first second third) n (length (now args)) ⌝ }
-    ensures { λ k. ⌜ ListAnswers (afterThree narrow (stepCall (step code first second third) (rowsOf (lentFrom offsets rows rstart values elements estart)) (rowsOf (lentFrom roffsets rrows «r_rstart» rvalues relements «r_estart»)) (shownBy (lentArgumentsFrom args bits start)))) k «out_offsets» «out_rows» «out_values» «out_elements» ⌝ }
+    ensures { λ k. ⌜ ListAnswersAt width (afterThree (limitsAt width) (stepCall (step code first second third) (rowsOf (lentAt width offsets large rows rstart values elements estart)) (rowsOf (lentAt width roffsets rlarge rrows «r_rstart» rvalues relements «r_estart»)) (shownBy (lentArgumentsFrom args bits start)))) k «out_offsets» «out_large» «out_rows» «out_values» «out_elements» ⌝ }
 {
     match codes::operation_of(code) {
         Operation::One(op) => one_list::one_list(
@@ -36,12 +38,14 @@ fn step<'a>(
             n, first as usize, second as usize, third as usize,
             args, bits, start,
             out_offsets, out_rows, out_values, out_elements,
+            width, large, out_large,
         ),
         Operation::Two(op) => set_walk::after_three(
             op,
             offsets, rows, rstart, values, elements, estart,
             roffsets, rrows, r_rstart, rvalues, relements, r_estart,
             out_offsets, out_rows, out_values, out_elements,
+            width, large, rlarge, out_large,
         ),
         Operation::None => ListAnswer::Refused(10),
     }
@@ -55,13 +59,15 @@ fn step_from<'a>(
     roffsets: &[i32], rrows: &[u8], r_rstart: usize, rvalues: &'a [i64], relements: &[u8], r_estart: usize,
     args: &[i64], bits: &[u8], start: usize,
     out_offsets: &mut [i32], out_rows: &mut [u8], out_values: &mut [i64], out_elements: &mut [u8],
+    width: Width, from_large: &[i64], rlarge: &[i64], out_large: &mut [i64],
 ) -> ListAnswer
-    requires front { ⌜ AtFront n m (now «from_offsets») (now «from_rows») (now «from_values») (now «from_elements») ⌝ }
-    requires beside { ⌜ Beside n (nowColumn roffsets rrows «r_rstart» rvalues relements «r_estart») (nowArguments args bits start) ⌝ }
+    requires front { ⌜ AtFront n m (used width (now «from_offsets») (now «from_large»)) (now «from_rows») (now «from_values») (now «from_elements») ⌝ }
+    requires beside { ⌜ Beside n (nowColumnAt width roffsets rlarge rrows «r_rstart» rvalues relements «r_estart») (nowArguments args bits start) ⌝ }
     requires fits { ⌜ StepFits (step code first second third) n (length (now args)) ⌝ }
-    ensures { λ k. ⌜ ListAnswers (afterThree narrow (stepCall (step code first second third) (rowsOf (lentFront «from_offsets» «from_rows» «from_values» «from_elements» n m)) (rowsOf (lentFrom roffsets rrows «r_rstart» rvalues relements «r_estart»)) (shownBy (lentArgumentsFrom args bits start)))) k «out_offsets» «out_rows» «out_values» «out_elements» ⌝ }
+    ensures { λ k. ⌜ ListAnswersAt width (afterThree (limitsAt width) (stepCall (step code first second third) (rowsOf (lentFront width «from_offsets» «from_large» «from_rows» «from_values» «from_elements» n m)) (rowsOf (lentAt width roffsets rlarge rrows «r_rstart» rvalues relements «r_estart»)) (shownBy (lentArgumentsFrom args bits start)))) k «out_offsets» «out_large» «out_rows» «out_values» «out_elements» ⌝ }
 {
-    let no = n + 1;
+    let no = widths::pick(width, n + 1, 0);
+    let nl = widths::pick(width, 0, n + 1);
     let nr = bitmap::bytes_for(n);
     let ne = bitmap::bytes_for(m);
     step(
@@ -70,6 +76,7 @@ fn step_from<'a>(
         roffsets, rrows, r_rstart, rvalues, relements, r_estart,
         args, bits, start,
         out_offsets, out_rows, out_values, out_elements,
+        width, &from_large[..nl], rlarge, out_large,
     )
 }
 
@@ -82,12 +89,13 @@ pub fn step_at<'a>(
     roffsets: &[i32], rrows: &[u8], r_rstart: usize, rvalues: &'a [i64], relements: &[u8], r_estart: usize,
     args: &[i64], bits: &[u8], start: usize,
     out_offsets: &mut [i32], out_rows: &mut [u8], out_values: &mut [i64], out_elements: &mut [u8],
+    width: Width, large: &[i64], from_large: &[i64], rlarge: &[i64], out_large: &mut [i64],
 ) -> ListAnswer
     requires there { ⌜ 4 * k + 4 ≤ length (now recipe) ⌝ }
-    requires taken { ⌜ Taken k n m (nowColumn offsets rows rstart values elements estart) (now «from_offsets») (now «from_rows») (now «from_values») (now «from_elements») ⌝ }
-    requires beside { ⌜ Beside n (nowColumn roffsets rrows «r_rstart» rvalues relements «r_estart») (nowArguments args bits start) ⌝ }
+    requires taken { ⌜ Taken k n m (nowColumnAt width offsets large rows rstart values elements estart) (used width (now «from_offsets») (now «from_large»)) (now «from_rows») (now «from_values») (now «from_elements») ⌝ }
+    requires beside { ⌜ Beside n (nowColumnAt width roffsets rlarge rrows «r_rstart» rvalues relements «r_estart») (nowArguments args bits start) ⌝ }
     requires fits { ⌜ StepFits (stepAt (now recipe) k) n (length (now args)) ⌝ }
-    ensures { λ a. ⌜ ListAnswers (afterThree narrow (stepCall (stepAt (now (recipe .entry)) k) (rowsTaken k (lentFrom offsets rows rstart values elements estart) (lentFront «from_offsets» «from_rows» «from_values» «from_elements» n m)) (rowsOf (lentFrom roffsets rrows «r_rstart» rvalues relements «r_estart»)) (shownBy (lentArgumentsFrom args bits start)))) a «out_offsets» «out_rows» «out_values» «out_elements» ⌝ }
+    ensures { λ a. ⌜ ListAnswersAt width (afterThree (limitsAt width) (stepCall (stepAt (now (recipe .entry)) k) (rowsTaken k (lentAt width offsets large rows rstart values elements estart) (lentFront width «from_offsets» «from_large» «from_rows» «from_values» «from_elements» n m)) (rowsOf (lentAt width roffsets rlarge rrows «r_rstart» rvalues relements «r_estart»)) (shownBy (lentArgumentsFrom args bits start)))) a «out_offsets» «out_large» «out_rows» «out_values» «out_elements» ⌝ }
 {
     let i = 4 * k;
     let code = recipe[i];
@@ -101,6 +109,7 @@ pub fn step_at<'a>(
             roffsets, rrows, r_rstart, rvalues, relements, r_estart,
             args, bits, start,
             out_offsets, out_rows, out_values, out_elements,
+            width, large, rlarge, out_large,
         );
     }
     step_from(
@@ -109,5 +118,6 @@ pub fn step_at<'a>(
         roffsets, rrows, r_rstart, rvalues, relements, r_estart,
         args, bits, start,
         out_offsets, out_rows, out_values, out_elements,
+        width, from_large, rlarge, out_large,
     )
 }

@@ -14,7 +14,7 @@ use Rattle.model.specs.Column.{Elem, Row, Column, Arguments, rowsOf, rowCount}
 use Rattle.model.specs.Contract.{ListMeets, told, room}
 use Rattle.model.specs.Call.{answerOf, written, listCounts}
 use Rattle.model.specs.Form.{Room, flat, fitsIn}
-use Rattle.model.specs.Limits.{Limits, narrow}
+use Rattle.model.specs.Limits.{Limits}
 use Rattle.model.specs.Outcome.{Outcome, refused, made, gate, fitted, afterThree}
 use Rattle.model.specs.Recipe.{Step, stepAt, stepCall, thenOn, carried}
 use Rattle.model.specs.Refusals.{rowsRefusal}
@@ -67,9 +67,9 @@ rows-of-call (S.One L.Remove) ws rs a b c = refl
 rows-of-call (S.Two op) ws rs a b c = refl
 rows-of-call S.None ws rs a b c = refl
 
-length-made : (q : ListCall (List Row) (List Elem)) → length (rowsMade narrow q) ≡ rowsIn q
+length-made : (N : Limits) (q : ListCall (List Row) (List Elem)) → length (rowsMade N q) ≡ rowsIn q
 unfolding rowsMade rowByRow
-length-made q = length-map rowMade (tab (λ r. madeOf narrow (atRow q r)) 0 (rowsIn q)) ∙ length-tab (λ r. madeOf narrow (atRow q r)) 0 (rowsIn q)
+length-made N q = length-map rowMade (tab (λ r. madeOf N (atRow q r)) 0 (rowsIn q)) ∙ length-tab (λ r. madeOf N (atRow q r)) 0 (rowsIn q)
 
 gate-made : (t : Bool) (k : ℕ) (o : Outcome (List Row)) (ws : List Row) → pick t o (refused k) ≡ made ws → o ≡ made ws
 gate-made true k o ws h = h
@@ -79,32 +79,32 @@ fit-made : (t : Bool) (vs ws : List Row) → pick t (made vs) (refused 9) ≡ ma
 fit-made true vs ws h = cc
 fit-made false vs ws h = never cc
 
-after-made : (q : ListCall (List Row) (List Elem)) (l : Room) (ws : List Row) → afterThree narrow q l ≡ made ws → rowsMade narrow q ≡ ws
+after-made : (N : Limits) (q : ListCall (List Row) (List Elem)) (l : Room) (ws : List Row) → afterThree N q l ≡ made ws → rowsMade N q ≡ ws
 unfolding afterThree gate fitted
-after-made q l ws h = fit-made (fitsIn (length (rowsMade narrow q)) (length (flat (rowsMade narrow q))) l) (rowsMade narrow q) ws (gate-made (eqb (rowsRefusal narrow q) 0) (rowsRefusal narrow q) _ ws h)
+after-made N q l ws h = fit-made (fitsIn (length (rowsMade N q)) (length (flat (rowsMade N q))) l) (rowsMade N q) ws (gate-made (eqb (rowsRefusal N q) 0) (rowsRefusal N q) _ ws h)
 
-pub rows-kept : (s : Step) (ws rs : List Row) (es : List Elem) (l : Room) (ws′ : List Row) → afterThree narrow (stepCall s ws rs es) l ≡ made ws′ → length ws′ ≡ length ws
-rows-kept s ws rs es l ws′ h = ap length (sym (after-made (stepCall s ws rs es) l ws′ h)) ∙ length-made (stepCall s ws rs es) ∙ ap rowsIn (call-is (s .code) ws rs _ _ _) ∙ rows-of-call (operationOf (s .code)) ws rs _ _ _
+pub rows-kept : (N : Limits) (s : Step) (ws rs : List Row) (es : List Elem) (l : Room) (ws′ : List Row) → afterThree N (stepCall s ws rs es) l ≡ made ws′ → length ws′ ≡ length ws
+rows-kept N s ws rs es l ws′ h = ap length (sym (after-made N (stepCall s ws rs es) l ws′ h)) ∙ length-made N (stepCall s ws rs es) ∙ ap rowsIn (call-is (s .code) ws rs _ _ _) ∙ rows-of-call (operationOf (s .code)) ws rs _ _ _
 
 -- ---- the chain
 
-module _ (s : Step) (ts : List Step) (ws rs : List Row) (es : List Elem) (a b o : Room) where
-  pub chain-last : ts ≡ [] → carried narrow s ts ws rs es a b o ≡ afterThree narrow (stepCall s ws rs es) o
+module _ (N : Limits) (s : Step) (ts : List Step) (ws rs : List Row) (es : List Elem) (a b o : Room) where
+  pub chain-last : ts ≡ [] → carried N s ts ws rs es a b o ≡ afterThree N (stepCall s ws rs es) o
   unfolding carried
   chain-last e = rw e
 
-  pub chain-refused : (t : Step) (us : List Step) (k : ℕ) → ts ≡ t ∷ us → afterThree narrow (stepCall s ws rs es) a ≡ refused k → carried narrow s ts ws rs es a b o ≡ refused k
+  pub chain-refused : (t : Step) (us : List Step) (k : ℕ) → ts ≡ t ∷ us → afterThree N (stepCall s ws rs es) a ≡ refused k → carried N s ts ws rs es a b o ≡ refused k
   unfolding carried thenOn
   chain-refused t us k e h = rw (e, h)
 
-  pub chain-made : (t : Step) (us : List Step) (ws′ : List Row) → ts ≡ t ∷ us → afterThree narrow (stepCall s ws rs es) a ≡ made ws′ → carried narrow s ts ws rs es a b o ≡ carried narrow t us ws′ rs es b a o
+  pub chain-made : (t : Step) (us : List Step) (ws′ : List Row) → ts ≡ t ∷ us → afterThree N (stepCall s ws rs es) a ≡ made ws′ → carried N s ts ws rs es a b o ≡ carried N t us ws′ rs es b a o
   unfolding carried thenOn
   chain-made t us ws′ e h = rw (e, h)
 
   -- the steps after one that made rows, taken from the tray that shows them
   pub chain-on : (t : Step) (us : List Step) {ws′ vs : List Row} {a′ : Room} {x : ListAnswer} {oo oo′ : List ℤ} {ro ro′ : List ℕ} {vo vo′ : List ℤ} {eo eo′ : List ℕ}
-      → ts ≡ t ∷ us → afterThree narrow (stepCall s ws rs es) a ≡ made ws′ → vs ≡ ws′ → a′ ≡ a
-      → ListMeets (carried narrow t us vs rs es b a′ o) x oo oo′ ro ro′ vo vo′ eo eo′ → ListMeets (carried narrow s ts ws rs es a b o) x oo oo′ ro ro′ vo vo′ eo eo′
+      → ts ≡ t ∷ us → afterThree N (stepCall s ws rs es) a ≡ made ws′ → vs ≡ ws′ → a′ ≡ a
+      → ListMeets (carried N t us vs rs es b a′ o) x oo oo′ ro ro′ vo vo′ eo eo′ → ListMeets (carried N s ts ws rs es a b o) x oo oo′ ro ro′ vo vo′ eo eo′
   chain-on t us {ws′} e h v r m = rw (chain-made t us ws′ e h) (rw (v, r) at m)
 
 -- ---- a step that made rows leaves a column at the front of its tray that shows them

@@ -1,15 +1,14 @@
 -- For the caller of the strided copy: the places of a slice plan lie in the row, and are at least one and no more than the row has.
-use mathlib.Core.Bool.{Bool, true, false}
-use mathlib.Core.Path.{_≡_, refl, subst}
+use mathlib.Core.Bool.{false}
+use mathlib.Core.Path.{_≡_, subst}
 use Prim.Native.Nat.{ℕ, zero, suc, _+_, _-_, _/_, _<_, _≤_}
 use native.Mathlib.Nat.{div-mul-le-self, div-le-self}
 use native.Mathlib.Omega.{arith}
 use borrow.Author.Tests.{ltb-true, ltb-false}
-use lib.Dec.{T, ltb, eqb}
-use lib.IntN.{ℤ, pos, negsuc, natAbs}
-use lib.Signed.{nonNeg}
+use lib.Dec.{ltb, eqb}
+use lib.IntN.{ℤ, pos, negsuc}
 use Rattle.model.specs.Basics.{pick}
-use Rattle.model.specs.Limits.{Limits, narrow}
+use Rattle.model.specs.Limits.{Limits}
 use Rattle.model.specs.Slice.{Bound, unfit, outside, place, fits, fromPlace, inRow, fromBound, toPlace, toBound, Plan, refuse, empty, places, stepCount, against, isZero, strided, between, slicePlan}
 use Rattle.index.proofs.PlaceLaws.{pick-cases}
 use Rattle.strides.specs.Strides.{Reaches, Walks}
@@ -89,5 +88,5 @@ unfolding Good
 plan-in-row L n f t s a d k e = subst (Good n) e (plan-good L n f t s)
 
 -- what the strided copy asks of a plan's numbers
-pub plan-walks : (L : Limits) (n : ℕ) (f t s x d z : ℤ) → T (nonNeg x) → T (nonNeg z) → n ≤ narrow .offset → slicePlan L n f t s ≡ places (natAbs x) d (natAbs z) → Walks x d z n
-plan-walks L n f t s x d z p q h e = record { from = p; many = q; small = h; reach = λ l. plan-in-row L n f t s (natAbs x) d (natAbs z) e .reach }
+pub plan-walks : (L : Limits) (n : ℕ) (f t s : ℤ) (a : ℕ) (d : ℤ) (k : ℕ) → n ≤ 9223372036854775807 → slicePlan L n f t s ≡ places a d k → Walks a d k n
+plan-walks L n f t s a d k h e = record { small = h; reach = λ l. plan-in-row L n f t s a d k e .reach }

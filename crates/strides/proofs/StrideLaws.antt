@@ -1,44 +1,25 @@
 -- The places of a strided walk, and the elements that it takes.
-use mathlib.Core.Bool.{Bool, true, false, cond}
+use mathlib.Core.Bool.{Bool, true}
 use mathlib.Core.List.{List, [], map}
 use mathlib.Core.Path.{_≡_, refl, sym, ap, _∙_}
-use Prim.Native.Nat.{ℕ, _+_, _-_, _*_, _/_, _^_, _<_, _≤_, zero, suc}
+use Prim.Native.Nat.{ℕ, _+_, _-_, _*_, _/_, _<_, _≤_, zero, suc}
 use native.Mathlib.Nat.{mul-le-mul-right, add-mul, one-mul}
 use native.Mathlib.Omega.{arith}
-use borrow.Author.Tests.{ltb-true}
-use lib.Dec.{T, ltb}
-use lib.IntN.{ℤ, pos, negsuc, subℕ, _+ℤ_, natAbs}
+use lib.IntN.{ℤ, pos, negsuc, _+ℤ_, natAbs}
 use lib.ListN.{length, getD, set, replicate}
-use lib.Signed.{nonNeg}
-use mir.Facts.{toZ-ofZ, toZ-pos}
-use mir.Syntax.{w32}
-use mir.Val.{SFits, toZ, ofZ}
 use Rattle.model.proofs.TabLaws.{length-tab, tab-step, tab-none, tab-ext, getD-tab}
 use Rattle.model.specs.Basics.{tab}
 use Rattle.model.specs.Bitmap.{Bits, bytesFor}
 use Rattle.model.specs.Column.{Elem, nul, val, elemAt}
 use Rattle.model.specs.Form.{isVal, valueOf}
-use Rattle.model.specs.Limits.{narrow}
 use Rattle.model.specs.Slice.{stepFrom, sliced}
 use Rattle.bitmap.specs.Push.{pushBit, pushBits}
 use Rattle.column.proofs.WriteLaws.{Writing, begun, written, room, done}
 use Rattle.column.specs.Put.{RoomForElemsˡ, Writesˡ, putValues}
-use Rattle.strides.specs.Strides.{Reaches}
+use Rattle.strides.specs.Strides.{Reaches, Follows}
 use Rattle.column.proofs.RowLaws.{elem-plain}
 use Rattle.index.proofs.SignedLaws.{difference-natural}
 use Rattle.runs.proofs.PlainLaws.{tab-same, both-written}
-
--- ---- signed places
-
-pub back32 : (x : ℤ) → SFits w32 x → toZ w32 (ofZ w32 x) ≡ x
-back32 x f = toZ-ofZ {w = w32} f
-
-pub low : (p : ℕ) → p < 2 ^ 31 → toZ w32 p ≡ pos p
-low p h = toZ-pos w32 h
-
-pub start-bits : (z : ℤ) → T (nonNeg z) → ofZ w32 z ≡ natAbs z
-start-bits (pos n) t = refl
-start-bits (negsuc n) t = absurd t
 
 -- ---- the places
 
@@ -94,16 +75,20 @@ sliced-none a s k es e = rw e
 
 -- ---- stride 1: the elements from one place on
 
-module _ (b n a k : ℕ) (r : Reaches a (pos 1) k n) where
+module _ (b n a : ℕ) (s : ℤ) (k : ℕ) (e : s ≡ pos 1) (r : Reaches a s k n) where
+  reach-one : Reaches a (pos 1) k n
+  reach-one = rw e at r
+
   pub run-inside : 0 < k → a + k ≤ n
   unfolding Reaches
-  run-inside h = omega arith
+  run-inside h = omega (arith, reach-one)
 
-  pub sliced-run : (E : ℕ → Elem) → sliced a (pos 1) k (tab E b n) ≡ tab E (b + a) k
+  pub sliced-run : (E : ℕ → Elem) → sliced a s k (tab E b n) ≡ tab E (b + a) k
   unfolding stepFrom
   sliced-run E =
-      sliced-tab E b n a (pos 1) k r
-      ∙ tab-ext (λ j. E (b + stepFrom a (pos 1) j)) E 0 (b + a) k (λ j h. let q : b + (a + (0 + j) * 1) ≡ b + a + j = omega arith in rw q)
+      rw e
+      (sliced-tab E b n a (pos 1) k reach-one
+      ∙ tab-ext (λ j. E (b + stepFrom a (pos 1) j)) E 0 (b + a) k (λ j h. let q : b + (a + (0 + j) * 1) ≡ b + a + j = omega arith in rw q))
 
 -- ---- the walk: of the k elements that it takes of es, the last left ones are to come, the next at place p
 
@@ -140,13 +125,16 @@ module _ {a : ℕ} {s : ℤ} {k : ℕ} {es : List Elem} {at : ℕ} {vo₀ : List
     here h = rw (g .place h) (in-row a k n (k - left) s (r (omega (arith, g .most))) (omega (arith, g .most)))
 
     -- the sum that steps to the next place, where one is left
-    pub stepping : 0 < left - 1 → pos p +ℤ s ≡ pos (stepFrom a s (k - left + 1))
+    stepping : 0 < left - 1 → pos p +ℤ s ≡ pos (stepFrom a s (k - left + 1))
     stepping h = rw (g .place (omega arith)) (next-place a k n (k - left) s (r (omega (arith, g .most))) (omega (arith, g .most)))
 
-    pub step-fits : 0 < left - 1 → n ≤ narrow .offset → SFits w32 (pos p +ℤ s)
-    step-fits h l =
+    pub follows : 0 < left - 1 → n ≤ 9223372036854775807 → Follows p s
+    follows h l =
         let b = in-row a k n (k - left + 1) s (r (omega (arith, g .most))) (omega (arith, g .most)) in
-        rw (stepping h) (record { sfits = omega (arith, b) })
+        record { here = omega (arith, here (omega arith)); natural = rw (stepping h) tt; small = rw (stepping h) (omega (arith, b)) }
+
+    pub next-is : 0 < left - 1 → natAbs (pos p +ℤ s) ≡ stepFrom a s (k - left + 1)
+    next-is h = ap natAbs (stepping h)
 
 -- ---- where no element is null
 

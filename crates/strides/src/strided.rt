@@ -9,32 +9,20 @@ ghost use Rattle.model.specs.Basics.{tab};
 ghost use Rattle.model.specs.Column.{val};
 ghost use Rattle.model.specs.Inner.{nowElems, lentElems};
 ghost use Rattle.model.specs.Slice.{sliced};
-ghost use Rattle.strides.specs.Strides.{Walks};
-ghost use lib.Dec.{T};
+ghost use Rattle.strides.specs.Strides.{Follows, Walks};
 ghost use lib.IntN.{_+ℤ_, natAbs, pos};
 ghost use lib.ListN.{getD, length};
-ghost use lib.Signed.{nonNeg};
 ghost use mathlib.Core.Path.{_≡_};
-ghost use mir.Syntax.{w32};
-ghost use mir.Val.{SFits};
-
-// A place or a count that is not negative.
-pub fn to_usize(x: i32) -> usize
-    requires { ⌜ T (nonNeg x) ⌝ }
-    ensures { λ r. ⌜ r ≡ natAbs x ⌝ }
-{
-    x as usize
-}
 
 // The place after p, where one is left: none past the last is computed.
-fn place_after(p: i32, stride: i32, left: usize) -> i32
-    requires { ⌜ (0 < left → SFits w32 (p +ℤ stride)) ⌝ }
-    ensures { λ r. ⌜ (0 < left → r ≡ p +ℤ stride) ⌝ }
+fn place_after(p: usize, stride: i64, left: usize) -> usize
+    requires { ⌜ (0 < left → Follows p stride) ⌝ }
+    ensures { λ r. ⌜ (0 < left → r ≡ natAbs (pos p +ℤ stride)) ⌝ }
 {
     if left == 0 {
         return p;
     }
-    p + stride
+    ((p as i64) + stride) as usize
 }
 
 // Writes count elements of the n from element a on, one after the other: those at start, start + stride, and so on.
@@ -44,23 +32,23 @@ fn write_each_place(
     estart: usize,
     a: usize,
     n: usize,
-    start: i32,
-    stride: i32,
-    count: i32,
+    start: usize,
+    stride: i64,
+    count: usize,
     out_values: &mut [i64],
     out_elements: &mut [u8],
     at: usize,
 ) -> usize
     requires column { ⌜ ReadableElems values elements estart a n ⌝ }
     requires places { ⌜ Walks start stride count n ⌝ }
-    requires room { ⌜ RoomForElems (sliced (natAbs start) stride (natAbs count) (nowElems values elements estart a n)) at «out_values» «out_elements» ⌝ }
-    ensures { λ r. ⌜ Writes (sliced (natAbs start) stride (natAbs count) (lentElems values elements estart a n)) at «out_values» «out_elements» r ⌝ }
+    requires room { ⌜ RoomForElems (sliced start stride count (nowElems values elements estart a n)) at «out_values» «out_elements» ⌝ }
+    ensures { λ r. ⌜ Writes (sliced start stride count (lentElems values elements estart a n)) at «out_values» «out_elements» r ⌝ }
 {
     let mut p = start;
-    let mut left = to_usize(count);
+    let mut left = count;
     let mut k = at;
     while 0 < left {
-        let i = a + to_usize(p);
+        let i = a + p;
         elements::write_elem(values, elements, estart, i, out_values, out_elements, k);
         k += 1;
         left -= 1;
@@ -74,22 +62,22 @@ fn copy_places(
     values: &[i64],
     a: usize,
     n: usize,
-    start: i32,
-    stride: i32,
-    count: i32,
+    start: usize,
+    stride: i64,
+    count: usize,
     out: &mut [i64],
     at: usize,
 )
     requires column { ⌜ a + n ≤ length (now values) ⌝ }
     requires places { ⌜ Walks start stride count n ⌝ }
-    requires room { ⌜ at + natAbs count ≤ length (now out) ⌝ }
-    ensures { λ _. ⌜ now (out .exit) ≡ putValues (now (out .entry)) at (sliced (natAbs start) stride (natAbs count) (tab (λ i. val (getD (now (values .entry)) i (pos 0))) a n)) ⌝ }
+    requires room { ⌜ at + count ≤ length (now out) ⌝ }
+    ensures { λ _. ⌜ now (out .exit) ≡ putValues (now (out .entry)) at (sliced start stride count (tab (λ i. val (getD (now (values .entry)) i (pos 0))) a n)) ⌝ }
 {
     let mut p = start;
-    let mut left = to_usize(count);
+    let mut left = count;
     let mut k = at;
     while 0 < left {
-        let i = a + to_usize(p);
+        let i = a + p;
         out[k] = values[i];
         k += 1;
         left -= 1;
@@ -104,23 +92,22 @@ fn write_plain_places(
     estart: usize,
     a: usize,
     n: usize,
-    start: i32,
-    stride: i32,
-    count: i32,
+    start: usize,
+    stride: i64,
+    count: usize,
     out_values: &mut [i64],
     out_elements: &mut [u8],
     at: usize,
 ) -> usize
     requires column { ⌜ ReadableElems values elements estart a n ⌝ }
     requires places { ⌜ Walks start stride count n ⌝ }
-    requires room { ⌜ RoomForElems (sliced (natAbs start) stride (natAbs count) (nowElems values elements estart a n)) at «out_values» «out_elements» ⌝ }
+    requires room { ⌜ RoomForElems (sliced start stride count (nowElems values elements estart a n)) at «out_values» «out_elements» ⌝ }
     requires plain { ⌜ length (now elements) ≡ 0 ⌝ }
-    ensures { λ r. ⌜ Writes (sliced (natAbs start) stride (natAbs count) (lentElems values elements estart a n)) at «out_values» «out_elements» r ⌝ }
+    ensures { λ r. ⌜ Writes (sliced start stride count (lentElems values elements estart a n)) at «out_values» «out_elements» r ⌝ }
 {
     copy_places(values, a, n, start, stride, count, out_values, at);
-    let many = to_usize(count);
-    runs::push_same(out_elements, at, many, true);
-    at + many
+    runs::push_same(out_elements, at, count, true);
+    at + count
 }
 
 // Writes the same elements, at once where none can be null; gives the next place.
@@ -130,17 +117,17 @@ fn write_places(
     estart: usize,
     a: usize,
     n: usize,
-    start: i32,
-    stride: i32,
-    count: i32,
+    start: usize,
+    stride: i64,
+    count: usize,
     out_values: &mut [i64],
     out_elements: &mut [u8],
     at: usize,
 ) -> usize
     requires column { ⌜ ReadableElems values elements estart a n ⌝ }
     requires places { ⌜ Walks start stride count n ⌝ }
-    requires room { ⌜ RoomForElems (sliced (natAbs start) stride (natAbs count) (nowElems values elements estart a n)) at «out_values» «out_elements» ⌝ }
-    ensures { λ r. ⌜ Writes (sliced (natAbs start) stride (natAbs count) (lentElems values elements estart a n)) at «out_values» «out_elements» r ⌝ }
+    requires room { ⌜ RoomForElems (sliced start stride count (nowElems values elements estart a n)) at «out_values» «out_elements» ⌝ }
+    ensures { λ r. ⌜ Writes (sliced start stride count (lentElems values elements estart a n)) at «out_values» «out_elements» r ⌝ }
 {
     if elements.len() == 0 {
         return write_plain_places(
@@ -179,17 +166,17 @@ pub fn write_strided(
     estart: usize,
     a: usize,
     n: usize,
-    start: i32,
-    stride: i32,
-    count: i32,
+    start: usize,
+    stride: i64,
+    count: usize,
     out_values: &mut [i64],
     out_elements: &mut [u8],
     at: usize,
 ) -> usize
     requires column { ⌜ ReadableElems values elements estart a n ⌝ }
     requires places { ⌜ Walks start stride count n ⌝ }
-    requires room { ⌜ RoomForElems (sliced (natAbs start) stride (natAbs count) (nowElems values elements estart a n)) at «out_values» «out_elements» ⌝ }
-    ensures { λ r. ⌜ Writes (sliced (natAbs start) stride (natAbs count) (lentElems values elements estart a n)) at «out_values» «out_elements» r ⌝ }
+    requires room { ⌜ RoomForElems (sliced start stride count (nowElems values elements estart a n)) at «out_values» «out_elements» ⌝ }
+    ensures { λ r. ⌜ Writes (sliced start stride count (lentElems values elements estart a n)) at «out_values» «out_elements» r ⌝ }
 {
     if stride != 1 {
         return write_places(
@@ -206,17 +193,16 @@ pub fn write_strided(
             at,
         );
     }
-    let many = to_usize(count);
-    if many == 0 {
+    if count == 0 {
         return at;
     }
-    let first = a + to_usize(start);
+    let first = a + start;
     utils::write_forward(
         values,
         elements,
         estart,
         first,
-        many,
+        count,
         out_values,
         out_elements,
         at,

@@ -7,7 +7,7 @@ use borrow.Author.Tests.{lt-ltb, le-ltb, ltb-true}
 use Rattle.model.specs.Basics.{tab}
 use Rattle.model.specs.Bitmap.{Bits}
 use Rattle.model.specs.Column.{Arguments, count}
-use Rattle.model.specs.Limits.{narrow, largest}
+use Rattle.model.specs.Limits.{Limits, largest}
 use Rattle.model.specs.Outcome.{gate}
 use Rattle.model.specs.Refusals.{RowCount, Sum, stopped, sum, plus, andThen, sumOf, sumRefusal, counted}
 use Rattle.model.proofs.TabLaws.{tab-step, tab-none}
@@ -75,15 +75,15 @@ module _ (K : ℕ → RowCount) {n total r left : ℕ} (u : Running K n total r 
   unfolding sumOf
   running-done h = sym (rw (tab-none K r left h) at (u .same))
 
-module _ (rb : Bits) (a : Arguments) (n : ℕ) where
-  pub resize-stops : (k : ℕ) → sumOf (sum 0) (tab (countAt rb a) 0 n) ≡ stopped k → M.Refused k ≡ resizeMeasure rb a n
+module _ (L : Limits) (rb : Bits) (a : Arguments) (n : ℕ) where
+  pub resize-stops : (k : ℕ) → sumOf (sum 0) (tab (countAt rb a) 0 n) ≡ stopped k → M.Refused k ≡ resizeMeasure L rb a n
   unfolding resizeMeasure lastTest measureOf
   resize-stops k e = rw e
 
-  pub resize-over : (m : ℕ) → sumOf (sum 0) (tab (countAt rb a) 0 n) ≡ sum m → narrow .resized < m → M.Refused 8 ≡ resizeMeasure rb a n
+  pub resize-over : (m : ℕ) → sumOf (sum 0) (tab (countAt rb a) 0 n) ≡ sum m → L .resized < m → M.Refused 8 ≡ resizeMeasure L rb a n
   unfolding resizeMeasure lastTest measureOf sumRefusal gate
-  resize-over m e h = rw (e, lt-ltb (narrow .resized) m h)
+  resize-over m e h = rw (e, lt-ltb (L .resized) m h)
 
-  pub resize-ends : (m : ℕ) → sumOf (sum 0) (tab (countAt rb a) 0 n) ≡ sum m → m ≤ narrow .resized → M.Sum m ≡ resizeMeasure rb a n
+  pub resize-ends : (m : ℕ) → sumOf (sum 0) (tab (countAt rb a) 0 n) ≡ sum m → m ≤ L .resized → M.Sum m ≡ resizeMeasure L rb a n
   unfolding resizeMeasure lastTest measureOf sumRefusal gate
-  resize-ends m e h = rw (e, le-ltb (narrow .resized) m h)
+  resize-ends m e h = rw (e, le-ltb (L .resized) m h)

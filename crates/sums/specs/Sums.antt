@@ -4,7 +4,7 @@ use mathlib.Core.Bool.{Bool, true, false}
 use Rattle.model.specs.Basics.{tab}
 use Rattle.model.specs.Bitmap.{Bits, validAt}
 use Rattle.model.specs.Column.{Arguments}
-use Rattle.model.specs.Limits.{narrow}
+use Rattle.model.specs.Limits.{Limits}
 use Rattle.model.specs.Outcome.{Outcome, refused, made, gate}
 use Rattle.model.specs.Refusals.{RowCount, uncounted, counted, Sum, stopped, sum, sumOf, sumRefusal}
 use Rattle.rows.specs.declared.Cell.{Cell}
@@ -37,10 +37,10 @@ unfoldable pub summed : Sum → Measure
 summed (stopped k) = M.Refused k
 summed (sum n) = M.Sum n
 
--- resize: 7, or 8 where the running sum passes its bound, by the row; then 8 if the sum exceeds an offset
-unfoldable pub lastTest : Sum → Outcome ℕ
-lastTest (stopped k) = refused k
-lastTest (sum n) = gate (sumRefusal narrow (sum n)) (made n)
+-- resize: 7, or 8 where the running sum passes its bound, by the row; then 8 if the sum exceeds its limit
+unfoldable pub lastTest : Limits → Sum → Outcome ℕ
+lastTest L (stopped k) = refused k
+lastTest L (sum n) = gate (sumRefusal L (sum n)) (made n)
 
-unfoldable pub resizeMeasure : Bits → Arguments → ℕ → Measure
-resizeMeasure rb a n = measureOf (lastTest (sumOf (sum 0) (tab (countAt rb a) 0 n)))
+unfoldable pub resizeMeasure : Limits → Bits → Arguments → ℕ → Measure
+resizeMeasure L rb a n = measureOf (lastTest L (sumOf (sum 0) (tab (countAt rb a) 0 n)))

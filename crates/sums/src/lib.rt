@@ -1,5 +1,6 @@
 // The sum of resize's counts, and what it comes to. An inner crate: its callers meet what it asks.
 use arguments::taken;
+use model::Width;
 use rows::Cell;
 use rows::utils;
 ghost use Prim.Native.Nat.{_≤_};
@@ -7,8 +8,8 @@ ghost use Rattle.sums.specs.Sums.{countIf, letThrough, resizeMeasure, su
 ghost use Rattle.arguments.specs.Taken.{Serves};
 ghost use Rattle.bitmap.specs.Push.{Covers};
 ghost use Rattle.model.specs.Inner.{nowArguments, nowBits, lentArgumentsFrom, lentBits};
-ghost use Rattle.model.specs.Limits.{narrow};
 ghost use Rattle.model.specs.Refusals.{plus};
+ghost use Rattle.model.specs.Widths.{limitsAt};
 ghost use mathlib.Core.Bool.{false};
 ghost use mathlib.Core.Path.{_≡_};
 
@@ -40,6 +41,16 @@ fn plus_count(sum: usize, valid: bool, count: Cell) -> Measure
     }
 }
 
+// The largest sum of counts, refusal 8 of resize.
+fn most_resized(width: Width) -> usize
+    ensures { λ m. ⌜ m ≡ limitsAt width .resized ⌝ }
+{
+    match width {
+        Width::Narrow => 2147483647,
+        Width::Wide => 1152921504606846975,
+    }
+}
+
 // What resize makes of n rows: the sum of the counts of the rows with list and count valid, or the refusal.
 pub fn measure_resize(
     rows: &[u8],
@@ -48,11 +59,12 @@ pub fn measure_resize(
     counts: &[i64],
     bits: &[u8],
     start: usize,
+    width: Width,
 ) -> Measure
     requires { ⌜ Covers (nowBits rows rstart) n ⌝ }
     requires { ⌜ Serves false n (nowArguments counts bits start) ⌝ }
-    ensures { λ m. ⌜ m ≡ resizeMeasure (lentBits rows rstart) (lentArgumentsFrom counts bits start) n ⌝ }
-    ensures { λ m. ⌜ letThrough m ≤ narrow .offset ⌝ }
+    ensures { λ m. ⌜ m ≡ resizeMeasure (limitsAt width) (lentBits rows rstart) (lentArgumentsFrom counts bits start) n ⌝ }
+    ensures { λ m. ⌜ letThrough m ≤ limitsAt width .offset ⌝ }
 {
     let mut sum: usize = 0;
     let mut r: usize = 0;
@@ -67,7 +79,7 @@ pub fn measure_resize(
         r += 1;
         left -= 1;
     }
-    if 2147483647 < sum {
+    if most_resized(width) < sum {
         return Measure::Refused(8);
     }
     Measure::Sum(sum)

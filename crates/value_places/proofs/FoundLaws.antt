@@ -13,8 +13,8 @@ use Rattle.model.specs.Bitmap.{Bits, validAt}
 use Rattle.model.specs.Column.{Elem, nul, val, Row, nullRow, listRow, Column, elemAt, rowAt}
 use Rattle.model.specs.Elements.{firstValid, elementAt}
 use Rattle.model.specs.Form.{isVal}
-use Rattle.model.specs.Limits.{Limits, narrow}
-use Rattle.model.specs.Refusals.{elementRefusal}
+use Rattle.model.specs.Limits.{Limits}
+use Rattle.model.specs.Refusals.{firstOf, elementRefusal}
 use Rattle.model.specs.Rows.{anyValueOf, elementOf}
 use Rattle.model.specs.Slice.{Bound, unfit, outside, place, fits}
 use Rattle.model.proofs.TabLaws.{length-tab, tab-step, tab-none, getD-tab}
@@ -91,24 +91,24 @@ element-row : (rb : Bits) (E : ℕ → Elem) (r a b : ℕ) (z : ℤ) → element
 unfolding rowFrom lenFrom
 element-row rb E r a b z = element-of (validAt rb r) E a (b - a) z
 
-bound-row : (E : ℕ → Elem) (a n : ℕ) (z : ℤ) → n ≤ narrow .offset → foundAt E (boundPlace (indexBound narrow n z) a n) (a + n) ≡ elementAt (tab E a n) z
-bound-row E a n z s =
-    bound-found E a n (indexBound narrow n z) (λ p q. place-inside n p z q)
-    ∙ sym (element-taken (tab E a n) z (omega (arith, length-tab E a n)) ∙ rw (length-tab E a n))
+bound-row : (L : Limits) (E : ℕ → Elem) (a n : ℕ) (z : ℤ) → n ≤ L .offset → foundAt E (boundPlace (indexBound L n z) a n) (a + n) ≡ elementAt (tab E a n) z
+bound-row L E a n z s =
+    bound-found E a n (indexBound L n z) (λ p q. place-inside L n p z q)
+    ∙ sym (element-taken L (tab E a n) z (omega (arith, length-tab E a n)) ∙ rw (length-tab E a n))
 
-pub element-from : (rb : Bits) (E : ℕ → Elem) (r a b : ℕ) (e : Elem) → lenFrom rb r a b ≤ narrow .offset → foundAt E (elementPlace e a (lenFrom rb r a b)) (a + lenFrom rb r a b) ≡ elementOf (rowFrom rb E r a b) e
+pub element-from : (L : Limits) (rb : Bits) (E : ℕ → Elem) (r a b : ℕ) (e : Elem) → lenFrom rb r a b ≤ L .offset → foundAt E (elementPlace L e a (lenFrom rb r a b)) (a + lenFrom rb r a b) ≡ elementOf (rowFrom rb E r a b) e
 unfolding elementPlace
-element-from rb E r a b nul s = found-end E (a + lenFrom rb r a b) ∙ sym (element-null (rowFrom rb E r a b))
-element-from rb E r a b (val z) s = bound-row E a (lenFrom rb r a b) z s ∙ sym (element-row rb E r a b z)
+element-from L rb E r a b nul s = found-end E (a + lenFrom rb r a b) ∙ sym (element-null (rowFrom rb E r a b))
+element-from L rb E r a b (val z) s = bound-row L E a (lenFrom rb r a b) z s ∙ sym (element-row rb E r a b z)
 
 -- ---- where an index points
 
-module _ (is : List ℤ) (ib : Bits) (r a n : ℕ) where
-  pub place-null : validAt ib r ≡ false → elementPlace (elemAt is ib r) a n ≡ a + n
+module _ (L : Limits) (is : List ℤ) (ib : Bits) (r a n : ℕ) where
+  pub place-null : validAt ib r ≡ false → elementPlace L (elemAt is ib r) a n ≡ a + n
   unfolding elementPlace elemAt
   place-null h = rw h
 
-  pub place-valid : validAt ib r ≡ true → elementPlace (elemAt is ib r) a n ≡ boundPlace (indexBound narrow n (getD is r (pos 0))) a n
+  pub place-valid : validAt ib r ≡ true → elementPlace L (elemAt is ib r) a n ≡ boundPlace (indexBound L n (getD is r (pos 0))) a n
   unfolding elementPlace elemAt
   place-valid h = rw h
 
@@ -121,25 +121,41 @@ four-cases L true true false es z e = rw e
 four-cases L true false f es z e = refl
 four-cases L false u f es z e = refl
 
-pub four-at : (c : Column) (is : List ℤ) (ib : Bits) (r : ℕ) → elementRefusal narrow (rowAt c r) (elemAt is ib r) ≡ fourAt (c .rows) is ib r
+pub four-at : (L : Limits) (c : Column) (is : List ℤ) (ib : Bits) (r : ℕ) → elementRefusal L (rowAt c r) (elemAt is ib r) ≡ fourAt L (c .rows) is ib r
 unfolding rowAt elemAt unfitAt
-four-at c is ib r = four-cases narrow (validAt (c .rows) r) (validAt ib r) (fits narrow (getD is r (pos 0))) _ (getD is r (pos 0)) refl
+four-at L c is ib r = four-cases L (validAt (c .rows) r) (validAt ib r) (fits L (getD is r (pos 0))) _ (getD is r (pos 0)) refl
 
-module _ (rb : Bits) (is : List ℤ) (ib : Bits) (r : ℕ) where
-  pub unfit-null : validAt rb r ≡ false → unfitAt rb is ib r ≡ false
+module _ (L : Limits) (rb : Bits) (is : List ℤ) (ib : Bits) (r : ℕ) where
+  pub unfit-null : validAt rb r ≡ false → unfitAt L rb is ib r ≡ false
   unfolding unfitAt
   unfit-null h = rw h
 
-  pub unfit-index-null : validAt rb r ≡ true → validAt ib r ≡ false → unfitAt rb is ib r ≡ false
+  pub unfit-index-null : validAt rb r ≡ true → validAt ib r ≡ false → unfitAt L rb is ib r ≡ false
   unfolding unfitAt
   unfit-index-null h k = rw (h, k)
 
-  pub unfit-valid : validAt rb r ≡ true → validAt ib r ≡ true → unfitAt rb is ib r ≡ not (fits narrow (getD is r (pos 0)))
+  pub unfit-valid : validAt rb r ≡ true → validAt ib r ≡ true → unfitAt L rb is ib r ≡ not (fits L (getD is r (pos 0)))
   unfolding unfitAt
   unfit-valid h k = rw (h, k)
 
-  pub four-yes : unfitAt rb is ib r ≡ true → fourAt rb is ib r ≡ 4
+  pub four-yes : unfitAt L rb is ib r ≡ true → fourAt L rb is ib r ≡ 4
   four-yes h = rw h
 
-  pub four-no : unfitAt rb is ib r ≡ false → fourAt rb is ib r ≡ 0
+  pub four-no : unfitAt L rb is ib r ≡ false → fourAt L rb is ib r ≡ 0
   four-no h = rw h
+
+never-unfit : (t u : Bool) → pick {A = ℕ} (t && u && not true) 4 0 ≡ 0
+never-unfit true true = refl
+never-unfit true false = refl
+never-unfit false u = refl
+
+-- where every index fits, no row gives 4
+module _ (L : Limits) (every : L .every ≡ true) (rb : Bits) (is : List ℤ) (ib : Bits) where
+  four-never : (r : ℕ) → fourAt L rb is ib r ≡ 0
+  unfolding unfitAt fits
+  four-never r = rw every (never-unfit (validAt rb r) (validAt ib r))
+
+  pub no-fours : (r n : ℕ) → firstOf (tab (fourAt L rb is ib) r n) ≡ 0
+  unfolding tab firstOf
+  no-fours r zero = refl
+  no-fours r (suc n) = rw (four-never r) (no-fours (suc r) n)

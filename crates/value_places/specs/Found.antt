@@ -10,7 +10,7 @@ use Rattle.model.specs.Basics.{pick, tab}
 use Rattle.model.specs.Bitmap.{Bits, validAt}
 use Rattle.model.specs.Column.{Elem, nul, val}
 use Rattle.model.specs.Elements.{firstValid}
-use Rattle.model.specs.Limits.{narrow}
+use Rattle.model.specs.Limits.{Limits}
 use Rattle.model.specs.Slice.{Bound, unfit, outside, place, fits}
 use Rattle.index.specs.Place.{indexBound}
 
@@ -29,14 +29,14 @@ boundPlace outside a n = a + n
 boundPlace (place p) a n = a + p
 
 -- where an index points among the n elements from a on, or the end
-unfoldable pub elementPlace : Elem → ℕ → ℕ → ℕ
-elementPlace nul a n = a + n
-elementPlace (val z) a n = boundPlace (indexBound narrow n z) a n
+unfoldable pub elementPlace : Limits → Elem → ℕ → ℕ → ℕ
+elementPlace L nul a n = a + n
+elementPlace L (val z) a n = boundPlace (indexBound L n z) a n
 
 -- list and index valid, and the index does not fit
-unfoldable pub unfitAt : Bits → List ℤ → Bits → ℕ → Bool
-unfitAt rb is ib r = validAt rb r && validAt ib r && not (fits narrow (getD is r (pos 0)))
+unfoldable pub unfitAt : Limits → Bits → List ℤ → Bits → ℕ → Bool
+unfitAt L rb is ib r = validAt rb r && validAt ib r && not (fits L (getD is r (pos 0)))
 
 -- refusal 4 for row r, or 0
-abbrev pub fourAt : Bits → List ℤ → Bits → ℕ → ℕ
-fourAt rb is ib r = pick (unfitAt rb is ib r) 4 0
+abbrev pub fourAt : Limits → Bits → List ℤ → Bits → ℕ → ℕ
+fourAt L rb is ib r = pick (unfitAt L rb is ib r) 4 0

@@ -7,7 +7,7 @@ use Rattle.model.specs.Basics.{tab}
 use Rattle.model.specs.Column.{Elem, Row, Column, Arguments, elemAt, rowAt, rowCount}
 use Rattle.model.specs.Rows.{anyValueOf, elementOf}
 use Rattle.model.specs.Form.{ValueRoom}
-use Rattle.model.specs.Limits.{narrow}
+use Rattle.model.specs.Limits.{Limits}
 use Rattle.model.specs.Outcome.{gate, fittedValues, elementOutcome}
 use Rattle.bitmap.specs.Push.{Covers}
 use Rattle.column.specs.Put.{Readable}
@@ -37,12 +37,12 @@ Indexed V′.AnyValue n a = Unit
 Indexed V′.Element n a = Indexes n a
 
 -- i is where the value stands that is made of the k elements from a on, with the index e, or the end
-unfoldable pub PlaceOf : ValueOp → (ℕ → Elem) → Elem → ℕ → ℕ → ℕ → Type 0
-PlaceOf V′.AnyValue E e a k i = FirstAt E a k i
-PlaceOf V′.Element E e a k i = i ≡ elementPlace e a k
+unfoldable pub PlaceOf : Limits → ValueOp → (ℕ → Elem) → Elem → ℕ → ℕ → ℕ → Type 0
+PlaceOf L V′.AnyValue E e a k i = FirstAt E a k i
+PlaceOf L V′.Element E e a k i = i ≡ elementPlace L e a k
 
 -- k is the number that refuses element before 9; where it is 0, the list and the indexes can be read
-pub record ElementChecked (c : Column) (a : Arguments) (k : ℕ) : Type 0 where
-  pub outcome : (l : ValueRoom) → elementOutcome narrow c a l ≡ gate k (fittedValues (valuesMade V′.Element c a) l)
+pub record ElementChecked (L : Limits) (c : Column) (a : Arguments) (k : ℕ) : Type 0 where
+  pub outcome : (l : ValueRoom) → elementOutcome L c a l ≡ gate k (fittedValues (valuesMade V′.Element c a) l)
   pub list : k ≡ 0 → Readable c
   pub indexes : k ≡ 0 → Indexes (rowCount (c .offsets)) a

@@ -1,11 +1,14 @@
 // Finding one element of a row.
 // After extract.rs of datafusion-functions-nested 55.2.0, Apache License 2.0, Apache Software Foundation; changed, see NOTICE.
 use index::Bound;
+use model::Width;
 ghost use Prim.Native.Nat.{_<_, _≤_};
 ghost use Rattle.bitmap.specs.Push.{Covers};
 ghost use Rattle.column.specs.Outputs.{ReadableElems};
+ghost use Rattle.index.specs.Place.{bound, indexBound};
 ghost use Rattle.model.specs.Inner.{nowBits, lentBits, lentElem};
 ghost use Rattle.model.specs.Limits.{narrow};
+ghost use Rattle.model.specs.Widths.{limitsAt};
 ghost use Rattle.value_places.specs.Found.{FirstAt, elementPlace, unfitAt};
 ghost use lib.ListN.{length};
 ghost use mathlib.Core.Path.{_≡_};
@@ -47,7 +50,7 @@ pub(crate) fn is_unfit(
     requires { ⌜ Covers (nowBits «index_bits» istart) n ⌝ }
     requires { ⌜ length (now indexes) ≡ n ⌝ }
     requires { ⌜ r < n ⌝ }
-    ensures { λ u. ⌜ u ≡ unfitAt (lentBits rows rstart) (now (indexes .entry)) (lentBits «index_bits» istart) r ⌝ }
+    ensures { λ u. ⌜ u ≡ unfitAt narrow (lentBits rows rstart) (now (indexes .entry)) (lentBits «index_bits» istart) r ⌝ }
 {
     if !bitmap::is_valid(rows, rstart, r, n) {
         return false;
@@ -56,6 +59,17 @@ pub(crate) fn is_unfit(
         return false;
     }
     !index::fits_i32(indexes[r])
+}
+
+// Where an index points in a row of len elements.
+fn index_bound(index: i64, len: usize, width: Width) -> Bound
+    requires { ⌜ len ≤ limitsAt width .offset ⌝ }
+    ensures { λ b. ⌜ b ≡ bound (indexBound (limitsAt width) len index) ⌝ }
+{
+    match width {
+        Width::Narrow => index::adjusted_array_index(index, len),
+        Width::Wide => large_index::adjusted_array_index(index, len),
+    }
 }
 
 // Where the index of row r points among the k elements from element a on, or the end.
@@ -67,21 +81,22 @@ pub(crate) fn element_place(
     r: usize,
     a: usize,
     k: usize,
+    width: Width,
 ) -> usize
     requires { ⌜ Covers (nowBits «index_bits» istart) n ⌝ }
     requires { ⌜ length (now indexes) ≡ n ⌝ }
     requires { ⌜ r < n ⌝ }
-    requires { ⌜ a ≤ narrow .offset ⌝ }
-    requires { ⌜ k ≤ narrow .offset ⌝ }
-    ensures { λ i. ⌜ i ≡ elementPlace (lentElem indexes «index_bits» istart r) a k ⌝ }
+    requires { ⌜ a ≤ limitsAt width .offset ⌝ }
+    requires { ⌜ k ≤ limitsAt width .offset ⌝ }
+    ensures { λ i. ⌜ i ≡ elementPlace (limitsAt width) (lentElem indexes «index_bits» istart r) a k ⌝ }
 {
     if !bitmap::is_valid(index_bits, istart, r, n) {
         return a + k;
     }
-    let found = index::adjusted_array_index(indexes[r], k as i32);
+    let found = index_bound(indexes[r], k, width);
     match found {
         Bound::Unfit => a + k,
         Bound::Outside => a + k,
-        Bound::At(p) => a + (p as usize),
+        Bound::At(p) => a + p,
     }
 }

@@ -3,14 +3,16 @@
 // After extract.rs of datafusion-functions-nested 55.2.0, Apache License 2.0, Apache Software Foundation; changed, see NOTICE.
 mod extract;
 
-use column::offsets;
+use column::widths;
+use model::Width;
 ghost use Prim.Native.Nat.{_+_, _<_, _≤_};
 ghost use Rattle.bitmap.specs.Push.{Covers};
 ghost use Rattle.column.specs.Outputs.{ReadableElems};
 ghost use Rattle.model.specs.Basics.{tab};
-ghost use Rattle.model.specs.Inner.{nowArguments, nowBits, lentArgumentsFrom, lentBits, lentElem, lentFrom};
+ghost use Rattle.model.specs.Inner.{nowArguments, nowBits, lentArgumentsFrom, lentAt, lentBits, lentElem};
 ghost use Rattle.model.specs.Limits.{narrow};
 ghost use Rattle.model.specs.Refusals.{firstOf};
+ghost use Rattle.model.specs.Widths.{limitsAt};
 ghost use Rattle.value_places.specs.Found.{fourAt};
 ghost use Rattle.value_places.specs.Values.{ElementChecked, Indexed, PlaceOf};
 ghost use lib.ListN.{length};
@@ -36,20 +38,21 @@ pub fn place_of(
     r: usize,
     a: usize,
     k: usize,
+    width: Width,
 ) -> usize
     requires column { ⌜ ReadableElems values elements estart a k ⌝ }
     requires indexed { ⌜ Indexed op n (nowArguments indexes «index_bits» istart) ⌝ }
     requires there { ⌜ r < n ⌝ }
-    requires small { ⌜ a + k ≤ narrow .offset ⌝ }
-    ensures { λ i. ⌜ PlaceOf op (lentElem values elements estart) (lentElem indexes «index_bits» istart r) a k i ⌝ }
+    requires small { ⌜ a + k ≤ limitsAt width .offset ⌝ }
+    ensures { λ i. ⌜ PlaceOf (limitsAt width) op (lentElem values elements estart) (lentElem indexes «index_bits» istart r) a k i ⌝ }
 {
     match op {
         ValueOp::AnyValue => extract::first_valid(values, elements, estart, a, k),
-        ValueOp::Element => extract::element_place(n, indexes, index_bits, istart, r, a, k),
+        ValueOp::Element => extract::element_place(n, indexes, index_bits, istart, r, a, k, width),
     }
 }
 
-// Refusal 4 of element, by the first row that gives it; 0 where none does.
+// Refusal 4 of element at 32 bits, by the first row that gives it; 0 where none does.
 fn index_refusal(
     rows: &[u8],
     rstart: usize,
@@ -61,7 +64,7 @@ fn index_refusal(
     requires { ⌜ Covers (nowBits rows rstart) n ⌝ }
     requires { ⌜ Covers (nowBits «index_bits» istart) n ⌝ }
     requires { ⌜ length (now indexes) ≡ n ⌝ }
-    ensures { λ k. ⌜ k ≡ firstOf (tab (fourAt (lentBits rows rstart) (now (indexes .entry)) (lentBits «index_bits» istart)) 0 n) ⌝ }
+    ensures { λ k. ⌜ k ≡ firstOf (tab (fourAt narrow (lentBits rows rstart) (now (indexes .entry)) (lentBits «index_bits» istart)) 0 n) ⌝ }
 {
     let mut r: usize = 0;
     let mut left = n;
@@ -75,7 +78,7 @@ fn index_refusal(
     0
 }
 
-// The number that refuses element, or 0: 13, 1 and 2, then 3, then 4. What is left to refuse it is 9.
+// The number that refuses element, or 0: 13, 1 and 2, then 3, then 4, which no index of a large list gives. What is left to refuse it is 9.
 pub fn element_refusal(
     offsets: &[i32],
     rows: &[u8],
@@ -86,22 +89,36 @@ pub fn element_refusal(
     indexes: &[i64],
     index_bits: &[u8],
     istart: usize,
+    width: Width,
+    large: &[i64],
 ) -> u8
-    ensures { λ k. ⌜ ElementChecked (lentFrom offsets rows rstart values elements estart) (lentArgumentsFrom indexes «index_bits» istart) k ⌝ }
+    ensures { λ k. ⌜ ElementChecked (limitsAt width) (lentAt width offsets large rows rstart values elements estart) (lentArgumentsFrom indexes «index_bits» istart) k ⌝ }
 {
     if 7 < istart {
         return 13;
     }
-    let k = checks::list_refusal(offsets, rows, rstart, values, elements, estart);
+    let k = checks::list_refusal(
+        offsets,
+        rows,
+        rstart,
+        values,
+        elements,
+        estart,
+        width,
+        large,
+    );
     if k != 0 {
         return k;
     }
     if bitmap::is_short(index_bits, istart, indexes.len()) {
         return 2;
     }
-    let n = offsets::row_count(offsets);
+    let n = widths::row_count(width, offsets, large);
     if indexes.len() != n {
         return 3;
     }
-    index_refusal(rows, rstart, n, indexes, index_bits, istart)
+    match width {
+        Width::Narrow => index_refusal(rows, rstart, n, indexes, index_bits, istart),
+        Width::Wide => 0,
+    }
 }

@@ -35,7 +35,7 @@ enum-known-named : tie.Need-enum-known-named
 enum-known-named c = search needs
 
 returns : tie.Need-returns
-returns c = list-unserved (too-short _ _ _ (list-code _ _ _ _ _ (c .before .before .before .before .one-of .ensures) (c .before .before .named .given .1)) (lt-ltb _ 4 (c .if1 .taken)))
+returns c = list-unserved (too-short _ _ _ (list-code _ _ _ _ _ _ (c .before .before .before .before .one-of .ensures) (c .before .before .named .given .1)) (lt-ltb _ 4 (c .if1 .taken)))
 
 run-requires : tie.Need-run-requires
 run-requires c κs = search needs
@@ -44,7 +44,7 @@ put-list-requires : tie.Need-put-list-requires
 put-list-requires c κs = c .before .before .before .before .before .before .before .before .before .before .before .before .if1 .left
 
 returns-2 : tie.Need-returns-2
-returns-2 c = list-unserved (no-such _ _ _ (no-list-code _ _ _ _ _ (c .before .before .one-of .ensures) (c .enum-told .given .1)))
+returns-2 c = list-unserved (no-such _ _ _ (no-list-code _ _ _ _ _ _ (c .before .before .one-of .ensures) (c .enum-told .given .1)))
 
 same-length : tie.Need-same-length
 same-length c = ran c .run .kept .1 .1 .1 .1 .1 .1 .1 .1 .1 .1 .1 .1 .1 .1 .1 .1 .0
@@ -64,7 +64,7 @@ same-length-5 c = told c .put-list .kept .1 .0
 returns-3 : tie.Need-returns-3
 returns-3 c =
     list-told
-    (own _ _ _ (list-code _ _ _ _ _ (looked c .one-of .ensures) (named c .named .given .1)) (le-ltb _ 4 (long c .if1 .left)))
+    (own _ _ _ (list-code _ _ _ _ _ _ (looked c .one-of .ensures) (named c .named .given .1)) (le-ltb _ 4 (long c .if1 .left)))
     (ran c .run .ensures)
     (told c .put-list .ensures)
 

@@ -38,7 +38,7 @@ enum-known-named : tie.Need-enum-known-named
 enum-known-named c = search needs
 
 returns : tie.Need-returns
-returns c = list-unserved (too-short _ _ _ (set-code _ _ _ (c .before .before .before .before .operation-of .ensures) (c .before .before .named .given .1)) (lt-ltb _ 4 (c .if1 .taken)))
+returns c = list-unserved (too-short _ _ _ (set-code _ _ _ _ (c .before .before .before .before .operation-of .ensures) (c .before .before .named .given .1)) (lt-ltb _ 4 (c .if1 .taken)))
 
 generic-set-lists-requires : tie.Need-generic-set-lists-requires
 generic-set-lists-requires c κs = search needs
@@ -47,10 +47,10 @@ put-list-requires : tie.Need-put-list-requires
 put-list-requires c κs = c .before .before .before .before .before .before .before .before .before .before .before .before .if1 .left
 
 returns-2 : tie.Need-returns-2
-returns-2 c = list-unserved (no-such _ _ _ (one-code _ _ _ (c .before .before .operation-of .ensures) (c .enum-told .given .1)))
+returns-2 c = list-unserved (no-such _ _ _ (one-code _ _ _ _ (c .before .before .operation-of .ensures) (c .enum-told .given .1)))
 
 returns-3 : tie.Need-returns-3
-returns-3 c = list-unserved (no-such _ _ _ (no-set-code _ _ _ (c .before .before .operation-of .ensures) (c .enum-told2 .given .1)))
+returns-3 c = list-unserved (no-such _ _ _ (no-set-code _ _ _ _ (c .before .before .operation-of .ensures) (c .enum-told2 .given .1)))
 
 same-length : tie.Need-same-length
 same-length c = ran c .generic-set-lists .kept .1 .1 .1 .1 .1 .1 .1 .1 .1 .1 .1 .1 .1 .0
@@ -70,7 +70,7 @@ same-length-5 c = told c .put-list .kept .1 .0
 returns-4 : tie.Need-returns-4
 returns-4 c =
     list-told
-    (own _ _ _ (set-code _ _ _ (looked c .operation-of .ensures) (named c .named .given .1)) (le-ltb _ 4 (long c .if1 .left)))
+    (own _ _ _ (set-code _ _ _ _ (looked c .operation-of .ensures) (named c .named .given .1)) (le-ltb _ 4 (long c .if1 .left)))
     (ran c .generic-set-lists .ensures)
     (told c .put-list .ensures)
 

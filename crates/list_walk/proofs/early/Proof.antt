@@ -4,6 +4,7 @@ use mathlib.Core.Bool.{false}
 use mathlib.Core.List.{[], _∷_}
 use native.Mathlib.Omega.{arith}
 use Rattle.model.specs.Bitmap.{from}
+use Rattle.model.specs.Widths.{used}
 use Rattle.model.specs.Column.{Column, column, Arguments, arguments, rowCount}
 use Rattle.model.specs.Outcome.{columnsRefusal}
 use Rattle.column.proofs.WalkLaws.{readable}
@@ -14,7 +15,7 @@ use Rattle.list_walk.proofs.early.Statement.{statement}
 use Rattle.list_walk.proofs.early.Tie as tie
 
 abbrev C : tie.Start → Column
-C s = let a = s .args in column (a .offsets .now) (from (a .rstart) (a .rows .now)) (a .values .now) (from (a .estart) (a .elements .now))
+C s = let a = s .args in column (used (a .width) (a .offsets .now) (a .large .now)) (from (a .rstart) (a .rows .now)) (a .values .now) (from (a .estart) (a .elements .now))
 
 abbrev X : tie.Start → Arguments
 X s = arguments (s .args .xs .now) (from (s .args .xstart) (s .args .xbits .now))

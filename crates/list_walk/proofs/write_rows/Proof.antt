@@ -3,13 +3,18 @@ use Prim.Native.Nat.{ℕ, _-_}
 use native.Mathlib.Omega.{arith}
 use Rattle.model.specs.Basics.{tab}
 use Rattle.model.specs.Bitmap.{from}
+use Rattle.model.specs.Limits.{Limits}
+use Rattle.model.specs.Widths.{used, limitsAt}
 use Rattle.model.specs.Column.{Row, Column, column, Arguments, arguments, elemAt, rowCount}
 use Rattle.model.specs.Rows.{rowMade}
 use Rattle.model.specs.Form.{flat}
 use Rattle.column.specs.Put.{RoomInˡ}
+use lib.IntN.{ℤ}
 use lib.ListN.{length}
+use mathlib.Core.List.{List}
+use Rattle.model.proofs.WidthLaws.{limits-fit}
 use Rattle.column.specs.Rows.{ReadableRowˡ}
-use Rattle.column.proofs.WalkLaws.{Walking, between, walk-begun, walk-room, walk-slot, walk-small, walk-more, walk-done}
+use Rattle.column.proofs.WalkLaws.{Walking, put-keeps, between, walk-begun, walk-room, walk-slot, walk-small, walk-more, walk-done}
 use Rattle.ops.specs.Ops.{opMade}
 use Rattle.list_walk.specs.Made.{rowMadeAt}
 use Rattle.list_walk.proofs.RowLaws.{op-doable}
@@ -18,15 +23,24 @@ use Rattle.list_walk.proofs.write_rows.Statement.{statement}
 use Rattle.list_walk.proofs.write_rows.Tie as tie
 
 abbrev Inv-loop : tie.InvT-loop
-Inv-loop op offsets rows rstart values elements estart xs xbits xstart ys ybits ystart zs zbits zstart out-offsets₀ out-rows₀ out-values₀ out-elements₀ n r₀ at₀ left₀ out-offsets out-rows out-values out-elements r at left =
-    Walking (rowMadeAt op (column offsets (from rstart rows) values (from estart elements)) (arguments xs (from xstart xbits)) (arguments ys (from ystart ybits)) (arguments zs (from zstart zbits))) n out-offsets₀ out-rows₀ out-values₀ out-elements₀ out-offsets out-rows out-values out-elements r at left
+Inv-loop op offsets rows rstart values elements estart xs xbits xstart ys ybits ystart zs zbits zstart out-offsets₀ out-rows₀ out-values₀ out-elements₀ width large out-large₀ n r₀ at₀ left₀ out-offsets out-rows out-values out-elements out-large r at left =
+    Walking (rowMadeAt (limitsAt width) op (column (used width offsets large) (from rstart rows) values (from estart elements)) (arguments xs (from xstart xbits)) (arguments ys (from ystart ybits)) (arguments zs (from zstart zbits))) n (used width out-offsets₀ out-large₀) out-rows₀ out-values₀ out-elements₀ (used width out-offsets out-large) out-rows out-values out-elements r at left
+    × (length out-offsets ≡ length out-offsets₀)
+    × (length out-large ≡ length out-large₀)
 
 abbrev μ-loop : tie.MeasureT-loop
-μ-loop op offsets rows rstart values elements estart xs xbits xstart ys ybits ystart zs zbits zstart out-offsets₀ out-rows₀ out-values₀ out-elements₀ n r₀ at₀ left₀ out-offsets out-rows out-values out-elements r at left =
+μ-loop op offsets rows rstart values elements estart xs xbits xstart ys ybits ystart zs zbits zstart out-offsets₀ out-rows₀ out-values₀ out-elements₀ width large out-large₀ n r₀ at₀ left₀ out-offsets out-rows out-values out-elements out-large r at left =
     left
 
+abbrev N : tie.Start Inv-loop μ-loop → Limits
+N s = limitsAt (s .args .width)
+
 abbrev C : tie.Start Inv-loop μ-loop → Column
-C s = let a = s .args in column (a .offsets .now) (from (a .rstart) (a .rows .now)) (a .values .now) (from (a .estart) (a .elements .now))
+C s = let a = s .args in column (used (a .width) (a .offsets .now) (a .large .now)) (from (a .rstart) (a .rows .now)) (a .values .now) (from (a .estart) (a .elements .now))
+
+-- the offsets that are written, as the call began
+abbrev O : tie.Start Inv-loop μ-loop → List ℤ
+O s = used (s .args .width) (s .args .out-offsets .now) (s .args .out-large .now)
 
 abbrev X : tie.Start Inv-loop μ-loop → Arguments
 X s = arguments (s .args .xs .now) (from (s .args .xstart) (s .args .xbits .now))
@@ -37,76 +51,47 @@ Y s = arguments (s .args .ys .now) (from (s .args .ystart) (s .args .ybits .now)
 abbrev Z : tie.Start Inv-loop μ-loop → Arguments
 Z s = arguments (s .args .zs .now) (from (s .args .zstart) (s .args .zbits .now))
 
+-- ---- places: the start and the first offset put, from the loop; a turn's row written and its operation, from what comes after
+
 abbrev put : tie.At-loop Inv-loop μ-loop → tie.After-put-offset Inv-loop μ-loop
-put l = l .before .before
+put l = l .before .before .before
 
--- the places that are used below
-abbrev put-row-of-put-offset-arg2 : tie.After-put-offset-arg2 Inv-loop μ-loop → tie.After-put-row Inv-loop μ-loop
-put-row-of-put-offset-arg2 p = p .before .before .before .before .before .before
-
-abbrev put-row-of-out-offsets2 : tie.After-out-offsets2 Inv-loop μ-loop → tie.After-put-row Inv-loop μ-loop
-put-row-of-out-offsets2 p = p .before .before .before .before .before .before .before .before
-
-abbrev start-of-put-offset-arg : tie.After-put-offset-arg Inv-loop μ-loop → tie.Start Inv-loop μ-loop
-start-of-put-offset-arg p = p .before .before .before .before .before .before .before .before .before
-
-abbrev out-rows-of-put-offset-arg2 : tie.After-put-offset-arg2 Inv-loop μ-loop → tie.After-out-rows Inv-loop μ-loop
-out-rows-of-put-offset-arg2 p = p .before .before .before .before .before
-
-abbrev op-at-of-out-rows : tie.After-out-rows Inv-loop μ-loop → tie.After-op-at Inv-loop μ-loop
-op-at-of-out-rows p = p .before .before .before .before .before
-
-abbrev op-at-of-put-offset-arg2 : tie.After-put-offset-arg2 Inv-loop μ-loop → tie.After-op-at Inv-loop μ-loop
-op-at-of-put-offset-arg2 p = op-at-of-out-rows (out-rows-of-put-offset-arg2 p)
-
-abbrev start-of-loop : tie.At-loop Inv-loop μ-loop → tie.Start Inv-loop μ-loop
-start-of-loop p = start-of-put-offset-arg (p .before .before .before)
-
-abbrev op-at-of-out-offsets2 : tie.After-out-offsets2 Inv-loop μ-loop → tie.After-op-at Inv-loop μ-loop
-op-at-of-out-offsets2 p = op-at-of-put-offset-arg2 (p .before .before)
-
-abbrev in-loop-of-put-row : tie.After-put-row Inv-loop μ-loop → tie.In-loop Inv-loop μ-loop
-in-loop-of-put-row p = p .before .before .before .before .before .before .before
-
-abbrev in-loop-of-put-offset-arg2 : tie.After-put-offset-arg2 Inv-loop μ-loop → tie.In-loop Inv-loop μ-loop
-in-loop-of-put-offset-arg2 p = in-loop-of-put-row (put-row-of-put-offset-arg2 p)
-
-abbrev put-row-arg3-of-put-offset-arg2 : tie.After-put-offset-arg2 Inv-loop μ-loop → tie.After-put-row-arg3 Inv-loop μ-loop
-put-row-arg3-of-put-offset-arg2 p = p .before .before .before .before .before .before .before
-
-abbrev loop-of-put-row-arg3 : tie.After-put-row-arg3 Inv-loop μ-loop → tie.At-loop Inv-loop μ-loop
-loop-of-put-row-arg3 p = p .before .before .before .before .before .before .before
-
-abbrev loop-of-put-offset-arg2 : tie.After-put-offset-arg2 Inv-loop μ-loop → tie.At-loop Inv-loop μ-loop
-loop-of-put-offset-arg2 p = loop-of-put-row-arg3 (put-row-arg3-of-put-offset-arg2 p)
-
-abbrev in-loop-of-out-offsets2 : tie.After-out-offsets2 Inv-loop μ-loop → tie.In-loop Inv-loop μ-loop
-in-loop-of-out-offsets2 p = in-loop-of-put-offset-arg2 (p .before .before)
-
-abbrev loop-of-out-offsets2 : tie.After-out-offsets2 Inv-loop μ-loop → tie.At-loop Inv-loop μ-loop
-loop-of-out-offsets2 p = loop-of-put-offset-arg2 (p .before .before)
+abbrev begun : tie.After-put-offset-arg2 Inv-loop μ-loop → tie.Start Inv-loop μ-loop
+begun p = p .before .before .before .before .before .before .before .before .before .before
 
 abbrev S : tie.At-loop Inv-loop μ-loop → tie.Start Inv-loop μ-loop
-S l = start-of-loop l
+S l = begun (put l .before)
+
+abbrev written : tie.After-put-offset-arg4 Inv-loop μ-loop → tie.After-put-row Inv-loop μ-loop
+written p = p .before .before .before .before .before .before .before
+
+abbrev turned : tie.After-out-large2 Inv-loop μ-loop → tie.After-put-row Inv-loop μ-loop
+turned p = written (p .before .before .before)
+
+abbrev chosen : tie.After-put-row Inv-loop μ-loop → tie.After-op-at Inv-loop μ-loop
+chosen w = w .before .before .before .before
+
+abbrev inside : tie.After-put-row Inv-loop μ-loop → tie.In-loop Inv-loop μ-loop
+inside w = chosen w .before .before .before
 
 abbrev count : tie.At-loop Inv-loop μ-loop → ℕ
-count l = put l .before .before .row-count .result
+count l = put l .before .before .before .row-count .result
 
 rows-are : (l : tie.At-loop Inv-loop μ-loop) → count l ≡ rowCount (C (S l) .offsets)
-rows-are l = put l .before .before .row-count .ensures
+rows-are l = put l .before .before .before .row-count .ensures
 
 abbrev W : tie.At-loop Inv-loop μ-loop → ℕ → Row
-W l = let s = S l in rowMadeAt (s .args .op) (C s) (X s) (Y s) (Z s)
+W l = let s = S l in rowMadeAt (N s) (s .args .op) (C s) (X s) (Y s) (Z s)
 
 -- room for all rows, from the code's count
-roomy : (l : tie.At-loop Inv-loop μ-loop) (lo : ℕ) → lo ≡ length (S l .args .out-offsets .now) → let a = S l .args in RoomInˡ (count l) (length (flat (tab (W l) 0 (count l)))) lo (length (a .out-rows .now)) (length (a .out-values .now)) (length (a .out-elements .now))
-roomy l lo e = let s = S l in room-at (s .args .op) (C s) (X s) (Y s) (Z s) (count l) (rows-are l) (s .pre .1 .1 .1) e
+roomy : (l : tie.At-loop Inv-loop μ-loop) (lo : ℕ) → lo ≡ length (O (S l)) → let a = S l .args in RoomInˡ (count l) (length (flat (tab (W l) 0 (count l)))) lo (length (a .out-rows .now)) (length (a .out-values .now)) (length (a .out-elements .now))
+roomy l lo e = let s = S l in room-at (N s) (s .args .op) (C s) (X s) (Y s) (Z s) (count l) (rows-are l) (s .pre .1 .1 .1) e
 
 -- row r of a turn can be read
 reads : (q : tie.After-offset-at2 Inv-loop μ-loop) → let l = q .before .before .before in ReadableRowˡ (C (S l) .rows) (count l) (C (S l) .values) (C (S l) .elements) (l .loop .r) (q .before .offset-at .result) (q .offset-at2 .result)
 reads q =
     let l = q .before .before .before in
-    between (C (S l)) (count l) (l .loop .r) (q .before .offset-at .result) (q .offset-at2 .result) (S l .pre .0) (rows-are l) (omega (arith, l .loop .inv .rows, q .before .before .loop-test .taken)) (q .before .offset-at .ensures .0) (q .offset-at2 .ensures .0)
+    between (C (S l)) (count l) (l .loop .r) (q .before .offset-at .result) (q .offset-at2 .result) (S l .pre .0) (rows-are l) (omega (arith, l .loop .inv .0 .rows, q .before .before .loop-test .taken)) (q .before .offset-at .ensures .0) (q .offset-at2 .ensures .0)
 
 -- the row that a turn makes is row r's
 abbrev made : (o : tie.After-op-at Inv-loop μ-loop) → Row
@@ -119,25 +104,25 @@ same-row : (o : tie.After-op-at Inv-loop μ-loop) → let l = o .before .before 
 same-row o =
     let q = o .before in
     let s = S (q .before .before .before) in
-    row-of (s .args .op) (C s) (X s) (Y s) (Z s) (q .before .before .before .loop .r) (q .before .offset-at .result) (q .offset-at2 .result) (o .op-at .result) (q .before .offset-at .ensures .0) (q .offset-at2 .ensures .0) (o .op-at .ensures)
+    row-of (N s) (s .args .op) (C s) (X s) (Y s) (Z s) (q .before .before .before .loop .r) (q .before .offset-at .result) (q .offset-at2 .result) (o .op-at .result) (q .before .offset-at .ensures .0) (q .offset-at2 .ensures .0) (o .op-at .ensures)
 
 row-count-requires : tie.Need-row-count-requires Inv-loop μ-loop
 row-count-requires c κs = search
 
 put-offset-requires : tie.Need-put-offset-requires Inv-loop μ-loop
-put-offset-requires c κs = (omega (arith, start-of-put-offset-arg c .pre .1 .1 .1 .offsets), omega arith)
+put-offset-requires c κs = (omega (arith, begun c .pre .1 .1 .1 .offsets), omega arith)
 
 loop-holds : tie.Need-loop-holds Inv-loop μ-loop
-loop-holds c = walk-begun _ _ _ _ _ _
+loop-holds c = (walk-begun _ _ _ _ _ _, refl, refl)
 
 offset-at-requires : tie.Need-offset-at-requires Inv-loop μ-loop
-offset-at-requires c κs = omega (arith, rows-are (c .before), c .before .loop .inv .rows, c .loop-test .taken)
+offset-at-requires c κs = omega (arith, rows-are (c .before), c .before .loop .inv .0 .rows, c .loop-test .taken)
 
 add-offset-at : tie.Need-add-offset-at Inv-loop μ-loop
-add-offset-at c = omega (arith, c .before .before .loop .inv .rows, c .before .loop-test .taken)
+add-offset-at c = omega (arith, c .before .before .loop .inv .0 .rows, c .before .loop-test .taken)
 
 offset-at-requires-2 : tie.Need-offset-at-requires-2 Inv-loop μ-loop
-offset-at-requires-2 c κs = omega (arith, rows-are (c .before .before), c .before .before .loop .inv .rows, c .before .loop-test .taken)
+offset-at-requires-2 c κs = omega (arith, rows-are (c .before .before), c .before .before .loop .inv .0 .rows, c .before .loop-test .taken)
 
 sub-len : tie.Need-sub-len Inv-loop μ-loop
 sub-len c = reads c .rises
@@ -151,54 +136,57 @@ put-row-requires c κs =
     let q = o .before in
     let l = q .before .before .before in
     let s = S l in
-    (record { inside = omega (arith, reads q .rises, reads q .inside); bits = reads q .elements }, (op-doable (s .args .op) (C s .rows) (X s) (Y s) (Z s) (l .loop .r) _ (o .op-at .result) (o .op-at .ensures) (omega (arith, q .offset-at2 .ensures .1)), walk-room (W l) (count l) (made o) (q .before .before .loop-test .taken) (same-row o) (l .loop .inv) (roomy l _ (put l .put-offset .kept .0))))
+    (record { inside = omega (arith, reads q .rises, reads q .inside); bits = reads q .elements }, (op-doable (N s) (s .args .op) (C s .rows) (X s) (Y s) (Z s) (l .loop .r) _ (o .op-at .result) (o .op-at .ensures) (omega (arith, q .offset-at2 .ensures .1, limits-fit (s .args .width) .offset)), walk-room (W l) (count l) (made o) (q .before .before .loop-test .taken) (same-row o) (l .loop .inv .0) (roomy l _ (put-keeps (O (S l)) 0 0 (put l .put-offset .ensures)))))
 
 add-put-offset : tie.Need-add-put-offset Inv-loop μ-loop
-add-put-offset c = omega (arith, loop-of-put-offset-arg2 c .loop .inv .rows, in-loop-of-put-offset-arg2 c .loop-test .taken)
+add-put-offset c = omega (arith, inside (written c), inside (written c) .before .loop .inv .0 .rows, inside (written c) .loop-test .taken)
 
 put-offset-requires-2 : tie.Need-put-offset-requires-2 Inv-loop μ-loop
 put-offset-requires-2 c κs =
-    let w = put-row-of-put-offset-arg2 c in
-    let o = op-at-of-put-offset-arg2 c in
+    let w = written c in
+    let o = chosen (written c) in
     let l = o .before .before .before .before in
     let s = S l in
-    let k = walk-small (W l) (count l) (made o) (o .before .before .before .loop-test .taken) (same-row o) (l .loop .inv) (w .put-row .ensures) in
-    (walk-slot (W l) (count l) (made o) (o .before .before .before .loop-test .taken) (same-row o) (l .loop .inv) (roomy l _ (put l .put-offset .kept .0)), omega (arith, s .pre .1 .1 .0, rw (rows-at (s .args .op) (C s) (X s) (Y s) (Z s) (count l) (rows-are l)) at k))
+    let k = walk-small (W l) (count l) (made o) (o .before .before .before .loop-test .taken) (same-row o) (l .loop .inv .0) (w .put-row .ensures) in
+    (walk-slot (W l) (count l) (made o) (o .before .before .before .loop-test .taken) (same-row o) (l .loop .inv .0) (roomy l _ (put-keeps (O (S l)) 0 0 (put l .put-offset .ensures))), omega (arith, s .pre .1 .1 .0, rw (rows-at (N s) (s .args .op) (C s) (X s) (Y s) (Z s) (count l) (rows-are l)) at k))
 
 add-r : tie.Need-add-r Inv-loop μ-loop
-add-r c = omega (arith, loop-of-out-offsets2 c .loop .inv .rows, in-loop-of-out-offsets2 c .loop-test .taken)
+add-r c = omega (arith, inside (turned c), inside (turned c) .before .loop .inv .0 .rows, inside (turned c) .loop-test .taken)
 
 sub-left : tie.Need-sub-left Inv-loop μ-loop
-sub-left c = omega (arith, in-loop-of-out-offsets2 c .loop-test .taken)
+sub-left c = omega (arith, inside (turned c) .loop-test .taken)
 
 loop-less : tie.Need-loop-less Inv-loop μ-loop
-loop-less c = omega (arith, in-loop-of-out-offsets2 c .loop-test .taken)
+loop-less c = omega (arith, inside (turned c) .loop-test .taken)
 
 loop-again : tie.Need-loop-again Inv-loop μ-loop
 loop-again c =
-    let w = put-row-of-out-offsets2 c in
-    let o = op-at-of-out-offsets2 c in
+    let w = turned c in
+    let o = chosen (turned c) in
     let l = o .before .before .before .before in
-    walk-more (W l) (count l) (made o) (o .before .before .before .loop-test .taken) (same-row o) (l .loop .inv) (w .put-row .ensures) (c .before .put-offset2 .ensures)
+    (walk-more (W l) (count l) (made o) (o .before .before .before .loop-test .taken) (same-row o) (l .loop .inv .0) (w .put-row .ensures) (c .before .before .put-offset2 .ensures), c .before .before .put-offset2 .kept .1 .0 ∙ l .loop .inv .1, c .before .before .put-offset2 .kept .1 .1 .0 ∙ l .loop .inv .2)
 
 same-length : tie.Need-same-length Inv-loop μ-loop
-same-length c = c .before .loop .inv .lo ∙ put (c .before) .put-offset .kept .0
+same-length c = c .before .loop .inv .1 ∙ put (c .before) .put-offset .kept .1 .0
 
 same-length-2 : tie.Need-same-length-2 Inv-loop μ-loop
-same-length-2 c = c .before .loop .inv .lr
+same-length-2 c = c .before .loop .inv .0 .lr
 
 same-length-3 : tie.Need-same-length-3 Inv-loop μ-loop
-same-length-3 c = c .before .loop .inv .lv
+same-length-3 c = c .before .loop .inv .0 .lv
 
 same-length-4 : tie.Need-same-length-4 Inv-loop μ-loop
-same-length-4 c = c .before .loop .inv .le
+same-length-4 c = c .before .loop .inv .0 .le
+
+same-length-5 : tie.Need-same-length-5 Inv-loop μ-loop
+same-length-5 c = c .before .loop .inv .2 ∙ put (c .before) .put-offset .kept .1 .1 .0
 
 returns : tie.Need-returns Inv-loop μ-loop
 returns c =
     let l = c .before in
     let s = S l in
-    rw (← rows-at (s .args .op) (C s) (X s) (Y s) (Z s) (count l) (rows-are l))
-    (walk-done (W l) (count l) (s .args .out-offsets .now) (l .loop .inv) (omega (arith, c .loop-test .left)) (put l .put-offset .ensures) (roomy l _ refl))
+    rw (← rows-at (N s) (s .args .op) (C s) (X s) (Y s) (Z s) (count l) (rows-are l))
+    (walk-done (W l) (count l) (O s) (l .loop .inv .0) (omega (arith, c .loop-test .left)) (put l .put-offset .ensures) (roomy l _ refl))
 
 pub write-rows-spec : {M : Type 1} → statement M
 write-rows-spec =
@@ -225,4 +213,5 @@ write-rows-spec =
     same-length-2
     same-length-3
     same-length-4
+    same-length-5
     returns)

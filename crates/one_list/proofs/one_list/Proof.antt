@@ -4,6 +4,7 @@ use native.Mathlib.Omega.{arith}
 use lib.Dec.{ltb}
 use lib.ListN.{length}
 use Rattle.model.specs.Bitmap.{from}
+use Rattle.model.specs.Widths.{used}
 use Rattle.model.specs.Column.{Column, column, Arguments, arguments, rowsOf, shownBy}
 use Rattle.ops.specs.declared.Arity.{Arity}
 use Rattle.ops.specs.Ops.{takesOf, secondLimit, thirdLimit}
@@ -26,11 +27,11 @@ X c = Y c .before .before .before
 abbrev told : tie.After-start-from3 → tie.After-takes
 told c = X c .before .before .before
 
-abbrev cut : tie.After-after-three-arg4 → tie.After-start-from3
-cut c = c .before .before .before .before
+abbrev cut : tie.After-after-three-arg5 → tie.After-start-from3
+cut c = c .before .before .before .before .before
 
-abbrev called : tie.After-slice-known4 → tie.After-after-three
-called c = c .before .before .before .before .before .before
+abbrev called : tie.After-out-large → tie.After-after-three
+called c = c .before .before .before .before .before .before .before
 
 -- ---- the arguments
 
@@ -112,11 +113,14 @@ same-length-3 c = search
 same-length-4 : tie.Need-same-length-4
 same-length-4 c = search
 
+same-length-5 : tie.Need-same-length-5
+same-length-5 c = search
+
 returns : tie.Need-returns
 returns c =
     let w = cut (called c .before) in
     let s = S (told w) in
-    rw (← call-same (s .args .op) (rowsOf (column (s .args .offsets .now) (from (s .args .rstart) (s .args .rows .now)) (s .args .values .now) (from (s .args .estart) (s .args .elements .now))))
+    rw (← call-same (s .args .op) (rowsOf (column (used (s .args .width) (s .args .offsets .now) (s .args .large .now)) (from (s .args .rstart) (s .args .rows .now)) (s .args .values .now) (from (s .args .estart) (s .args .elements .now))))
     (λ u. column-shown (A s) (s .pre .1 .1 .0) (s .args .first) (s .args .n) (ltb 0 (takesOf (s .args .op))) (s .pre .1 .1 .1 .first-in) (ap (λ (t : Arity). ltb 0 (t .columns)) (told w .takes .ensures)) (X w .before .before .column-values .ensures) (X w .before .bits-from .ensures) (X w .start-from .ensures) u)
     (λ u. column-shown (A s) (s .pre .1 .1 .0) (s .args .second) (s .args .n) (ltb 1 (takesOf (s .args .op))) (s .pre .1 .1 .1 .second-in) (ap (λ (t : Arity). ltb 1 (t .columns)) (told w .takes .ensures)) (Y w .before .before .column-values2 .ensures) (Y w .before .bits-from2 .ensures) (Y w .start-from2 .ensures) u)
     (λ u. column-shown (A s) (s .pre .1 .1 .0) (s .args .third) (s .args .n) (ltb 2 (takesOf (s .args .op))) (s .pre .1 .1 .1 .third-in) (ap (λ (t : Arity). ltb 2 (t .columns)) (told w .takes .ensures)) (w .before .before .column-values3 .ensures) (w .before .bits-from3 .ensures) (w .start-from3 .ensures) u))
@@ -144,4 +148,5 @@ one-list-spec =
     same-length-2
     same-length-3
     same-length-4
+    same-length-5
     returns)

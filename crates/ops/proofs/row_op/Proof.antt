@@ -24,7 +24,7 @@ returns-2 c =
     let t = c .before .before in
     let e = t .before .before in
     rw (not-false (e .before .args .valid) (e .if1 .left))
-    ((rw (c .before .stride-for .ensures) at (c .stride-op .ensures)) ∙ slice-planned _ _ _ _ _ (sym (t .before .is-slice .ensures) ∙ t .if2 .taken))
+    ((rw (c .before .stride-for .ensures) at (c .stride-op .ensures)) ∙ slice-planned _ _ _ _ _ _ (sym (t .before .is-slice .ensures) ∙ t .if2 .taken))
 
 other-op-requires : tie.Need-other-op-requires
 other-op-requires c κs = sym (c .before .is-slice .ensures) ∙ c .if2 .left
@@ -35,7 +35,7 @@ returns-3 c =
     let t = c .before in
     let e = t .before .before in
     rw (not-false (e .before .args .valid) (e .if1 .left))
-    (c .other-op .ensures ∙ others-planned _ _ _ _ _ (sym (t .before .is-slice .ensures) ∙ t .if2 .left))
+    (c .other-op .ensures ∙ others-planned _ _ _ _ _ _ _ (sym (t .before .is-slice .ensures) ∙ t .if2 .left))
 
 pub row-op-spec : {M : Type 1} → statement M
 row-op-spec =

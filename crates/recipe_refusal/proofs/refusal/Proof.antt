@@ -10,6 +10,7 @@ use Rattle.model.specs.Bitmap.{from}
 use Rattle.model.specs.Column.{Column, column, Arguments, arguments, refusal2ᵃ, rowCount}
 use Rattle.model.specs.Outcome.{columnsRefusal}
 use Rattle.model.specs.Recipe.{malformed}
+use Rattle.model.specs.Widths.{used}
 use Rattle.recipe_refusal.specs.Refused.{recipe, recipeRefusal}
 use Rattle.recipe_refusal.proofs.RefusalLaws.{refused-ten, refused-starts, refused-lists, refused-short, refused-rows, refused-length, few-lent}
 use borrow.Author.Needs.{needs}
@@ -17,10 +18,10 @@ use Rattle.recipe_refusal.proofs.refusal.Statement.{statement}
 use Rattle.recipe_refusal.proofs.refusal.Tie as tie
 
 abbrev C : tie.Start → Column
-C s = let a = s .args in column (a .offsets .now) (from (a .rstart) (a .rows .now)) (a .values .now) (from (a .estart) (a .elements .now))
+C s = let a = s .args in column (used (a .width) (a .offsets .now) (a .large .now)) (from (a .rstart) (a .rows .now)) (a .values .now) (from (a .estart) (a .elements .now))
 
 abbrev D : tie.Start → Column
-D s = let a = s .args in column (a .roffsets .now) (from (a .r-rstart) (a .rrows .now)) (a .rvalues .now) (from (a .r-estart) (a .relements .now))
+D s = let a = s .args in column (used (a .width) (a .roffsets .now) (a .rlarge .now)) (from (a .r-rstart) (a .rrows .now)) (a .rvalues .now) (from (a .r-estart) (a .relements .now))
 
 abbrev A : tie.Start → Arguments
 A s = arguments (s .args .args .now) (from (s .args .start) (s .args .bits .now))

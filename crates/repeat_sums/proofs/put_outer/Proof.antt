@@ -13,7 +13,7 @@ add-next : tie.Need-add-next
 add-next c = search needs
 
 put-offset-requires : tie.Need-put-offset-requires
-put-offset-requires c κs = let s = c .before .before .before .before .before .before .before .before in (omega (arith, s .pre .1 .1 .1 .0), s .pre .1 .1 .0)
+put-offset-requires c κs = let s = c .before .before .before .before .before .before .before .before .before in (omega (arith, s .pre .1 .1 .1 .0), s .pre .1 .1 .0)
 
 same-length : tie.Need-same-length
 same-length c = search
@@ -21,8 +21,11 @@ same-length c = search
 same-length-2 : tie.Need-same-length-2
 same-length-2 c = search
 
+same-length-3 : tie.Need-same-length-3
+same-length-3 c = search
+
 returns : tie.Need-returns
-returns c = (c .before .put-offset .ensures, rw (← c .before .before .before .before .before .before .before .is-valid .ensures) (c .before .before .before .before .before .push-bit .ensures))
+returns c = (c .before .before .put-offset .ensures, rw (← c .before .before .before .before .before .before .before .before .before .is-valid .ensures) (c .before .before .before .before .before .before .before .push-bit .ensures))
 
 pub put-outer-spec : {M : Type 1} → statement M
 put-outer-spec =
@@ -34,4 +37,5 @@ put-outer-spec =
     put-offset-requires
     same-length
     same-length-2
+    same-length-3
     returns)

@@ -8,6 +8,7 @@ use lib.Dec.{ltb}
 use lib.ListN.{length}
 use Rattle.model.specs.Bitmap.{from, shortBits}
 use Rattle.model.specs.Column.{Column, column, Arguments, arguments, rowCount}
+use Rattle.model.specs.Widths.{used}
 use Rattle.column.proofs.WalkLaws.{readable}
 use Rattle.repeat_sums.proofs.SumLaws.{by-count}
 use Rattle.repeat_walk.proofs.RepeatLaws.{early-starts, early-list, early-two, early-three, early-none}
@@ -15,7 +16,7 @@ use Rattle.repeat_walk.proofs.early.Statement.{statement}
 use Rattle.repeat_walk.proofs.early.Tie as tie
 
 abbrev C : tie.Start → Column
-C s = let a = s .args in column (a .offsets .now) (from (a .rstart) (a .rows .now)) (a .values .now) (from (a .estart) (a .elements .now))
+C s = let a = s .args in column (used (a .width) (a .offsets .now) (a .large .now)) (from (a .rstart) (a .rows .now)) (a .values .now) (from (a .estart) (a .elements .now))
 
 abbrev A : tie.Start → Arguments
 A s = let a = s .args in arguments (a .counts .now) (from (a .cstart) (a .count-bits .now))

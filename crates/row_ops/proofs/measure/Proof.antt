@@ -1,10 +1,7 @@
-use Rattle.row_ops.specs.Doable.{Doable}
 use Rattle.ops.specs.Ops.{opElems}
 use Rattle.matches.proofs.RowOpLaws.{length-replaced}
 use Rattle.fills.proofs.ResizeLaws.{length-resized}
 use Rattle.strides.proofs.StrideLaws.{length-sliced}
-use mir.Syntax.{w32}
-use Rattle.column.proofs.OffsetLaws.{back}
 use Rattle.model.proofs.TabLaws.{length-tab}
 use Rattle.row_ops.proofs.measure.Statement.{statement}
 use Rattle.row_ops.proofs.measure.Tie as tie
@@ -26,10 +23,6 @@ enum-told-3 c = search
 
 enum-known-op-2 : tie.Need-enum-known-op-2
 enum-known-op-2 c = search
-
-to-usize-requires : tie.Need-to-usize-requires
-unfolding Doable
-to-usize-requires c κs = rw (back w32 _ (c .known-told2 .given .1 .1 .0 .1)) ((rw (c .before .op2 .given .1) at (c .before .before .before .before .pre .1)) .many)
 
 enum-known-op-3 : tie.Need-enum-known-op-3
 enum-known-op-3 c = search
@@ -61,7 +54,7 @@ returns-4 c = rw (c .enum-told3 .given .1)
 
 returns-5 : tie.Need-returns-5
 unfolding opElems
-returns-5 c = rw (c .before .before .op2 .given .1, length-sliced) (rw (back w32 _ (c .before .known-told2 .given .1 .1 .0 .1)) at (c .to-usize .ensures))
+returns-5 c = rw (c .before .op2 .given .1, length-sliced)
 
 returns-6 : tie.Need-returns-6
 unfolding opElems
@@ -85,7 +78,6 @@ measure-spec =
     measure-plain-requires
     enum-told-3
     enum-known-op-2
-    to-usize-requires
     enum-known-op-3
     enum-told-4
     enum-known-op-4

@@ -1,8 +1,7 @@
 use Rattle.row_ops.specs.Doable.{Doable}
 use Rattle.ops.specs.Ops.{opElems}
 use Rattle.column.proofs.WriteLaws.{begun, done}
-use Rattle.column.proofs.OffsetLaws.{back}
-use mir.Syntax.{w32}
+use Rattle.column.proofs.OffsetLaws.{back64}
 use mathlib.Core.Path.{refl}
 use Rattle.row_ops.proofs.write.Statement.{statement}
 use Rattle.row_ops.proofs.write.Tie as tie
@@ -31,7 +30,7 @@ unfolding opElems Doable
 write-strided-requires c κs =
     let s = c .before .before .before .before .before .before .before in
     let k = c .before .before .known-told2 .given in
-    (s .pre .0, rw (back w32 _ (k .0 .1), back w32 _ (k .1 .0 .1), back w32 _ (k .1 .1 .0 .1)) ((rw (c .before .before .before .op2 .given .1) at (s .pre .1 .0)), (rw (c .before .before .before .op2 .given .1) at (s .pre .1 .1))))
+    (s .pre .0, rw (back64 _ (k .1 .0 .1)) ((rw (c .before .before .before .op2 .given .1) at (s .pre .1 .0)), (rw (c .before .before .before .op2 .given .1) at (s .pre .1 .1))))
 
 enum-known-op-3 : tie.Need-enum-known-op-3
 enum-known-op-3 c = search
@@ -86,7 +85,7 @@ returns-5 : tie.Need-returns-5
 unfolding opElems
 returns-5 c =
     let k = c .before .before .before .before .before .before .known-told2 .given in
-    rw (c .before .before .before .before .before .before .before .op2 .given .1) (rw (back w32 _ (k .0 .1), back w32 _ (k .1 .0 .1), back w32 _ (k .1 .1 .0 .1)) at (c .before .before .before .write-strided .ensures))
+    rw (c .before .before .before .before .before .before .before .op2 .given .1) (rw (back64 _ (k .1 .0 .1)) at (c .before .before .before .write-strided .ensures))
 
 same-length-5 : tie.Need-same-length-5
 same-length-5 c = search

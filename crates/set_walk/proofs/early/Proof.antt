@@ -6,6 +6,7 @@ use borrow.Author.Tests.{eqb-true, eqb-false, not-true, not-false}
 use Rattle.model.specs.Bitmap.{from}
 use Rattle.model.specs.Column.{Column, column, rowCount}
 use Rattle.model.specs.Outcome.{columnsRefusal}
+use Rattle.model.specs.Widths.{used}
 use Rattle.column.proofs.WalkLaws.{readable}
 use Rattle.set_checks.proofs.RefusalLaws.{both-formed}
 use Rattle.set_walk.proofs.SetLaws.{early-lists, early-three, early-none}
@@ -13,10 +14,10 @@ use Rattle.set_walk.proofs.early.Statement.{statement}
 use Rattle.set_walk.proofs.early.Tie as tie
 
 abbrev C : tie.Start → Column
-C s = let a = s .args in column (a .loffsets .now) (from (a .l-rstart) (a .lrows .now)) (a .lvalues .now) (from (a .l-estart) (a .lelements .now))
+C s = let a = s .args in column (used (a .width) (a .loffsets .now) (a .llarge .now)) (from (a .l-rstart) (a .lrows .now)) (a .lvalues .now) (from (a .l-estart) (a .lelements .now))
 
 abbrev D : tie.Start → Column
-D s = let a = s .args in column (a .roffsets .now) (from (a .r-rstart) (a .rrows .now)) (a .rvalues .now) (from (a .r-estart) (a .relements .now))
+D s = let a = s .args in column (used (a .width) (a .roffsets .now) (a .rlarge .now)) (from (a .r-rstart) (a .rrows .now)) (a .rvalues .now) (from (a .r-estart) (a .relements .now))
 
 abbrev S : tie.After-lists-refusal → tie.Start
 S f = f .before .before .before .before .before

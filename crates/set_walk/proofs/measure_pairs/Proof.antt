@@ -5,7 +5,8 @@ use lib.ListN.{length}
 use Rattle.model.specs.Bitmap.{from}
 use Rattle.model.specs.Column.{Row, Column, column, elemAt, offsetAt}
 use Rattle.model.specs.Form.{elemsOf}
-use Rattle.model.specs.Limits.{narrow}
+use Rattle.model.specs.Widths.{limitsAt, used}
+use Rattle.model.proofs.WidthLaws.{limits-fit}
 use Rattle.column.specs.Rows.{ReadableRowˡ}
 use Rattle.column.proofs.WalkLaws.{Summing, between, sum-begun, sum-more, sum-done}
 use Rattle.set_walk.specs.Pairs.{boundOf, pairAt, pairRows}
@@ -14,17 +15,17 @@ use Rattle.set_walk.proofs.measure_pairs.Statement.{statement}
 use Rattle.set_walk.proofs.measure_pairs.Tie as tie
 
 abbrev Inv-loop : tie.InvT-loop
-Inv-loop op loffsets lrows l-rstart lvalues lelements l-estart roffsets rrows r-rstart rvalues relements r-estart n found₀ r₀ left₀ found r left =
-    Summing (pairAt op (column loffsets (from l-rstart lrows) lvalues (from l-estart lelements)) (column roffsets (from r-rstart rrows) rvalues (from r-estart relements))) n (boundOf op (offsetAt loffsets r) (offsetAt roffsets r)) (boundOf op (narrow .offset) (narrow .offset)) found r left
+Inv-loop op loffsets lrows l-rstart lvalues lelements l-estart roffsets rrows r-rstart rvalues relements r-estart width llarge rlarge n found₀ r₀ left₀ found r left =
+    Summing (pairAt op (column (used width loffsets llarge) (from l-rstart lrows) lvalues (from l-estart lelements)) (column (used width roffsets rlarge) (from r-rstart rrows) rvalues (from r-estart relements))) n (boundOf op (offsetAt (used width loffsets llarge) r) (offsetAt (used width roffsets rlarge) r)) (boundOf op (limitsAt width .offset) (limitsAt width .offset)) found r left
 
 abbrev μ-loop : tie.MeasureT-loop
-μ-loop op loffsets lrows l-rstart lvalues lelements l-estart roffsets rrows r-rstart rvalues relements r-estart n found₀ r₀ left₀ found r left = left
+μ-loop op loffsets lrows l-rstart lvalues lelements l-estart roffsets rrows r-rstart rvalues relements r-estart width llarge rlarge n found₀ r₀ left₀ found r left = left
 
 abbrev C : tie.Start Inv-loop μ-loop → Column
-C s = let a = s .args in column (a .loffsets .now) (from (a .l-rstart) (a .lrows .now)) (a .lvalues .now) (from (a .l-estart) (a .lelements .now))
+C s = let a = s .args in column (used (a .width) (a .loffsets .now) (a .llarge .now)) (from (a .l-rstart) (a .lrows .now)) (a .lvalues .now) (from (a .l-estart) (a .lelements .now))
 
 abbrev D : tie.Start Inv-loop μ-loop → Column
-D s = let a = s .args in column (a .roffsets .now) (from (a .r-rstart) (a .rrows .now)) (a .rvalues .now) (from (a .r-estart) (a .relements .now))
+D s = let a = s .args in column (used (a .width) (a .roffsets .now) (a .rlarge .now)) (from (a .r-rstart) (a .rrows .now)) (a .rvalues .now) (from (a .r-estart) (a .relements .now))
 
 abbrev S : tie.At-loop Inv-loop μ-loop → tie.Start Inv-loop μ-loop
 S l = l .before .before .before .before .before .before
@@ -68,11 +69,13 @@ offset-at-requires-4 : tie.Need-offset-at-requires-4 Inv-loop μ-loop
 offset-at-requires-4 c κs = omega (arith, c .before .before .before, S (c .before .before .before .before) .pre .1 .1)
 
 measure-pair-requires : tie.Need-measure-pair-requires Inv-loop μ-loop
-measure-pair-requires c κs = (lefts c, (rights c, (c .before .before .offset-at2 .ensures .1, c .offset-at4 .ensures .1)))
+measure-pair-requires c κs =
+    let fit = limits-fit (S (L c) .args .width) .offset in
+    (lefts c, (rights c, (omega (arith, c .before .before .offset-at2 .ensures .1, fit), omega (arith, c .offset-at4 .ensures .1, fit))))
 
 -- the walk after one more row
 more : (m : tie.After-measure-pair Inv-loop μ-loop) → let q = m .before in let l = L q in
-    Summing (pairAt (S l .args .op) (C (S l)) (D (S l))) (l .before .row-count .result) (boundOf (S l .args .op) (q .before .before .offset-at2 .result) (q .offset-at4 .result)) (boundOf (S l .args .op) (narrow .offset) (narrow .offset)) (l .loop .found + m .measure-pair .result) (l .loop .r + 1) (l .loop .left - 1)
+    Summing (pairAt (S l .args .op) (C (S l)) (D (S l))) (l .before .row-count .result) (boundOf (S l .args .op) (q .before .before .offset-at2 .result) (q .offset-at4 .result)) (boundOf (S l .args .op) (limitsAt (S l .args .width) .offset) (limitsAt (S l .args .width) .offset)) (l .loop .found + m .measure-pair .result) (l .loop .r + 1) (l .loop .left - 1)
 more m =
     let q = m .before in
     let l = L q in
@@ -82,13 +85,13 @@ more m =
     let c = q .before .offset-at3 in
     let d = q .offset-at4 in
     let e = m .measure-pair .ensures in
-    sum-more (pairAt o (C (S l)) (D (S l))) (l .before .row-count .result) (boundOf o (narrow .offset) (narrow .offset)) (m .measure-pair .result) (boundOf o (a .result) (c .result)) (boundOf o (b .result) (d .result)) (l .loop .inv) (q .before .before .before .before .loop-test .taken)
+    sum-more (pairAt o (C (S l)) (D (S l))) (l .before .row-count .result) (boundOf o (limitsAt (S l .args .width) .offset) (limitsAt (S l .args .width) .offset)) (m .measure-pair .result) (boundOf o (a .result) (c .result)) (boundOf o (b .result) (d .result)) (l .loop .inv) (q .before .before .before .before .loop-test .taken)
     (e ∙ ap (λ (x : Row). length (elemsOf x)) (same-pair o (C (S l)) (D (S l)) (l .loop .r) (a .result) (b .result) (c .result) (d .result) (a .ensures .0) (b .ensures .0) (c .ensures .0) (d .ensures .0)))
     (rw e (pair-le o (C (S l) .rows) (D (S l) .rows) (elemAt (C (S l) .values) (C (S l) .elements)) (elemAt (D (S l) .values) (D (S l) .elements)) (l .loop .r) (a .result) (b .result) (c .result) (d .result) (lefts q .rises) (rights q .rises)))
     (bound-grows o (lefts q .rises) (rights q .rises)) (bound-same o (a .ensures .0) (c .ensures .0)) (bound-grows o (b .ensures .1) (d .ensures .1))
 
 add-found : tie.Need-add-found Inv-loop μ-loop
-add-found c = omega (arith, more c .small, bound-small (S (L (c .before)) .args .op))
+add-found c = omega (arith, more c .small, bound-small (S (L (c .before)) .args .op) (limits-fit (S (L (c .before)) .args .width) .offset))
 
 add-r : tie.Need-add-r Inv-loop μ-loop
 add-r c = omega (arith, c .before .before .before .before .before)

@@ -1,6 +1,7 @@
 use mathlib.Core.Path.{_≡_, sym, _∙_}
 use lib.ListN.{length}
 use Rattle.model.specs.Bitmap.{from}
+use Rattle.model.specs.Widths.{used}
 use Rattle.model.specs.Column.{Column, column, Arguments, arguments, rowsOf, shownBy}
 use Rattle.model.specs.Recipe.{Step}
 use Rattle.model.proofs.ColumnLaws.{length-rows}
@@ -15,25 +16,25 @@ use Rattle.step.proofs.step.Tie as tie
 abbrev S : tie.After-operation-of → tie.Start
 S c = c .before .before .before .before .before .before .before .before
 
-abbrev one : tie.After-one-list-arg4 → tie.After-op
-one c = c .before .before .before .before .before
+abbrev one : tie.After-one-list-arg5 → tie.After-op
+one c = c .before .before .before .before .before .before
 
-abbrev two : tie.After-after-three-arg4 → tie.After-op2
-two c = c .before .before .before .before .before
+abbrev two : tie.After-after-three-arg5 → tie.After-op2
+two c = c .before .before .before .before .before .before
 
-abbrev one-made : tie.After-slice-known4 → tie.After-one-list
-one-made c = c .before .before .before .before .before .before
+abbrev one-made : tie.After-out-large → tie.After-one-list
+one-made c = c .before .before .before .before .before .before .before
 
-abbrev two-made : tie.After-slice-known6 → tie.After-after-three
-two-made c = c .before .before .before .before .before .before
+abbrev two-made : tie.After-out-large2 → tie.After-after-three
+two-made c = c .before .before .before .before .before .before .before
 
 -- ---- columns, and the step
 
 abbrev C : tie.Start → Column
-C s = let a = s .args in column (a .offsets .now) (from (a .rstart) (a .rows .now)) (a .values .now) (from (a .estart) (a .elements .now))
+C s = let a = s .args in column (used (a .width) (a .offsets .now) (a .large .now)) (from (a .rstart) (a .rows .now)) (a .values .now) (from (a .estart) (a .elements .now))
 
 abbrev D : tie.Start → Column
-D s = let a = s .args in column (a .roffsets .now) (from (a .r-rstart) (a .rrows .now)) (a .rvalues .now) (from (a .r-estart) (a .relements .now))
+D s = let a = s .args in column (used (a .width) (a .roffsets .now) (a .rlarge .now)) (from (a .r-rstart) (a .rrows .now)) (a .rvalues .now) (from (a .r-estart) (a .relements .now))
 
 abbrev A : tie.Start → Arguments
 A s = arguments (s .args .args .now) (from (s .args .start) (s .args .bits .now))
@@ -77,6 +78,9 @@ same-length-3 c = search
 same-length-4 : tie.Need-same-length-4
 same-length-4 c = search
 
+same-length-5 : tie.Need-same-length-5
+same-length-5 c = search
+
 returns : tie.Need-returns
 returns c =
     let w = one-made c in
@@ -84,9 +88,6 @@ returns c =
     let m = t .before .before in
     let s = S m in
     rw (step-one (T s) (rowsOf (C s)) (rowsOf (D s)) (shownBy (A s)) _ (s .args .n) (sym (m .operation-of .ensures) ∙ t .op .given .1) (length-rows (D s) ∙ s .pre .1 .1 .0 .rows)) (w .one-list .ensures)
-
-same-length-5 : tie.Need-same-length-5
-same-length-5 c = search
 
 same-length-6 : tie.Need-same-length-6
 same-length-6 c = search
@@ -96,6 +97,12 @@ same-length-7 c = search
 
 same-length-8 : tie.Need-same-length-8
 same-length-8 c = search
+
+same-length-9 : tie.Need-same-length-9
+same-length-9 c = search
+
+same-length-10 : tie.Need-same-length-10
+same-length-10 c = search
 
 returns-2 : tie.Need-returns-2
 returns-2 c =
@@ -125,10 +132,12 @@ step-spec =
     same-length-2
     same-length-3
     same-length-4
-    returns
     same-length-5
+    returns
     same-length-6
     same-length-7
     same-length-8
+    same-length-9
+    same-length-10
     returns-2
     returns-3)

@@ -1,6 +1,7 @@
 use mathlib.Core.Path.{_≡_}
 use native.Mathlib.Omega.{arith}
 use Rattle.model.specs.Bitmap.{from}
+use Rattle.model.specs.Widths.{used}
 use Rattle.model.specs.Column.{Column, column}
 use Rattle.step.specs.Step.{front}
 use Rattle.step.proofs.StepLaws.{taken-first, taken-later}
@@ -16,25 +17,25 @@ abbrev S : tie.After-shared-slice-known12 → tie.Start
 S c = entered (c .before .before .before .before) .before
 
 -- a step from the list, and one from a tray: before its call and after it
-abbrev list : tie.After-step-arg4 → tie.Then1
-list c = c .before .before .before .before
+abbrev list : tie.After-step-arg5 → tie.Then1
+list c = c .before .before .before .before .before
 
-abbrev tray : tie.After-step-from-arg4 → tie.Else1
-tray c = c .before .before .before .before
+abbrev tray : tie.After-step-from-arg5 → tie.Else1
+tray c = c .before .before .before .before .before
 
-abbrev listed : tie.After-slice-known4 → tie.After-step
-listed c = c .before .before .before .before .before .before
+abbrev listed : tie.After-out-large → tie.After-step
+listed c = c .before .before .before .before .before .before .before
 
-abbrev drawn : tie.After-slice-known6 → tie.After-step-from
-drawn c = c .before .before .before .before .before .before
+abbrev drawn : tie.After-out-large2 → tie.After-step-from
+drawn c = c .before .before .before .before .before .before .before
 
 -- ---- columns
 
 abbrev C : tie.Start → Column
-C s = let a = s .args in column (a .offsets .now) (from (a .rstart) (a .rows .now)) (a .values .now) (from (a .estart) (a .elements .now))
+C s = let a = s .args in column (used (a .width) (a .offsets .now) (a .large .now)) (from (a .rstart) (a .rows .now)) (a .values .now) (from (a .estart) (a .elements .now))
 
 abbrev F : tie.Start → Column
-F s = let a = s .args in front (a .from-offsets .now) (a .from-rows .now) (a .from-values .now) (a .from-elements .now) (a .n) (a .m)
+F s = let a = s .args in front (used (a .width) (a .from-offsets .now) (a .from-large .now)) (a .from-rows .now) (a .from-values .now) (a .from-elements .now) (a .n) (a .m)
 
 -- ---- needs
 
@@ -92,6 +93,9 @@ same-length-3 c = search
 same-length-4 : tie.Need-same-length-4
 same-length-4 c = search
 
+same-length-5 : tie.Need-same-length-5
+same-length-5 c = search
+
 returns : tie.Need-returns
 returns c =
     let w = listed c in
@@ -105,9 +109,6 @@ step-from-requires c κs =
     let p = S (t .before) .pre in
     (p .1 .0 .later (t .if1 .left), p .1 .1)
 
-same-length-5 : tie.Need-same-length-5
-same-length-5 c = search
-
 same-length-6 : tie.Need-same-length-6
 same-length-6 c = search
 
@@ -116,6 +117,12 @@ same-length-7 c = search
 
 same-length-8 : tie.Need-same-length-8
 same-length-8 c = search
+
+same-length-9 : tie.Need-same-length-9
+same-length-9 c = search
+
+same-length-10 : tie.Need-same-length-10
+same-length-10 c = search
 
 returns-2 : tie.Need-returns-2
 returns-2 c =
@@ -145,10 +152,12 @@ step-at-spec =
     same-length-2
     same-length-3
     same-length-4
+    same-length-5
     returns
     step-from-requires
-    same-length-5
     same-length-6
     same-length-7
     same-length-8
+    same-length-9
+    same-length-10
     returns-2)

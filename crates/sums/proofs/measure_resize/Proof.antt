@@ -4,17 +4,20 @@ use mathlib.Core.Bool.{false, true}
 use native.Mathlib.Omega.{arith}
 use Rattle.model.specs.Bitmap.{Bits, from}
 use Rattle.model.specs.Column.{Arguments, arguments}
+use Rattle.model.specs.Limits.{Limits}
 use Rattle.model.specs.Refusals.{RowCount, plus}
+use Rattle.model.specs.Widths.{limitsAt}
+use Rattle.model.proofs.WidthLaws.{limits-fit}
 use Rattle.sums.specs.Sums.{countAt, countIf, summed, letThrough}
 use Rattle.sums.proofs.SumLaws.{Running, running-begun, running-more, running-stops, running-done, resize-stops, resize-over, resize-ends}
 use Rattle.sums.proofs.measure_resize.Statement.{statement}
 use Rattle.sums.proofs.measure_resize.Tie as tie
 
 abbrev Inv-loop : tie.InvT-loop
-Inv-loop rows rstart n counts bits start sum₀ r₀ left₀ sum r left = Running (countAt (from rstart rows) (arguments counts (from start bits))) n sum r left
+Inv-loop rows rstart n counts bits start width sum₀ r₀ left₀ sum r left = Running (countAt (from rstart rows) (arguments counts (from start bits))) n sum r left
 
 abbrev μ-loop : tie.MeasureT-loop
-μ-loop rows rstart n counts bits start sum₀ r₀ left₀ sum r left = left
+μ-loop rows rstart n counts bits start width sum₀ r₀ left₀ sum r left = left
 
 abbrev S : tie.At-loop Inv-loop μ-loop → tie.Start Inv-loop μ-loop
 S l = l .before .before .before
@@ -24,6 +27,9 @@ B s = from (s .args .rstart) (s .args .rows .now)
 
 abbrev A : tie.Start Inv-loop μ-loop → Arguments
 A s = arguments (s .args .counts .now) (from (s .args .start) (s .args .bits .now))
+
+abbrev N : tie.At-loop Inv-loop μ-loop → Limits
+N l = limitsAt (S l .args .width)
 
 abbrev K : tie.At-loop Inv-loop μ-loop → ℕ → RowCount
 K l = countAt (B (S l)) (A (S l))
@@ -51,7 +57,7 @@ enum-known-k c = search
 
 returns : tie.Need-returns Inv-loop μ-loop
 unfolding letThrough
-returns c = let p = c .before .before .before in let l = p .before .before .before .before in (resize-stops (B (S l)) (A (S l)) (S l .args .n) _ (running-stops (K l) (l .loop .inv) _ (p .before .before .before .loop-test .taken) (sym (plus-row p) ∙ c .before .k .given .1)), omega arith)
+returns c = let p = c .before .before .before in let l = p .before .before .before .before in (resize-stops (N l) (B (S l)) (A (S l)) (S l .args .n) _ (running-stops (K l) (l .loop .inv) _ (p .before .before .before .loop-test .taken) (sym (plus-row p) ∙ c .before .k .given .1)), omega arith)
 
 enum-known-s : tie.Need-enum-known-s Inv-loop μ-loop
 enum-known-s c = search
@@ -68,13 +74,16 @@ loop-less c = omega (arith, c .before .before .before .before .before .before .l
 loop-again : tie.Need-loop-again Inv-loop μ-loop
 loop-again c = let p = c .before .before .before in let l = p .before .before .before .before in running-more (K l) (l .loop .inv) _ (p .before .before .before .loop-test .taken) (sym (plus-row p) ∙ c .before .s .given .1)
 
+most-resized-requires : tie.Need-most-resized-requires Inv-loop μ-loop
+most-resized-requires c κs = search
+
 returns-2 : tie.Need-returns-2 Inv-loop μ-loop
 unfolding letThrough
-returns-2 c = let l = c .before .before in (resize-over (B (S l)) (A (S l)) (S l .args .n) (l .loop .sum) (running-done (K l) (l .loop .inv) (omega (arith, c .before .loop-test .left))) (c .if1 .taken), omega arith)
+returns-2 c = let m = c .before in let l = m .before .before in (resize-over (N l) (B (S l)) (A (S l)) (S l .args .n) (l .loop .sum) (running-done (K l) (l .loop .inv) (omega (arith, m .before .loop-test .left))) (rw (m .most-resized .ensures) at (c .if1 .taken)), omega arith)
 
 returns-3 : tie.Need-returns-3 Inv-loop μ-loop
 unfolding letThrough
-returns-3 c = let l = c .before .before in (resize-ends (B (S l)) (A (S l)) (S l .args .n) (l .loop .sum) (running-done (K l) (l .loop .inv) (omega (arith, c .before .loop-test .left))) (omega (arith, c .if1 .left)), omega (arith, c .if1 .left))
+returns-3 c = let m = c .before in let l = m .before .before in (resize-ends (N l) (B (S l)) (A (S l)) (S l .args .n) (l .loop .sum) (running-done (K l) (l .loop .inv) (omega (arith, m .before .loop-test .left))) (rw (m .most-resized .ensures) at (c .if1 .left)), omega (arith, c .if1 .left, m .most-resized .ensures, limits-fit (S l .args .width) .resized))
 
 pub measure-resize-spec : {M : Type 1} → statement M
 measure-resize-spec =
@@ -93,5 +102,6 @@ measure-resize-spec =
     sub-left
     loop-less
     loop-again
+    most-resized-requires
     returns-2
     returns-3)

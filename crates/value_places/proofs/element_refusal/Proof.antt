@@ -9,21 +9,27 @@ use Rattle.model.specs.Basics.{tab}
 use Rattle.model.specs.Bitmap.{Bits, from}
 use Rattle.model.specs.Column.{Column, column, Arguments, arguments, rowsOf, shownBy, rowCount}
 use Rattle.model.specs.Form.{ValueRoom}
-use Rattle.model.specs.Limits.{narrow}
+use Rattle.model.specs.Limits.{Limits, narrow}
 use Rattle.model.specs.Outcome.{elementOutcome, elementShown, fittedValues, gate}
 use Rattle.model.specs.Refusals.{firstOf}
+use Rattle.model.specs.Widths.{used, limitsAt}
+use Rattle.model.specs.declared.Width.{Width}
 use Rattle.bitmap.specs.Push.{Covers}
 use Rattle.column.specs.Put.{Readable}
 use Rattle.column.proofs.WalkLaws.{readable}
 use Rattle.value_places.specs.Values.{valuesMade}
 use Rattle.value_places.specs.declared.ValueOp.the-variants as V′
 use Rattle.value_places.specs.Found.{fourAt}
+use Rattle.value_places.proofs.FoundLaws.{no-fours}
 use Rattle.value_places.proofs.CallLaws.{element-starts, element-early, element-two, element-shown, element-three, element-goes, refuses}
 use Rattle.value_places.proofs.element_refusal.Statement.{statement}
 use Rattle.value_places.proofs.element_refusal.Tie as tie
 
 abbrev C : tie.Start → Column
-C s = let a = s .args in column (a .offsets .now) (from (a .rstart) (a .rows .now)) (a .values .now) (from (a .estart) (a .elements .now))
+C s = let a = s .args in column (used (a .width) (a .offsets .now) (a .large .now)) (from (a .rstart) (a .rows .now)) (a .values .now) (from (a .estart) (a .elements .now))
+
+abbrev N : tie.Start → Limits
+N s = limitsAt (s .args .width)
 
 abbrev A : tie.Start → Arguments
 A s = arguments (s .args .indexes .now) (from (s .args .istart) (s .args .index-bits .now))
@@ -54,31 +60,43 @@ list-formed e = let s = S (e .before) in readable (C s) (sym (e .before .list-re
 bits-formed : (e : tie.Else3) → Covers (A (S₂ e) .bits) (length (A (S₂ e) .values))
 bits-formed e = record { small = omega (arith, in-byte (e .before .before .before)); long = sym (e .before .is-short .ensures) ∙ e .if3 .left }
 
-shows : (e : tie.Else3) (l : ValueRoom) → elementOutcome narrow (C (S₂ e)) (A (S₂ e)) l ≡ elementShown narrow (rowsOf (C (S₂ e))) (shownBy (A (S₂ e))) l
+shows : (e : tie.Else3) (l : ValueRoom) → elementOutcome (N (S₂ e)) (C (S₂ e)) (A (S₂ e)) l ≡ elementShown (N (S₂ e)) (rowsOf (C (S₂ e))) (shownBy (A (S₂ e))) l
 shows e l =
     let f = e .before .before .before in
-    element-shown (C (S f)) (A (S f)) l (in-byteᵇ f) _ (f .list-refusal .ensures) (e .before .before .if2 .left) (sym (e .before .is-short .ensures) ∙ e .if3 .left)
+    element-shown (N (S f)) (C (S f)) (A (S f)) l (in-byteᵇ f) _ (f .list-refusal .ensures) (e .before .before .if2 .left) (sym (e .before .is-short .ensures) ∙ e .if3 .left)
 
 counted : (e : tie.Else4) → length (A (S₃ e) .values) ≡ rowCount (C (S₃ e) .offsets)
 counted e = e .if4 .left ∙ e .before .row-count .ensures
 
 -- the call, once none of 1, 2 and 3 applies
-goes : (e : tie.Else4) (l : ValueRoom) → let s = S₃ e in elementOutcome narrow (C s) (A s) l ≡ gate (firstOf (tab (fourAt (C s .rows) (A s .values) (A s .bits)) 0 (rowCount (C s .offsets)))) (fittedValues (valuesMade V′.Element (C s) (A s)) l)
-goes e l = let s = S₃ e in shows (e .before .before) l ∙ element-goes (C s) (A s) l (counted e)
+goes : (e : tie.Else4) (l : ValueRoom) → let s = S₃ e in elementOutcome (N s) (C s) (A s) l ≡ gate (firstOf (tab (fourAt (N s) (C s .rows) (A s .values) (A s .bits)) 0 (rowCount (C s .offsets)))) (fittedValues (valuesMade V′.Element (C s) (A s)) l)
+goes e l = let s = S₃ e in shows (e .before .before) l ∙ element-goes (N s) (C s) (A s) l (counted e)
 
-fours : (k : tie.After-index-refusal) → let s = S₃ (k .before) in k .index-refusal .result ≡ firstOf (tab (fourAt (C s .rows) (A s .values) (A s .bits)) 0 (rowCount (C s .offsets)))
-fours k = let s = S₃ (k .before) in k .index-refusal .ensures ∙ ap (λ (n : ℕ). firstOf (tab (fourAt (C s .rows) (A s .values) (A s .bits)) 0 n)) (k .before .before .row-count .ensures)
+fours : (k : tie.After-index-refusal) → let s = S₃ (k .before .before .before) in k .index-refusal .result ≡ firstOf (tab (fourAt (N s) (C s .rows) (A s .values) (A s .bits)) 0 (rowCount (C s .offsets)))
+fours k =
+    let t = k .before in
+    let e = t .before .before in
+    let s = S₃ e in
+    k .index-refusal .ensures
+    ∙ ap (λ (n : ℕ). firstOf (tab (fourAt narrow (C s .rows) (A s .values) (A s .bits)) 0 n)) (e .before .row-count .ensures)
+    ∙ ap (λ (w : Width). firstOf (tab (fourAt (limitsAt w) (C s .rows) (A s .values) (A s .bits)) 0 (rowCount (C s .offsets)))) (sym (t .enum-told .given .1))
+
+-- none of a large list
+none : (t : tie.After-enum-told2) → let s = S₃ (t .before .before) in firstOf (tab (fourAt (N s) (C s .rows) (A s .values) (A s .bits)) 0 (rowCount (C s .offsets))) ≡ 0
+none t =
+    let s = S₃ (t .before .before) in
+    no-fours (N s) (ap (λ (w : Width). limitsAt w .every) (t .enum-told2 .given .1)) (C s .rows) (A s .values) (A s .bits) 0 (rowCount (C s .offsets))
 
 returns : tie.Need-returns
 returns c =
     let s = c .before .before .before .before in
-    refuses (C s) (A s) 13 (λ z. omega arith) (λ l. element-starts (C s) (A s) l (lt-ltb 7 (s .args .istart) (omega arith)))
+    refuses (N s) (C s) (A s) 13 (λ z. omega arith) (λ l. element-starts (N s) (C s) (A s) l (lt-ltb 7 (s .args .istart) (omega arith)))
 
 list-refusal-requires : tie.Need-list-refusal-requires
 list-refusal-requires c κs = search
 
 returns-2 : tie.Need-returns-2
-returns-2 c = let s = S (c .before) in refuses (C s) (A s) _ (c .if2 .taken) (λ l. element-early (C s) (A s) l (in-byteᵇ (c .before)) _ (c .before .list-refusal .ensures) (c .if2 .taken))
+returns-2 c = let s = S (c .before) in refuses (N s) (C s) (A s) _ (c .if2 .taken) (λ l. element-early (N s) (C s) (A s) l (in-byteᵇ (c .before)) _ (c .before .list-refusal .ensures) (c .if2 .taken))
 
 is-short-requires : tie.Need-is-short-requires
 is-short-requires c κs = omega (arith, in-byte (c .before))
@@ -86,7 +104,7 @@ is-short-requires c κs = omega (arith, in-byte (c .before))
 returns-3 : tie.Need-returns-3
 returns-3 c =
     let f = c .before .before .before in
-    refuses (C (S f)) (A (S f)) 2 (λ z. omega arith) (λ l. element-two (C (S f)) (A (S f)) l (in-byteᵇ f) _ (f .list-refusal .ensures) (c .before .before .if2 .left) (sym (c .before .is-short .ensures) ∙ c .if3 .taken))
+    refuses (N (S f)) (C (S f)) (A (S f)) 2 (λ z. omega arith) (λ l. element-two (N (S f)) (C (S f)) (A (S f)) l (in-byteᵇ f) _ (f .list-refusal .ensures) (c .before .before .if2 .left) (sym (c .before .is-short .ensures) ∙ c .if3 .taken))
 
 row-count-requires : tie.Need-row-count-requires
 row-count-requires c κs = search
@@ -95,18 +113,34 @@ returns-4 : tie.Need-returns-4
 returns-4 c =
     let e = c .before .before in
     let s = S₂ e in
-    refuses (C s) (A s) 3 (λ z. omega arith) (λ l. shows e l ∙ element-three (C s) (A s) l (λ z. c .if4 .taken (z ∙ sym (c .before .row-count .ensures))))
+    refuses (N s) (C s) (A s) 3 (λ z. omega arith) (λ l. shows e l ∙ element-three (N s) (C s) (A s) l (λ z. c .if4 .taken (z ∙ sym (c .before .row-count .ensures))))
+
+enum-told : tie.Need-enum-told
+enum-told c = search
 
 index-refusal-requires : tie.Need-index-refusal-requires
 index-refusal-requires c κs =
-    let e = c .before .before in
-    (by-count (c .before .row-count .ensures) (list-formed (c .before .before .before .before) .rows), (by-count (sym (c .if4 .left)) (bits-formed e), c .if4 .left))
+    let f = c .before .before in
+    let e = f .before .before in
+    (by-count (f .before .row-count .ensures) (list-formed (e .before .before) .rows), (by-count (sym (f .if4 .left)) (bits-formed e), f .if4 .left))
+
+enum-told-2 : tie.Need-enum-told-2
+enum-told-2 c = search
 
 returns-5 : tie.Need-returns-5
 returns-5 c =
-    let g = c .before in
+    let g = c .before .before .before in
     record {
       outcome = λ l. rw (fours c) (goes g l);
+      list = λ z. list-formed (g .before .before .before .before);
+      indexes = λ z. record { many = counted g; bits = by-count (sym (counted g)) (bits-formed (g .before .before)) };
+    }
+
+returns-6 : tie.Need-returns-6
+returns-6 c =
+    let g = c .before .before in
+    record {
+      outcome = λ l. rw (none c) at (goes g l);
       list = λ z. list-formed (g .before .before .before .before);
       indexes = λ z. record { many = counted g; bits = by-count (sym (counted g)) (bits-formed (g .before .before)) };
     }
@@ -122,5 +156,8 @@ element-refusal-spec =
     returns-3
     row-count-requires
     returns-4
+    enum-told
     index-refusal-requires
-    returns-5)
+    enum-told-2
+    returns-5
+    returns-6)

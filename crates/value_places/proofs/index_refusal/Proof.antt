@@ -1,6 +1,7 @@
 use Rattle.value_places.proofs.FoundLaws.{four-yes, four-no}
 use Rattle.model.proofs.OutcomeLaws.{first-refusal, later-refusal, no-refusal}
 use Rattle.value_places.specs.Found.{fourAt}
+use Rattle.model.specs.Limits.{narrow}
 use Rattle.model.specs.Refusals.{firstOf}
 use Rattle.model.specs.Bitmap.{from}
 use Rattle.model.specs.Basics.{tab}
@@ -11,7 +12,7 @@ use Rattle.value_places.proofs.index_refusal.Statement.{statement}
 use Rattle.value_places.proofs.index_refusal.Tie as tie
 
 abbrev Inv-loop : tie.InvT-loop
-Inv-loop rows rstart n indexes index-bits istart r₀ left₀ r left = (firstOf (tab (fourAt (from rstart rows) indexes (from istart index-bits)) r left) ≡ firstOf (tab (fourAt (from rstart rows) indexes (from istart index-bits)) 0 n)) × (r + left ≡ n)
+Inv-loop rows rstart n indexes index-bits istart r₀ left₀ r left = (firstOf (tab (fourAt narrow (from rstart rows) indexes (from istart index-bits)) r left) ≡ firstOf (tab (fourAt narrow (from rstart rows) indexes (from istart index-bits)) 0 n)) × (r + left ≡ n)
 
 abbrev μ-loop : tie.MeasureT-loop
 μ-loop rows rstart n indexes index-bits istart r₀ left₀ r left = left
@@ -27,8 +28,8 @@ returns c =
     let i = c .before .before in
     let l = c .before .before .before .loop in
     let a = c .before .before .before .before .before .before .args in
-    let K = fourAt (from (a .rstart) (a .rows .now)) (a .indexes .now) (from (a .istart) (a .index-bits .now)) in
-    let y = four-yes (from (a .rstart) (a .rows .now)) (a .indexes .now) (from (a .istart) (a .index-bits .now)) (l .r) (sym (c .before .is-unfit .ensures) ∙ c .if1 .taken) in
+    let K = fourAt narrow (from (a .rstart) (a .rows .now)) (a .indexes .now) (from (a .istart) (a .index-bits .now)) in
+    let y = four-yes narrow (from (a .rstart) (a .rows .now)) (a .indexes .now) (from (a .istart) (a .index-bits .now)) (l .r) (sym (c .before .is-unfit .ensures) ∙ c .if1 .taken) in
     sym y ∙ sym (first-refusal K (l .r) (l .left) (i .loop-test .taken) (λ z. omega arith)) ∙ l .inv .0
 
 add-r : tie.Need-add-r Inv-loop μ-loop
@@ -45,15 +46,15 @@ loop-again c =
     let i = c .before .before in
     let l = c .before .before .before .loop in
     let a = c .before .before .before .before .before .before .args in
-    let K = fourAt (from (a .rstart) (a .rows .now)) (a .indexes .now) (from (a .istart) (a .index-bits .now)) in
-    let y = four-no (from (a .rstart) (a .rows .now)) (a .indexes .now) (from (a .istart) (a .index-bits .now)) (l .r) (sym (c .before .is-unfit .ensures) ∙ c .if1 .left) in
+    let K = fourAt narrow (from (a .rstart) (a .rows .now)) (a .indexes .now) (from (a .istart) (a .index-bits .now)) in
+    let y = four-no narrow (from (a .rstart) (a .rows .now)) (a .indexes .now) (from (a .istart) (a .index-bits .now)) (l .r) (sym (c .before .is-unfit .ensures) ∙ c .if1 .left) in
     (sym (later-refusal K (l .r) (l .left) (i .loop-test .taken) y) ∙ l .inv .0, omega (arith, i))
 
 returns-2 : tie.Need-returns-2 Inv-loop μ-loop
 returns-2 c =
     let l = c .before .loop in
     let a = c .before .before .before .before .args in
-    let K = fourAt (from (a .rstart) (a .rows .now)) (a .indexes .now) (from (a .istart) (a .index-bits .now)) in
+    let K = fourAt narrow (from (a .rstart) (a .rows .now)) (a .indexes .now) (from (a .istart) (a .index-bits .now)) in
     sym (no-refusal K (l .r) (l .left) (c .loop-test .left)) ∙ l .inv .0
 
 pub index-refusal-spec : {M : Type 1} → statement M

@@ -2,6 +2,8 @@ use Prim.Native.Nat.{_+_, _≤_}
 use native.Mathlib.Omega.{arith}
 use Rattle.model.specs.Bitmap.{Bits, from}
 use Rattle.model.specs.Column.{elemAt}
+use Rattle.model.specs.Widths.{limitsAt}
+use Rattle.model.proofs.WidthLaws.{limits-fit}
 use Rattle.column.specs.Rows.{lenFrom}
 use Rattle.column.proofs.RowLaws.{len-from-le}
 use Rattle.value_places.proofs.ValueLaws.{value-from}
@@ -26,7 +28,7 @@ place-of-requires c κs =
     )
 
 add-write-found : tie.Need-add-write-found
-add-write-found c = let s = c .before .before .before .before .before .before in omega (arith, s .pre .1 .1 .0, c .before .row-len .ensures, ends s)
+add-write-found c = let s = c .before .before .before .before .before .before in omega (arith, s .pre .1 .1 .0, c .before .row-len .ensures, ends s, limits-fit (s .args .width) .offset)
 
 write-found-requires : tie.Need-write-found-requires
 write-found-requires c κs =
@@ -45,7 +47,7 @@ returns c =
     let a = s .args in
     let E = elemAt (a .values .now) (from (a .estart) (a .elements .now)) in
     let e = elemAt (a .indexes .now) (from (a .istart) (a .index-bits .now)) (a .r) in
-    let q = value-from (a .op) (R s) E (a .r) (a .a) (a .b) e _ _ (omega (arith, s .pre .1 .1 .0, ends s)) (c .before .before .before .before .before .before .before .row-len .ensures) (c .before .before .before .before .before .before .place-of .ensures) in
+    let q = value-from (limitsAt (a .width)) (a .op) (R s) E (a .r) (a .a) (a .b) e _ _ (omega (arith, s .pre .1 .1 .0, ends s)) (c .before .before .before .before .before .before .before .row-len .ensures) (c .before .before .before .before .before .before .place-of .ensures) in
     (rw (← q) (c .before .before .before .write-found .ensures .0), rw (← q) (c .before .before .before .write-found .ensures .1))
 
 pub put-value-spec : {M : Type 1} → statement M

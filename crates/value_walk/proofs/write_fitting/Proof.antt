@@ -7,6 +7,7 @@ use lib.ListN.{length}
 use Rattle.model.specs.Bitmap.{from, bytesFor}
 use Rattle.model.specs.Column.{Elem, Column, column, Arguments, arguments}
 use Rattle.model.specs.Contract.{valueRoom}
+use Rattle.model.specs.Widths.{used}
 use Rattle.model.specs.Form.{ValueRoom, fitsValues}
 use Rattle.column.proofs.AnswerLaws.{value-refused, value-made, has-value-room, same-value-fit, values-made, values-short}
 use Rattle.value_places.specs.Values.{valuesMade}
@@ -15,7 +16,7 @@ use Rattle.value_walk.proofs.write_fitting.Statement.{statement}
 use Rattle.value_walk.proofs.write_fitting.Tie as tie
 
 abbrev C : tie.Start → Column
-C s = let a = s .args in column (a .offsets .now) (from (a .rstart) (a .rows .now)) (a .values .now) (from (a .estart) (a .elements .now))
+C s = let a = s .args in column (used (a .width) (a .offsets .now) (a .large .now)) (from (a .rstart) (a .rows .now)) (a .values .now) (from (a .estart) (a .elements .now))
 
 abbrev A : tie.Start → Arguments
 A s = arguments (s .args .indexes .now) (from (s .args .istart) (s .args .index-bits .now))

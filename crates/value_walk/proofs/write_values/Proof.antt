@@ -5,6 +5,7 @@ use lib.ListN.{length}
 use mathlib.Core.List.{_∷_}
 use Rattle.model.specs.Basics.{tab}
 use Rattle.model.specs.Bitmap.{from}
+use Rattle.model.specs.Widths.{used}
 use Rattle.model.specs.Column.{Elem, Row, Column, column, arguments, elemAt, rowCount}
 use Rattle.model.proofs.TabLaws.{length-tab, tab-step, tab-none}
 use Rattle.column.specs.Rows.{rowFrom}
@@ -16,15 +17,15 @@ use Rattle.value_walk.proofs.write_values.Statement.{statement}
 use Rattle.value_walk.proofs.write_values.Tie as tie
 
 abbrev Inv-loop : tie.InvT-loop
-Inv-loop op offsets rows rstart values elements estart indexes index-bits istart out-values₀ out-rows₀ n r₀ left₀ out-values out-rows r left =
-    Writing (tab (valueAt op (column offsets (from rstart rows) values (from estart elements)) (arguments indexes (from istart index-bits))) 0 n) 0 out-values₀ out-rows₀ (tab (valueAt op (column offsets (from rstart rows) values (from estart elements)) (arguments indexes (from istart index-bits))) r left) r out-values out-rows
+Inv-loop op offsets rows rstart values elements estart indexes index-bits istart out-values₀ out-rows₀ width large n r₀ left₀ out-values out-rows r left =
+    Writing (tab (valueAt op (column (used width offsets large) (from rstart rows) values (from estart elements)) (arguments indexes (from istart index-bits))) 0 n) 0 out-values₀ out-rows₀ (tab (valueAt op (column (used width offsets large) (from rstart rows) values (from estart elements)) (arguments indexes (from istart index-bits))) r left) r out-values out-rows
     × (r + left ≡ n)
 
 abbrev μ-loop : tie.MeasureT-loop
-μ-loop op offsets rows rstart values elements estart indexes index-bits istart out-values₀ out-rows₀ n r₀ left₀ out-values out-rows r left = left
+μ-loop op offsets rows rstart values elements estart indexes index-bits istart out-values₀ out-rows₀ width large n r₀ left₀ out-values out-rows r left = left
 
 abbrev C : tie.Start Inv-loop μ-loop → Column
-C s = let a = s .args in column (a .offsets .now) (from (a .rstart) (a .rows .now)) (a .values .now) (from (a .estart) (a .elements .now))
+C s = let a = s .args in column (used (a .width) (a .offsets .now) (a .large .now)) (from (a .rstart) (a .rows .now)) (a .values .now) (from (a .estart) (a .elements .now))
 
 abbrev S : tie.At-loop Inv-loop μ-loop → tie.Start Inv-loop μ-loop
 S l = l .before .before .before .before .before .before

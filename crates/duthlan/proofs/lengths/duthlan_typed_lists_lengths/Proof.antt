@@ -39,7 +39,7 @@ enum-known-named : tie.Need-enum-known-named
 enum-known-named c = search needs
 
 returns : tie.Need-returns
-returns c = short-lengths roomCounts _ (set-lengths _ _ _ (c .before .before .before .before .operation-of .ensures) (c .before .before .named .given .1)) (lt-ltb _ 4 (c .if1 .taken))
+returns c = short-lengths roomCounts _ (set-lengths _ _ _ _ (c .before .before .before .before .operation-of .ensures) (c .before .before .named .given .1)) (lt-ltb _ 4 (c .if1 .taken))
 
 generic-set-lists-lengths-requires : tie.Need-generic-set-lists-lengths-requires
 generic-set-lists-lengths-requires c κs = tt
@@ -48,17 +48,17 @@ put-list-requires : tie.Need-put-list-requires
 put-list-requires c κs = c .before .before .if1 .left
 
 returns-2 : tie.Need-returns-2
-returns-2 c = no-such-lengths roomCounts _ (one-lengths _ _ _ (c .before .before .operation-of .ensures) (c .enum-told .given .1))
+returns-2 c = no-such-lengths roomCounts _ (one-lengths _ _ _ _ (c .before .before .operation-of .ensures) (c .enum-told .given .1))
 
 returns-3 : tie.Need-returns-3
-returns-3 c = no-such-lengths roomCounts _ (no-set-lengths _ _ _ (c .before .before .operation-of .ensures) (c .enum-told2 .given .1))
+returns-3 c = no-such-lengths roomCounts _ (no-set-lengths _ _ _ _ (c .before .before .operation-of .ensures) (c .enum-told2 .given .1))
 
 same-length : tie.Need-same-length
 same-length c = told c .put-list .kept .1 .0
 
 returns-4 : tie.Need-returns-4
 returns-4 c =
-    own-lengths roomCounts _ (set-lengths _ _ _ (looked c .operation-of .ensures) (named c .named .given .1)) (le-ltb _ 4 (long c .if1 .left)) (asked c .generic-set-lists-lengths .ensures) (told c .put-list .ensures)
+    own-lengths roomCounts _ (set-lengths _ _ _ _ (looked c .operation-of .ensures) (named c .named .given .1)) (le-ltb _ 4 (long c .if1 .left)) (asked c .generic-set-lists-lengths .ensures) (told c .put-list .ensures)
 
 pub duthlan-typed-lists-lengths-spec : {M : Type 1} → statement M
 duthlan-typed-lists-lengths-spec =

@@ -122,7 +122,7 @@ lists-refusal-requires : tie.Need-lists-refusal-requires
 lists-refusal-requires c κs = search needs
 
 returns : tie.Need-returns
-returns c = list-refused _ (size-refused _ _ (set-code _ _ _ (c .before .before .before .before .before .operation-of .ensures) (c .before .before .before .named .given .1)) (c .before .lists-refusal .ensures) (c .if1 .taken))
+returns c = list-refused _ (size-refused _ _ (set-code _ _ _ _ (c .before .before .before .before .before .operation-of .ensures) (c .before .before .before .named .given .1)) (c .before .lists-refusal .ensures) (c .if1 .taken))
 
 slice-aggregate-run : tie.Need-slice-aggregate-run
 slice-aggregate-run c = search needs
@@ -151,10 +151,10 @@ put-list-requires c κs =
     ready (r .ensures) (rw (r .kept .1 .1 .1 .1 .1 .1 .1 .1 .1 .1 .1 .1 .1 .1 .1 .0) (o .offsets)) (rw (r .kept .1 .1 .1 .1 .1 .1 .1 .1 .1 .1 .1 .1 .1 .1 .1 .1 .1 .0) (o .values)) refl refl (passed e .counts)
 
 returns-2 : tie.Need-returns-2
-returns-2 c = list-refused 102 (no-operation _ _ (one-code _ _ _ (c .before .before .operation-of .ensures) (c .enum-told .given .1)))
+returns-2 c = list-refused 102 (no-operation _ _ (one-code _ _ _ _ (c .before .before .operation-of .ensures) (c .enum-told .given .1)))
 
 returns-3 : tie.Need-returns-3
-returns-3 c = list-refused 102 (no-operation _ _ (no-set-code _ _ _ (c .before .before .operation-of .ensures) (c .enum-told2 .given .1)))
+returns-3 c = list-refused 102 (no-operation _ _ (no-set-code _ _ _ _ (c .before .before .operation-of .ensures) (c .enum-told2 .given .1)))
 
 same-length : tie.Need-same-length
 same-length c = put-list-of-slice-known10 c .put-list .kept .1 .1 .1 .0
@@ -174,7 +174,7 @@ same-length-5 c = put-list-of-slice-known10 c .put-list .kept .1 .1 .1 .1 .1 .0
 returns-4 : tie.Need-returns-4
 returns-4 c =
     let e = else1-of-slice-known10 c in
-    list-as (called _ _ (set-code _ _ _ (operation-of-of-slice-known10 c .operation-of .ensures) (named-of-slice-known10 c .named .given .1)) (lists-refusal-of-slice-known10 c .lists-refusal .ensures) (e .if1 .left)) (list-returns (run-of-slice-known10 c .run .ensures) (put-list-of-slice-known10 c .put-list .ensures))
+    list-as (called _ _ (set-code _ _ _ _ (operation-of-of-slice-known10 c .operation-of .ensures) (named-of-slice-known10 c .named .given .1)) (lists-refusal-of-slice-known10 c .lists-refusal .ensures) (e .if1 .left)) (list-returns (run-of-slice-known10 c .run .ensures) (put-list-of-slice-known10 c .put-list .ensures))
 
 pub enter-spec : {M : Type 1} → statement M
 enter-spec =

@@ -1,5 +1,6 @@
-use mathlib.Core.Path.{_≡_, sym, _∙_}
+use mathlib.Core.Path.{_≡_, refl, sym, _∙_}
 use mathlib.Core.Bool.{true}
+use native.Mathlib.Omega.{arith}
 use mir.Syntax.{w32, w64}
 use mir.Val.{SFits, toZ, ofZ}
 use borrow.Author.Tests.{not-true, not-false}
@@ -23,16 +24,16 @@ module _ (c : tie.Else1) where
   index-fits = rw (read-index (c .before .before)) at (sym (c .before .fits-i32 .ensures) ∙ not-false _ (c .if1 .left))
 
   index-small : SFits w32 (c .before .before .args .index)
-  index-small = fits-signed _ index-fits
+  index-small = fits-signed narrow refl w32 (omega arith) _ index-fits
 
 fits-i32-requires : tie.Need-fits-i32-requires
 fits-i32-requires c κs = search
 
 returns : tie.Need-returns
-returns c = to-unfit _ _ (rw (read-index (c .before .before)) at (sym (c .before .fits-i32 .ensures) ∙ not-true _ (c .if1 .taken)))
+returns c = to-unfit narrow _ _ (rw (read-index (c .before .before)) at (sym (c .before .fits-i32 .ensures) ∙ not-true _ (c .if1 .taken)))
 
 returns-2 : tie.Need-returns-2
-returns-2 c = to-empty-row _ _ (index-fits (c .before)) (length-none _ (rw (read-len (c .before .before .before)) at (c .if2 .taken)))
+returns-2 c = to-empty-row narrow _ _ (index-fits (c .before)) (length-none _ (rw (read-len (c .before .before .before)) at (c .if2 .taken)))
 
 cast-to-place : tie.Need-cast-to-place
 cast-to-place c = rw (read-index (c .before .before .before)) (index-small (c .before))
@@ -44,7 +45,7 @@ returns-3 : tie.Need-returns-3
 returns-3 c =
     let e = c .before .before in
     let s = e .before .before in
-    to-fits _ _ _ (index-fits e) (rw (read-index s, read-len s, read-back w32 _ (index-small e)) at (c .to-place .ensures))
+    to-fits narrow _ _ _ (index-fits e) (rw (read-index s, read-len s, read-back w32 _ (index-small e)) at (c .to-place .ensures))
 
 pub adjusted-to-index-spec : {M : Type 1} → statement M
 adjusted-to-index-spec =

@@ -1,7 +1,12 @@
 use mathlib.Core.Path.{_≡_, refl, _∙_}
-use lib.IntN.{ℤ}
+use Prim.Native.Nat.{ℕ, _<_}
+use native.Mathlib.Omega.{arith}
+use lib.IntN.{pos}
+use mir.Facts.{toZ-pos}
 use mir.Syntax.{w32, w64}
-use mir.Val.{toZ, ofZ}
+use mir.Val.{toZ}
+use Rattle.model.specs.Column.{count}
+use Rattle.model.specs.Limits.{narrow}
 use Rattle.model.specs.Slice.{between}
 use Rattle.index.specs.Plan.{planOf, boundTold}
 use Rattle.index.proofs.SignedLaws.{read-back}
@@ -15,17 +20,23 @@ module _ (c : tie.After-known-told2) where
   abbrev start : tie.Start
   start = c .before .before .before .before .before .before
 
-  abbrev first : ℤ
+  abbrev first : ℕ
   first = c .before .before .before .before .from .given .0 .0
 
-  abbrev last : ℤ
+  abbrev last : ℕ
   last = c .before .to .given .0 .0
 
-  read-first : toZ w32 (ofZ w32 first) ≡ first
-  read-first = read-back w32 first (record { sfits = c .before .before .before .known-told .given .0 .1 })
+  first-small : first < narrow .offset
+  first-small = start .pre .0 first (c .before .before .before .before .from .given .1)
 
-  read-last : toZ w32 (ofZ w32 last) ≡ last
-  read-last = read-back w32 last (record { sfits = c .known-told2 .given .0 .1 })
+  last-small : last < narrow .offset
+  last-small = start .pre .1 last (c .before .to .given .1)
+
+  read-first : toZ w32 first ≡ pos first
+  read-first = toZ-pos w32 (omega (arith, first-small))
+
+  read-last : toZ w32 last ≡ pos last
+  read-last = toZ-pos w32 (omega (arith, last-small))
 
 -- ---- each way
 
@@ -56,41 +67,47 @@ enum-told-7 c = search
 enum-known-to : tie.Need-enum-known-to
 enum-known-to c = search
 
+cast-plan-steps : tie.Need-cast-plan-steps
+cast-plan-steps c = record { sfits = omega (arith, first-small c) }
+
+cast-plan-steps-2 : tie.Need-cast-plan-steps-2
+cast-plan-steps-2 c = record { sfits = omega (arith, last-small c) }
+
 plan-steps-requires : tie.Need-plan-steps-requires
 plan-steps-requires c κs =
     rw (read-first c, read-last c)
-    (start c .pre .0 (first c) (c .before .before .before .before .from .given .1), start c .pre .1 (last c) (c .before .to .given .1))
+    (record { natural = tt; small = first-small c }, record { natural = tt; small = last-small c })
 
 returns : tie.Need-returns
 unfolding boundTold between planOf
-returns c = let a = c .before .before .args in between-found (a .from) (a .to) _ (a .to) (a .stride) (c .enum-told .given .1) refl
+returns c = let a = c .before .before .args in between-found narrow (a .from) (a .to) _ (a .to) (a .stride) (c .enum-told .given .1) refl
 
 returns-2 : tie.Need-returns-2
 unfolding boundTold between planOf
-returns-2 c = between-found _ _ _ _ _ (c .before .before .enum-told2 .given .1) (c .enum-told3 .given .1)
+returns-2 c = between-found narrow _ _ _ _ _ (c .before .before .enum-told2 .given .1) (c .enum-told3 .given .1)
 
 returns-3 : tie.Need-returns-3
 unfolding boundTold between planOf
-returns-3 c = between-found _ _ _ _ _ (c .before .before .enum-told2 .given .1) (c .enum-told4 .given .1)
+returns-3 c = between-found narrow _ _ _ _ _ (c .before .before .enum-told2 .given .1) (c .enum-told4 .given .1)
 
 returns-4 : tie.Need-returns-4
 unfolding boundTold between planOf
-returns-4 c = between-found _ _ _ _ _ (c .before .before .enum-told2 .given .1) (c .enum-told5 .given .1)
+returns-4 c = between-found narrow _ _ _ _ _ (c .before .before .enum-told2 .given .1) (c .enum-told5 .given .1)
 
 returns-5 : tie.Need-returns-5
 unfolding boundTold between planOf
-returns-5 c = between-found _ _ _ _ _ (c .before .before .before .from .given .1) (c .enum-told6 .given .1)
+returns-5 c = between-found narrow _ _ _ _ _ (c .before .before .before .from .given .1) (c .enum-told6 .given .1)
 
 returns-6 : tie.Need-returns-6
 unfolding boundTold between planOf
-returns-6 c = between-found _ _ _ _ _ (c .before .before .before .from .given .1) (c .enum-told7 .given .1)
+returns-6 c = between-found narrow _ _ _ _ _ (c .before .before .before .from .given .1) (c .enum-told7 .given .1)
 
 returns-7 : tie.Need-returns-7
-unfolding boundTold between planOf
+unfolding boundTold between planOf count
 returns-7 c =
     let t = c .before in
     rw (read-first t, read-last t, read-back w64 _ (start t .fits .stride)) at (c .plan-steps .ensures)
-    ∙ between-found _ _ _ _ _ (t .before .before .before .before .from .given .1) (t .before .to .given .1)
+    ∙ between-found narrow _ _ _ _ _ (t .before .before .before .before .from .given .1) (t .before .to .given .1)
 
 pub plan-between-spec : {M : Type 1} → statement M
 plan-between-spec =
@@ -105,6 +122,8 @@ plan-between-spec =
     enum-told-6
     enum-told-7
     enum-known-to
+    cast-plan-steps
+    cast-plan-steps-2
     plan-steps-requires
     returns
     returns-2

@@ -1,14 +1,16 @@
-use mathlib.Core.Path.{_≡_, sym, _∙_}
+use mathlib.Core.Path.{_≡_, refl, sym, _∙_}
 use mathlib.Core.Bool.{true, false}
+use native.Mathlib.Omega.{arith}
+use lib.IntN.{pos}
 use mir.Syntax.{w32, w64}
 use mir.Val.{toZ, ofZ}
 use borrow.Author.Needs.{needs}
 use borrow.Author.Tests.{not-true, not-false}
 use Rattle.model.specs.Column.{count}
 use Rattle.model.specs.Limits.{narrow}
-use Rattle.model.specs.Slice.{fits, isZero, against}
+use Rattle.model.specs.Slice.{fits, isZero, against, stepCount}
 use Rattle.index.specs.Plan.{Suits}
-use Rattle.index.proofs.SignedLaws.{read-back}
+use Rattle.index.proofs.SignedLaws.{read-back, casts}
 use Rattle.index.proofs.IndexLaws.{fits-signed}
 use Rattle.index.proofs.SliceLaws.{bits-zero, bits-some, stride-zero, stride-against, stride-unfit, stride-steps}
 use Rattle.index.proofs.slice.plan_steps.Statement.{statement}
@@ -48,40 +50,53 @@ module _ (c : tie.Else3) where
   stride-fits = sym (size (c .before)) ∙ not-false _ (c .if3 .left)
 
   read-by : toZ w32 (ofZ w32 (start .args .stride)) ≡ start .args .stride
-  read-by = read-back w32 _ (fits-signed _ stride-fits)
+  read-by = read-back w32 _ (fits-signed narrow refl w32 (omega arith) _ stride-fits)
 
-  suits : Suits (start .args .from) (start .args .to) (start .args .stride)
+  suits : Suits narrow (start .args .from) (start .args .to) (start .args .stride)
   suits = record { from = start .pre .0; to = start .pre .1; some = some (c .before .before .before .before); direction = not-against (c .before .before) }
 
 -- ---- each way
 
 returns : tie.Need-returns
-returns c = stride-zero _ _ _ (bits-zero _ (c .before .fits .stride) (c .if1 .taken))
+returns c = stride-zero narrow _ _ _ (bits-zero _ (c .before .fits .stride) (c .if1 .taken))
 
 is-against-requires : tie.Need-is-against-requires
 is-against-requires c κs = search needs
 
 returns-2 : tie.Need-returns-2
-returns-2 c = stride-against _ _ _ (some (c .before .before)) (sym (direction (c .before)) ∙ c .if2 .taken)
+returns-2 c = stride-against narrow _ _ _ (some (c .before .before)) (sym (direction (c .before)) ∙ c .if2 .taken)
 
 fits-i32-requires : tie.Need-fits-i32-requires
 fits-i32-requires c κs = search
 
 returns-3 : tie.Need-returns-3
-returns-3 c = stride-unfit _ _ _ (some (c .before .before .before .before)) (not-against (c .before .before)) (sym (size (c .before)) ∙ not-true _ (c .if3 .taken))
+returns-3 c = stride-unfit narrow _ _ _ (some (c .before .before .before .before)) (not-against (c .before .before)) (sym (size (c .before)) ∙ not-true _ (c .if3 .taken))
 
-cast-by : tie.Need-cast-by
-cast-by c = rw (read-stride (start c)) (fits-signed _ (stride-fits c))
+cast-count-steps : tie.Need-cast-count-steps
+cast-count-steps c = rw (read-stride (start c)) (fits-signed narrow refl w32 (omega arith) _ (stride-fits c))
 
 count-steps-requires : tie.Need-count-steps-requires
 count-steps-requires c κs = let s = start c in rw (read-from s, read-to s, read-stride s, read-by c) (suits c)
+
+-- the number of places
+module _ (c : tie.After-count-steps) where
+  read-count : toZ w32 (ofZ w32 (c .count-steps .result)) ≡ c .count-steps .result
+  read-count = read-back w32 _ (record { sfits = c .count-steps .ok })
+
+  many : let s = start (c .before) in c .count-steps .result ≡ pos (stepCount (count (s .args .from)) (count (s .args .to)) (s .args .stride))
+  many = let s = start (c .before) in rw (read-from s, read-to s, read-stride s, read-by (c .before)) at (c .count-steps .ensures)
+
+cast-t9 : tie.Need-cast-t9
+cast-t9 c = let s = start (c .before) in rw (read-from s) (casts w32 _ tt (s .fits .from) (s .pre .0 .natural))
+
+cast-t10 : tie.Need-cast-t10
+cast-t10 c = rw (read-count c) (casts w32 (c .count-steps .result) tt (record { sfits = c .count-steps .ok }) (rw (many c) tt))
 
 returns-4 : tie.Need-returns-4
 returns-4 c =
     let e = c .before in
     let s = start e in
-    let n = rw (read-from s, read-to s, read-stride s, read-by e) at (c .count-steps .ensures) in
-    rw (read-from s, read-stride s, read-by e, read-back w32 _ (record { sfits = c .count-steps .ok }), n) (stride-steps _ _ _ (suits e) (stride-fits e))
+    rw (read-from s, read-stride s, read-count c, many c) (stride-steps narrow _ _ _ (suits e) (stride-fits e))
 
 pub plan-steps-spec : {M : Type 1} → statement M
 plan-steps-spec =
@@ -92,6 +107,8 @@ plan-steps-spec =
     returns-2
     fits-i32-requires
     returns-3
-    cast-by
+    cast-count-steps
     count-steps-requires
+    cast-t9
+    cast-t10
     returns-4)

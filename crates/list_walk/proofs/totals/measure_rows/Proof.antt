@@ -2,8 +2,10 @@ use mathlib.Core.Path.{_≡_, sym, ap, _∙_}
 use Prim.Native.Nat.{ℕ, _+_, _-_, _<_}
 use native.Mathlib.Omega.{arith}
 use Rattle.model.specs.Bitmap.{Bits, from}
+use Rattle.model.specs.Limits.{Limits}
+use Rattle.model.specs.Widths.{used, limitsAt}
 use Rattle.model.specs.Column.{Row, Column, column, Arguments, arguments, offsetAt}
-use Rattle.model.specs.Limits.{narrow}
+use Rattle.model.proofs.WidthLaws.{limits-fit}
 use Rattle.column.specs.Rows.{ReadableRowˡ}
 use Rattle.column.proofs.WalkLaws.{Summing, between, sum-more}
 use Rattle.list_walk.specs.Made.{rowMadeAt, refusalAt}
@@ -15,14 +17,17 @@ use Rattle.list_walk.proofs.totals.measure_rows.Statement.{statement}
 use Rattle.list_walk.proofs.totals.measure_rows.Tie as tie
 
 abbrev Inv-loop : tie.InvT-loop
-Inv-loop op offsets rows rstart values elements estart xs xbits xstart ys ybits ystart zs zbits zstart n found₀ r₀ left₀ found r left =
-    Measuring (rowMadeAt op (column offsets (from rstart rows) values (from estart elements)) (arguments xs (from xstart xbits)) (arguments ys (from ystart ybits)) (arguments zs (from zstart zbits))) (refusalAt op (column offsets (from rstart rows) values (from estart elements)) (arguments xs (from xstart xbits)) (arguments ys (from ystart ybits)) (arguments zs (from zstart zbits))) n (offsetAt offsets r) found r left
+Inv-loop op offsets rows rstart values elements estart xs xbits xstart ys ybits ystart zs zbits zstart width large n found₀ r₀ left₀ found r left =
+    Measuring (rowMadeAt (limitsAt width) op (column (used width offsets large) (from rstart rows) values (from estart elements)) (arguments xs (from xstart xbits)) (arguments ys (from ystart ybits)) (arguments zs (from zstart zbits))) (refusalAt (limitsAt width) op (column (used width offsets large) (from rstart rows) values (from estart elements)) (arguments xs (from xstart xbits)) (arguments ys (from ystart ybits)) (arguments zs (from zstart zbits))) n (offsetAt (used width offsets large) r) (limitsAt width .offset) found r left
 
 abbrev μ-loop : tie.MeasureT-loop
-μ-loop op offsets rows rstart values elements estart xs xbits xstart ys ybits ystart zs zbits zstart n found₀ r₀ left₀ found r left = left
+μ-loop op offsets rows rstart values elements estart xs xbits xstart ys ybits ystart zs zbits zstart width large n found₀ r₀ left₀ found r left = left
+
+abbrev N : tie.Start Inv-loop μ-loop → Limits
+N s = limitsAt (s .args .width)
 
 abbrev C : tie.Start Inv-loop μ-loop → Column
-C s = let a = s .args in column (a .offsets .now) (from (a .rstart) (a .rows .now)) (a .values .now) (from (a .estart) (a .elements .now))
+C s = let a = s .args in column (used (a .width) (a .offsets .now) (a .large .now)) (from (a .rstart) (a .rows .now)) (a .values .now) (from (a .estart) (a .elements .now))
 
 abbrev X : tie.Start Inv-loop μ-loop → Arguments
 X s = arguments (s .args .xs .now) (from (s .args .xstart) (s .args .xbits .now))
@@ -37,10 +42,10 @@ abbrev S : tie.At-loop Inv-loop μ-loop → tie.Start Inv-loop μ-loop
 S l = l .before .before .before .before .before .before .before
 
 abbrev W : tie.At-loop Inv-loop μ-loop → ℕ → Row
-W l = let s = S l in rowMadeAt (s .args .op) (C s) (X s) (Y s) (Z s)
+W l = let s = S l in rowMadeAt (N s) (s .args .op) (C s) (X s) (Y s) (Z s)
 
 abbrev K : tie.At-loop Inv-loop μ-loop → ℕ → ℕ
-K l = let s = S l in refusalAt (s .args .op) (C s) (X s) (Y s) (Z s)
+K l = let s = S l in refusalAt (N s) (s .args .op) (C s) (X s) (Y s) (Z s)
 
 -- row r of a turn can be read
 reads : (q : tie.After-offset-at2 Inv-loop μ-loop) → let l = q .before .before .before in ReadableRowˡ (C (S l) .rows) (l .before .row-count .result) (C (S l) .values) (C (S l) .elements) (l .loop .r) (q .before .offset-at .result) (q .offset-at2 .result)
@@ -53,10 +58,10 @@ refuses : (k : tie.After-refusal-of Inv-loop μ-loop) → let l = k .before .bef
 refuses k =
     let q = k .before .before in
     let s = S (q .before .before .before) in
-    k .refusal-of .ensures ∙ refusal-of (s .args .op) (C s) (X s) (Y s) (Z s) (q .before .before .before .loop .r) (q .before .offset-at .result) (q .offset-at2 .result) (k .before .op-at .result) (q .before .offset-at .ensures .0) (q .offset-at2 .ensures .0) (k .before .op-at .ensures)
+    k .refusal-of .ensures ∙ refusal-of (N s) (s .args .op) (C s) (X s) (Y s) (Z s) (q .before .before .before .loop .r) (q .before .offset-at .result) (q .offset-at2 .result) (k .before .op-at .result) (q .before .offset-at .ensures .0) (q .offset-at2 .ensures .0) (k .before .op-at .ensures)
 
 -- the walk after it
-more : (m : tie.After-measure Inv-loop μ-loop) → let l = m .before .before .before .before .before .before .before in Summing (W l) (l .before .row-count .result) (m .before .before .before .before .offset-at2 .result) (narrow .offset) (l .loop .found + m .measure .result) (l .loop .r + 1) (l .loop .left - 1)
+more : (m : tie.After-measure Inv-loop μ-loop) → let l = m .before .before .before .before .before .before .before in Summing (W l) (l .before .row-count .result) (m .before .before .before .before .offset-at2 .result) (N (S l) .offset) (l .loop .found + m .measure .result) (l .loop .r + 1) (l .loop .left - 1)
 more m =
     let q = m .before .before .before .before in
     let l = q .before .before .before in
@@ -64,16 +69,16 @@ more m =
     let a = q .before .offset-at in
     let b = q .offset-at2 in
     let o = m .before .before .before .op-at in
-    sum-more (W l) (l .before .row-count .result) (narrow .offset) (m .measure .result) (a .result) (b .result) (l .loop .inv .sums) (q .before .before .loop-test .taken)
-    (m .measure .ensures ∙ length-of (s .args .op) (C s) (X s) (Y s) (Z s) (l .loop .r) (a .result) (b .result) (o .result) (a .ensures .0) (b .ensures .0) (o .ensures))
-    (rw (m .measure .ensures) (length-le (s .args .op) (C s) (X s) (Y s) (Z s) (l .loop .r) (a .result) (b .result) (o .result) (a .ensures .0) (b .ensures .0) (o .ensures) (s .pre .1 .1)))
+    sum-more (W l) (l .before .row-count .result) (N s .offset) (m .measure .result) (a .result) (b .result) (l .loop .inv .sums) (q .before .before .loop-test .taken)
+    (m .measure .ensures ∙ length-of (N s) (s .args .op) (C s) (X s) (Y s) (Z s) (l .loop .r) (a .result) (b .result) (o .result) (a .ensures .0) (b .ensures .0) (o .ensures))
+    (rw (m .measure .ensures) (length-le (N s) (s .args .op) (C s) (X s) (Y s) (Z s) (l .loop .r) (a .result) (b .result) (o .result) (a .ensures .0) (b .ensures .0) (o .ensures) (s .pre .1 .1)))
     (reads q .rises) (sym (a .ensures .0)) (b .ensures .1)
 
 row-count-requires : tie.Need-row-count-requires Inv-loop μ-loop
 row-count-requires c κs = search
 
 loop-holds : tie.Need-loop-holds Inv-loop μ-loop
-loop-holds c = measuring-begun _ _ _ _
+loop-holds c = measuring-begun _ _ _ _ _
 
 offset-at-requires : tie.Need-offset-at-requires Inv-loop μ-loop
 offset-at-requires c κs = omega (arith, c .before .before .row-count .ensures, c .before .loop .inv .sums .rows, c .loop-test .taken)
@@ -99,16 +104,16 @@ returns c =
     let k = c .before in
     let l = k .before .before .before .before .before in
     let s = S l in
-    (rows-stop (s .args .op) (C s) (X s) (Y s) (Z s) (l .before .row-count .result) (l .before .row-count .ensures) (k .refusal-of .result) (measuring-stops (W l) (K l) (l .loop .inv) (k .refusal-of .result) (k .before .before .before .before .loop-test .taken) (refuses k) (c .if1 .taken)) (c .if1 .taken), omega arith)
+    (rows-stop (N s) (s .args .op) (C s) (X s) (Y s) (Z s) (l .before .row-count .result) (l .before .row-count .ensures) (k .refusal-of .result) (measuring-stops (W l) (K l) (l .loop .inv) (k .refusal-of .result) (k .before .before .before .before .loop-test .taken) (refuses k) (c .if1 .taken)) (c .if1 .taken), omega arith)
 
 measure-requires : tie.Need-measure-requires Inv-loop μ-loop
 measure-requires c κs =
     let q = c .before .before .before in
     let s = S (q .before .before .before) in
-    (record { inside = omega (arith, reads q .rises, reads q .inside); bits = reads q .elements }, op-doable (s .args .op) (C s .rows) (X s) (Y s) (Z s) (q .before .before .before .loop .r) _ (c .before .before .op-at .result) (c .before .before .op-at .ensures) (omega (arith, q .offset-at2 .ensures .1)))
+    (record { inside = omega (arith, reads q .rises, reads q .inside); bits = reads q .elements }, op-doable (N s) (s .args .op) (C s .rows) (X s) (Y s) (Z s) (q .before .before .before .loop .r) _ (c .before .before .op-at .result) (c .before .before .op-at .ensures) (omega (arith, q .offset-at2 .ensures .1, limits-fit (s .args .width) .offset)))
 
 add-found : tie.Need-add-found Inv-loop μ-loop
-add-found c = omega (arith, more c .small)
+add-found c = omega (arith, more c .small, limits-fit (S (c .before .before .before .before .before .before .before) .args .width) .offset)
 
 add-r : tie.Need-add-r Inv-loop μ-loop
 add-r c = omega (arith, c .before .before .before .before .before .before .before .loop .inv .sums .rows, c .before .before .before .before .before .before .loop-test .taken)
@@ -130,7 +135,7 @@ returns-2 c =
     let l = c .before in
     let s = S l in
     let d = measuring-done (W l) (K l) (l .loop .inv) (omega (arith, c .loop-test .left)) in
-    (rows-end (s .args .op) (C s) (X s) (Y s) (Z s) (l .before .row-count .result) (l .before .row-count .ensures) (l .loop .found) (d .0) (d .1), l .loop .inv .sums .small)
+    (rows-end (N s) (s .args .op) (C s) (X s) (Y s) (Z s) (l .before .row-count .result) (l .before .row-count .ensures) (l .loop .found) (d .0) (d .1), l .loop .inv .sums .small)
 
 pub measure-rows-spec : {M : Type 1} → statement M
 measure-rows-spec =

@@ -5,7 +5,6 @@ use lib.ListN.{length}
 use Rattle.model.specs.Basics.{tab}
 use Rattle.model.specs.Bitmap.{Bits, from}
 use Rattle.model.specs.Column.{Arguments, arguments}
-use Rattle.model.specs.Limits.{narrow}
 use Rattle.model.specs.Recipe.{Step, stepAt}
 use Rattle.recipe_limits.specs.Limited.{StepsThere, limitsIn}
 use Rattle.recipe_limits.proofs.LimitedLaws.{limit-le, limits-last, limits-next, none-left, more-left, step-counted, next-steps}
@@ -63,8 +62,8 @@ module _ (t : ℕ) where
   there : (s : steps-limits-lts.Start (Cs t) (steps-limits-at t) steps-limits.Post) → StepsThere (s .args .numbers .now) (s .args .n) (length (s .args .args .now)) (s .args .k) (s .args .left)
   there s = s .pre .1 .0
 
-  small : (c : steps-limits-lts.After-step-limit (Cs t) (steps-limits-at t) steps-limits.Post) → c .step-limit .result ≤ narrow .offset
-  small c = let s = limited c in rw (c .step-limit .ensures) (limit-le (B s) (s .args .n) (A s) (s .args .second) (Now s .code) (Now s .first) (s .args .came))
+  small : (c : steps-limits-lts.After-step-limit (Cs t) (steps-limits-at t) steps-limits.Post) → c .step-limit .result ≤ limited c .args .most
+  small c = let s = limited c in rw (c .step-limit .ensures) (limit-le (s .args .most) (B s) (s .args .n) (A s) (s .args .second) (Now s .code) (Now s .first) (s .args .came))
 
   -- ---- needs
 
@@ -93,7 +92,7 @@ module _ (t : ℕ) where
   steps-limits-returns c =
       let w = c .before in
       let s = limited w in
-      limits-last (B s) (s .args .n) (A s) (s .args .second) (Now s) (s .args .came) (w .step-limit .result) (w .step-limit .ensures) (Next s) (none-left (there s) (c .if1 .taken))
+      limits-last (s .args .most) (B s) (s .args .n) (A s) (s .args .second) (Now s) (s .args .came) (w .step-limit .result) (w .step-limit .ensures) (Next s) (none-left (there s) (c .if1 .taken))
 
   steps-limits-add-steps-limits : steps-limits-lts.Need-add-steps-limits (Cs t) (steps-limits-at t) steps-limits.Post
   steps-limits-add-steps-limits c = let s = limited (c .before) in omega (arith, there s .there, there s .some, s .good .0)
@@ -115,7 +114,7 @@ module _ (t : ℕ) where
       let r = c .before in
       let w = r .before .before in
       let s = limited w in
-      limits-next (B s) (s .args .n) (A s) (s .args .second) (Now s) (s .args .came) (w .step-limit .result) (w .step-limit .ensures) (Next s) _ _ (limitsIn (r .steps-limits .result)) _ (more-left (there s) (r .before .if1 .left)) (r .steps-limits .ensures) (c .greater .ensures)
+      limits-next (s .args .most) (B s) (s .args .n) (A s) (s .args .second) (Now s) (s .args .came) (w .step-limit .result) (w .step-limit .ensures) (Next s) _ _ (limitsIn (r .steps-limits .result)) _ (more-left (there s) (r .before .if1 .left)) (r .steps-limits .ensures) (c .greater .ensures)
 
 pub +steps-limits-spec : {M : Type 1} → statement M
 +steps-limits-spec = close μ-steps-limits λ t. steps-limits-lts.spec (Cs t)

@@ -7,10 +7,10 @@ use Rattle.recipe_limits.proofs.limits.counts_over.Statement.{statement
 use Rattle.recipe_limits.proofs.limits.counts_over.Tie as tie
 
 abbrev Inv-loop : tie.InvT-loop
-Inv-loop rows rstart n args bits start a sum₀ r₀ left₀ sum r left = Counting (countAt (from rstart rows) (arguments args (from start bits)) a) n sum r left
+Inv-loop rows rstart n args bits start a most sum₀ r₀ left₀ sum r left = Counting most (countAt (from rstart rows) (arguments args (from start bits)) a) n sum r left
 
 abbrev μ-loop : tie.MeasureT-loop
-μ-loop rows rstart n args bits start a sum₀ r₀ left₀ sum r left = left
+μ-loop rows rstart n args bits start a most sum₀ r₀ left₀ sum r left = left
 
 -- ---- places: the start, a turn, and the walk there
 
@@ -26,7 +26,7 @@ walk c = turn c .before
 -- ---- needs
 
 loop-holds : tie.Need-loop-holds Inv-loop μ-loop
-loop-holds c = counts-begun _ _
+loop-holds c = counts-begun _ _ _
 
 count-at-requires : tie.Need-count-at-requires Inv-loop μ-loop
 count-at-requires c κs =
@@ -47,11 +47,11 @@ loop-less : tie.Need-loop-less Inv-loop μ-loop
 loop-less c = omega (arith, turn c .loop-test .taken)
 
 loop-again : tie.Need-loop-again Inv-loop μ-loop
-loop-again c = counts-more _ _ (walk c .loop .inv) _ _ (turn c .loop-test .taken) (c .before .count-at .ensures) (c .plus .ensures)
+loop-again c = counts-more _ _ _ (walk c .loop .inv) _ _ (turn c .loop-test .taken) (c .before .count-at .ensures) (c .plus .ensures)
 
 returns : tie.Need-returns Inv-loop μ-loop
 unfolding countsFrom
-returns c = counts-done _ _ (c .before .loop .inv) (c .loop-test .left)
+returns c = counts-done _ _ _ (c .before .loop .inv) (c .loop-test .left)
 
 pub counts-over-spec : {M : Type 1} → statement M
 counts-over-spec =

@@ -21,16 +21,16 @@ counts-over-requires : tie.Need-counts-over-requires
 counts-over-requires c κs = let p = S c .pre in (p .0, (p .1 .0, p .1 .1 .0 (c .if1 .taken)))
 
 returns : tie.Need-returns
-returns c = c .counts-over .ensures ∙ limit-resized _ _ _ _ _ _ _ (c .before .if1 .taken)
+returns c = c .counts-over .ensures ∙ limit-resized _ _ _ _ _ _ _ _ (c .before .if1 .taken)
 
 plus-requires : tie.Need-plus-requires
 plus-requires c κs = other (c .before) .pre .1 .1 .1
 
 returns-2 : tie.Need-returns-2
-returns-2 c = c .plus .ensures ∙ limit-united _ _ _ _ _ _ _ (c .before .before .if1 .left) (c .before .if2 .taken)
+returns-2 c = c .plus .ensures ∙ limit-united _ _ _ _ _ _ _ _ (c .before .before .if1 .left) (c .before .if2 .taken)
 
 returns-3 : tie.Need-returns-3
-returns-3 c = limit-other _ _ _ _ _ _ _ (c .before .if1 .left) (c .if2 .left) (other (c .before) .pre .1 .1 .1)
+returns-3 c = limit-other _ _ _ _ _ _ _ _ (c .before .if1 .left) (c .if2 .left) (other (c .before) .pre .1 .1 .1)
 
 pub step-limit-spec : {M : Type 1} → statement M
 step-limit-spec = tie.close (tie.spec mul-counts-over counts-over-requires returns plus-requires returns-2 returns-3)

@@ -1,105 +1,80 @@
-use mathlib.Core.Path.{_≡_, ap, _∙_}
+use mathlib.Core.Path.{_≡_, _∙_}
 use Prim.Native.Nat.{ℕ, _<_}
 use native.Mathlib.Omega.{arith}
-use lib.IntN.{pos, natAbs}
-use mir.Syntax.{w32}
+use mir.Syntax.{w64}
 use mir.Val.{toZ, ofZ}
+use Rattle.index.proofs.SignedLaws.{read-back}
 use Rattle.model.specs.Basics.{tab}
 use Rattle.model.specs.Bitmap.{from}
 use Rattle.model.specs.Column.{Elem, elemAt}
-use Rattle.strides.proofs.StrideLaws.{back32, low, start-bits, Going, begin, room-for, here, turned, stop, taken-is, stepping, step-fits}
+use Rattle.strides.proofs.StrideLaws.{Going, begin, room-for, here, turned, stop, taken-is, follows, next-is}
 use Rattle.strides.proofs.strided.write_each_place.Statement.{statement}
 use Rattle.strides.proofs.strided.write_each_place.Tie as tie
 
 abbrev Inv-loop : tie.InvT-loop
 Inv-loop values elements estart a n start stride count out-values₀ out-elements₀ at p₀ left₀ k₀ out-values out-elements p left k =
-    Going (natAbs (toZ w32 start)) (toZ w32 stride) (natAbs (toZ w32 count)) (tab (elemAt values (from estart elements)) a n) at out-values₀ out-elements₀ left k out-values out-elements p
+    Going start (toZ w64 stride) count (tab (elemAt values (from estart elements)) a n) at out-values₀ out-elements₀ left k out-values out-elements p
 
 abbrev μ-loop : tie.MeasureT-loop
 μ-loop values elements estart a n start stride count out-values₀ out-elements₀ at p₀ left₀ k₀ out-values out-elements p left k = left
 
 abbrev S : tie.At-loop Inv-loop μ-loop → tie.Start Inv-loop μ-loop
-S l = l .before .before .before .before
+S l = l .before .before .before
 
 abbrev E : tie.Start Inv-loop μ-loop → ℕ → Elem
 E s = elemAt (s .args .values .now) (from (s .args .estart) (s .args .elements .now))
 
--- the numbers are read as they were written
-module _ (s : tie.Start Inv-loop μ-loop) where
-  read-start : toZ w32 (ofZ w32 (s .args .start)) ≡ s .args .start
-  read-start = back32 (s .args .start) (s .fits .start)
+read-stride : (s : tie.Start Inv-loop μ-loop) → toZ w64 (ofZ w64 (s .args .stride)) ≡ s .args .stride
+read-stride s = read-back w64 (s .args .stride) (s .fits .stride)
 
-  read-stride : toZ w32 (ofZ w32 (s .args .stride)) ≡ s .args .stride
-  read-stride = back32 (s .args .stride) (s .fits .stride)
-
-  read-count : toZ w32 (ofZ w32 (s .args .count)) ≡ s .args .count
-  read-count = back32 (s .args .count) (s .fits .count)
-
--- what the loop keeps, of the numbers themselves
+-- what the loop keeps, of the stride itself
 going : (l : tie.At-loop Inv-loop μ-loop)
-    → let s = S l in Going (natAbs (s .args .start)) (s .args .stride) (natAbs (s .args .count)) (tab (E s) (s .args .a) (s .args .n)) (s .args .at) (s .args .out-values .now) (s .args .out-elements .now) (l .loop .left) (l .loop .k) (l .loop .out-values) (l .loop .out-elements) (l .loop .p)
-going l = rw (read-start (S l), read-stride (S l), read-count (S l)) at (l .loop .inv)
+    → let s = S l in Going (s .args .start) (s .args .stride) (s .args .count) (tab (E s) (s .args .a) (s .args .n)) (s .args .at) (s .args .out-values .now) (s .args .out-elements .now) (l .loop .left) (l .loop .k) (l .loop .out-values) (l .loop .out-elements) (l .loop .p)
+going l = rw (read-stride (S l)) at (l .loop .inv)
 
-module _ (c : tie.In-loop Inv-loop μ-loop) where
-  below : c .before .loop .p < S (c .before) .args .n
-  below = here (going (c .before)) _ (S (c .before) .pre .1 .0 .reach) (c .loop-test .taken)
-
-  plain : toZ w32 (c .before .loop .p) ≡ pos (c .before .loop .p)
-  plain = low _ (omega (arith, below, S (c .before) .pre .1 .0 .small))
-
-index : (c : tie.After-to-usize2 Inv-loop μ-loop) → c .to-usize2 .result ≡ c .before .before .loop .p
-index c = rw (plain (c .before)) at (c .to-usize2 .ensures)
-
-to-usize-requires : tie.Need-to-usize-requires Inv-loop μ-loop
-to-usize-requires c κs = let s = c .before .before in rw (read-count s) (s .pre .1 .0 .many)
+below : (c : tie.In-loop Inv-loop μ-loop) → c .before .loop .p < S (c .before) .args .n
+below c = here (going (c .before)) _ (S (c .before) .pre .1 .0 .reach) (c .loop-test .taken)
 
 loop-holds : tie.Need-loop-holds Inv-loop μ-loop
-loop-holds c =
-    let s = c .before .before .before in
-    rw (c .to-usize .ensures, read-start s, read-stride s, read-count s, start-bits _ (s .pre .1 .0 .from)) (begin _ _ _ _ _ _ _)
-
-to-usize-requires-2 : tie.Need-to-usize-requires-2 Inv-loop μ-loop
-to-usize-requires-2 c κs = rw (plain c) tt
+loop-holds c = begin _ _ _ _ _ _ _
 
 add-i : tie.Need-add-i Inv-loop μ-loop
-add-i c = let i = c .before in omega (arith, i, index c, below i, S (i .before) .pre .0 .inside)
+add-i c = omega (arith, c, below c, S (c .before) .pre .0 .inside)
 
 write-elem-requires : tie.Need-write-elem-requires Inv-loop μ-loop
 write-elem-requires c κs =
-    let q = c .before .before in
-    let i = q .before in
+    let i = c .before .before in
     let s = S (i .before) in
-    (omega (arith, index q, below i, s .pre .0 .inside), (s .pre .0 .bits, room-for (going (i .before)) (i .loop-test .taken) (s .pre .1 .1)))
+    (omega (arith, below i, s .pre .0 .inside), (s .pre .0 .bits, room-for (going (i .before)) (i .loop-test .taken) (s .pre .1 .1)))
 
 add-k : tie.Need-add-k Inv-loop μ-loop
 add-k c =
-    let i = c .before .before .before .before .before .before .before in
+    let i = c .before .before .before .before .before .before in
     let r = room-for (going (i .before)) (i .loop-test .taken) (S (i .before) .pre .1 .1) in
     omega (arith, i, S (i .before))
 
 sub-left : tie.Need-sub-left Inv-loop μ-loop
-sub-left c = omega (arith, c .before .before .before .before .before .before .before)
+sub-left c = omega (arith, c .before .before .before .before .before .before)
 
 place-after-requires : tie.Need-place-after-requires Inv-loop μ-loop
 place-after-requires c κs =
-    λ h. let i = c .before .before .before .before .before .before .before in
+    λ h. let i = c .before .before .before .before .before .before in
     let s = S (i .before) in
-    rw (plain i, read-stride s) (step-fits (going (i .before)) _ (s .pre .1 .0 .reach) h (s .pre .1 .0 .small))
+    rw (read-stride s) (follows (going (i .before)) _ (s .pre .1 .0 .reach) h (s .pre .1 .0 .small))
 
 loop-less : tie.Need-loop-less Inv-loop μ-loop
-loop-less c = omega (arith, c .before .before .before .before .before .before .before .before)
+loop-less c = omega (arith, c .before .before .before .before .before .before .before)
 
 loop-again : tie.Need-loop-again Inv-loop μ-loop
 loop-again c =
     let w = c .before .before .before .before .write-elem in
-    let q = c .before .before .before .before .before .before .before in
-    let i = q .before in
+    let i = c .before .before .before .before .before .before .before in
     let g = going (i .before) in
     let s = S (i .before) in
-    let e = taken-is (E s) (s .args .a) (s .args .n) (natAbs (s .args .start)) (s .args .stride) _ _ (index q ∙ g .place (i .loop-test .taken)) (omega (arith, index q, below i)) in
-    rw (read-start s, read-stride s, read-count s)
+    let e = taken-is (E s) (s .args .a) (s .args .n) (s .args .start) (s .args .stride) _ _ (g .place (i .loop-test .taken)) (below i) in
+    rw (read-stride s)
     (turned g (i .loop-test .taken) (rw e (w .ensures .0)) (rw e (w .ensures .1))
-    (λ h. ap (ofZ w32) ((rw (plain i, read-stride s) at (c .place-after .ensures h)) ∙ stepping g _ (s .pre .1 .0 .reach) h)))
+    (λ h. (rw (read-stride s) at (c .place-after .ensures h)) ∙ next-is g _ (s .pre .1 .0 .reach) h))
 
 same-length : tie.Need-same-length Inv-loop μ-loop
 same-length c = going (c .before) .writing .lv
@@ -116,9 +91,7 @@ write-each-place-spec =
     (tie.spec
     Inv-loop
     μ-loop
-    to-usize-requires
     loop-holds
-    to-usize-requires-2
     add-i
     write-elem-requires
     add-k

@@ -1,0 +1,25 @@
+use mir.Syntax.{w64}
+use Rattle.index.proofs.ReadLaws as laws
+use Rattle.large_index.proofs.slice.from_place.Statement.{statement}
+use Rattle.large_index.proofs.slice.from_place.Tie as tie
+
+add-at : tie.Need-add-at
+add-at c = let s = c .before in laws.from-end-fits w64 _ _ (s .fits .index) (s .fits .len) (s .pre) (c .if1 .taken)
+
+returns : tie.Need-returns
+returns c = let s = c .before .before in laws.from-before w64 _ _ (s .fits .index) (s .fits .len) (s .pre) (c .before .if1 .taken) (c .if2 .taken)
+
+returns-2 : tie.Need-returns-2
+returns-2 c = let s = c .before .before in laws.from-back w64 _ _ (s .fits .index) (s .fits .len) (s .pre) (c .before .if1 .taken) (c .if2 .left)
+
+returns-3 : tie.Need-returns-3
+returns-3 c = let s = c .before .before in laws.from-first-place w64 _ _ (s .fits .index) (s .fits .len) (s .pre) (c .before .if1 .left) (c .if3 .taken)
+
+sub-result : tie.Need-sub-result
+sub-result c = let s = c .before .before in laws.less-fits w64 _ _ (s .fits .index) (s .fits .len) (c .if3 .left)
+
+returns-4 : tie.Need-returns-4
+returns-4 c = let s = c .before .before in laws.from-less w64 _ _ (s .fits .index) (s .fits .len) (s .pre) (c .if3 .left)
+
+pub from-place-spec : {M : Type 1} → statement M
+from-place-spec = tie.close (tie.spec add-at returns returns-2 returns-3 sub-result returns-4)

@@ -1,0 +1,152 @@
+// The places that a slice takes of a row, by signed 64-bit arithmetic: every bound and every stride fits.
+// After extract.rs of datafusion-functions-nested 55.2.0, Apache License 2.0, Apache Software Foundation; changed, see NOTICE.
+use index::Bound;
+use index::slice::SlicePlan;
+use index::slice::Stride;
+ghost use Prim.Native.Nat.{_+_, _/_, _<_, _≤_};
+ghost use Rattle.index.specs.Place.{bound};
+ghost use Rattle.index.specs.Plan.{IsPlace, Suits, isBelow, planOf, strideIn};
+ghost use Rattle.model.specs.Column.{count};
+ghost use Rattle.model.specs.Limits.{wide};
+ghost use Rattle.model.specs.Slice.{against, fromBound, fromPlace, slicePlan, stepCount, strided, toBound, toPlace};
+ghost use lib.IntN.{natAbs, pos};
+ghost use mathlib.Core.Bool.{true};
+ghost use mathlib.Core.Path.{_≡_};
+
+// The place of a from, which may still be past the end.
+fn from_place(index: i64, len: i64) -> i64
+    requires { ⌜ 0 < count len ⌝ }
+    ensures { λ r. ⌜ r ≡ pos (fromPlace (count len) index) ⌝ }
+{
+    if index < 0 {
+        let at = index + len;
+        if at < 0 {
+            return 0;
+        }
+        return at;
+    }
+    if index < 1 {
+        return 0;
+    }
+    index - 1
+}
+
+// A to past the end is the last place; any other counts as an index does.
+fn to_place(index: i64, len: i64) -> Bound
+    requires { ⌜ 0 < count len ⌝ }
+    ensures { λ r. ⌜ r ≡ bound (toPlace (count len) index) ⌝ }
+{
+    let last = len - 1;
+    if last < index {
+        return Bound::At(last as usize);
+    }
+    crate::index_place(index, len)
+}
+
+// From 0 or 1 is the first place, and so is a from below minus the length.
+pub fn adjusted_from_index(index: i64, len: i64) -> Bound
+    ensures { λ r. ⌜ r ≡ bound (fromBound wide (count len) index) ⌝ }
+{
+    if len < 1 {
+        return Bound::Outside;
+    }
+    let at = from_place(index, len);
+    if at < len {
+        return Bound::At(at as usize);
+    }
+    Bound::Outside
+}
+
+// To -1 is the last place, included.
+pub fn adjusted_to_index(index: i64, len: i64) -> Bound
+    ensures { λ r. ⌜ r ≡ bound (toBound wide (count len) index) ⌝ }
+{
+    if len < 1 {
+        return Bound::Outside;
+    }
+    to_place(index, len)
+}
+
+// Whether the stride leads away from to.
+fn is_against(from: i64, to: i64, stride: i64) -> bool
+    requires { ⌜ IsPlace wide from ⌝ }
+    requires { ⌜ IsPlace wide to ⌝ }
+    ensures { λ r. ⌜ r ≡ against (count from) (count to) stride ⌝ }
+{
+    if stride < 0 {
+        return from < to;
+    }
+    to < from
+}
+
+// One more than the steps that a distance holds, by a stride below 0: what is left falls by each of them, and its sum with the stride
+// stays in range, where the stride's size might not.
+fn count_down(distance: i64, stride: i64) -> i64
+    requires { ⌜ IsPlace wide distance ⌝ }
+    requires { ⌜ isBelow stride ≡ true ⌝ }
+    ensures { λ r. ⌜ r ≡ pos (count distance / natAbs stride + 1) ⌝ }
+{
+    let mut left = distance;
+    let mut taken: i64 = 1;
+    while 0 <= left + stride {
+        left += stride;
+        taken += 1;
+    }
+    taken
+}
+
+// How many places there are from from by stride, to included: one by one there are as many as the distance and one; else they are
+// counted by stepping, a stride above 0 turned round.
+fn count_steps(from: i64, to: i64, stride: i64) -> i64
+    requires { ⌜ Suits wide from to stride ⌝ }
+    ensures { λ r. ⌜ r ≡ pos (stepCount (count from) (count to) stride) ⌝ }
+{
+    if stride < 0 {
+        return count_down(from - to, stride);
+    }
+    let distance = to - from;
+    if stride == 1 {
+        return distance + 1;
+    }
+    count_down(distance, 0 - stride)
+}
+
+// The plan between two places of the row.
+fn plan_steps(from: i64, to: i64, stride: i64) -> SlicePlan
+    requires { ⌜ IsPlace wide from ⌝ }
+    requires { ⌜ IsPlace wide to ⌝ }
+    ensures { λ r. ⌜ r ≡ planOf (strided wide (count from) (count to) stride) ⌝ }
+{
+    if stride == 0 {
+        return SlicePlan::Refused(5);
+    }
+    if is_against(from, to, stride) {
+        return SlicePlan::Empty;
+    }
+    let count = count_steps(from, to, stride);
+    SlicePlan::Steps {
+        start: from as usize,
+        stride,
+        count: count as usize,
+    }
+}
+
+// The places that a slice takes of a row of len elements.
+pub fn compute_slice_plan(len: usize, from: i64, to: i64, stride: Stride) -> SlicePlan
+    requires { ⌜ len ≤ wide .offset ⌝ }
+    ensures { λ r. ⌜ r ≡ planOf (slicePlan wide len from to (strideIn stride)) ⌝ }
+{
+    if len == 0 {
+        return SlicePlan::Empty;
+    }
+    let n = len as i64;
+    let first = adjusted_from_index(from, n);
+    let last = adjusted_to_index(to, n);
+    match first {
+        Bound::At(a) => match last {
+            Bound::At(b) => plan_steps(a as i64, b as i64, index::slice::stride_of(stride)),
+            _ => SlicePlan::Empty,
+        },
+        _ => SlicePlan::Empty,
+    }
+}

@@ -1,0 +1,134 @@
+-- The call, then both trays cleared, then the tally.
+use mathlib.Core.Path.{_≡_, refl, ap, _∙_}
+use lib.IntN.{pos}
+use lib.ListN.{length, replicate}
+use Prim.Native.Nat.{ℕ}
+use Rattle.tally.proofs.TallyLaws.{tallied-is}
+use Rattle.large_recipes.proofs.run_recipe.Statement.{statement}
+use Rattle.large_recipes.proofs.run_recipe.Tie as tie
+
+-- ---- places: tray two cleared, tray one cleared, the call
+
+abbrev two : tie.After-settle → tie.After-clear-large2
+two c = c .before .before .before .before .before .before .before
+
+abbrev one : tie.After-settle → tie.After-clear-large
+one c = two c .before .before .before .before .before .before .before .before .before .before .before
+
+abbrev tried : tie.After-settle → tie.After-attempt
+tried c = one c .before .before .before .before .before .before .before .before .before .before .before .before .before .before .before .before .before .before .before .before .before .before .before .before .before .before
+
+-- ---- needs
+
+slice-aggregate-attempt : tie.Need-slice-aggregate-attempt
+slice-aggregate-attempt c = refl
+
+slice-aggregate-attempt-2 : tie.Need-slice-aggregate-attempt-2
+slice-aggregate-attempt-2 c = refl
+
+slice-aggregate-attempt-3 : tie.Need-slice-aggregate-attempt-3
+slice-aggregate-attempt-3 c = refl
+
+slice-aggregate-attempt-4 : tie.Need-slice-aggregate-attempt-4
+slice-aggregate-attempt-4 c = refl
+
+slice-aggregate-attempt-5 : tie.Need-slice-aggregate-attempt-5
+slice-aggregate-attempt-5 c = refl
+
+attempt-requires : tie.Need-attempt-requires
+attempt-requires c κs = tt
+
+clear-large-requires : tie.Need-clear-large-requires
+clear-large-requires c κs = tt
+
+clear-large-requires-2 : tie.Need-clear-large-requires-2
+clear-large-requires-2 c κs = tt
+
+settle-requires : tie.Need-settle-requires
+settle-requires c κs = tt
+
+same-length : tie.Need-same-length
+same-length c = one c .clear-large .kept .0 ∙ tried c .attempt .kept .1 .1 .1 .1 .1 .1 .1 .1 .1 .1 .1 .1 .1 .1 .1 .1 .1 .1 .1 .1 .1 .1 .1 .1 .1 .1 .1 .1 .1 .1 .1 .1 .1 .0
+
+same-length-2 : tie.Need-same-length-2
+same-length-2 c = one c .clear-large .kept .1 .0 ∙ tried c .attempt .kept .1 .1 .1 .1 .1 .1 .1 .1 .1 .1 .1 .1 .1 .1 .1 .1 .1 .1 .1 .0
+
+same-length-3 : tie.Need-same-length-3
+same-length-3 c = one c .clear-large .kept .1 .1 .0 ∙ tried c .attempt .kept .1 .1 .1 .1 .1 .1 .1 .1 .1 .1 .1 .1 .1 .1 .1 .1 .1 .1 .1 .1 .0
+
+same-length-4 : tie.Need-same-length-4
+same-length-4 c = one c .clear-large .kept .1 .1 .1 .0 ∙ tried c .attempt .kept .1 .1 .1 .1 .1 .1 .1 .1 .1 .1 .1 .1 .1 .1 .1 .1 .1 .1 .1 .1 .1 .0
+
+same-length-5 : tie.Need-same-length-5
+same-length-5 c = two c .clear-large2 .kept .0 ∙ tried c .attempt .kept .1 .1 .1 .1 .1 .1 .1 .1 .1 .1 .1 .1 .1 .1 .1 .1 .1 .1 .1 .1 .1 .1 .1 .1 .1 .1 .1 .1 .1 .1 .1 .1 .1 .1 .0
+
+same-length-6 : tie.Need-same-length-6
+same-length-6 c = two c .clear-large2 .kept .1 .0 ∙ tried c .attempt .kept .1 .1 .1 .1 .1 .1 .1 .1 .1 .1 .1 .1 .1 .1 .1 .1 .1 .1 .1 .1 .1 .1 .1 .0
+
+same-length-7 : tie.Need-same-length-7
+same-length-7 c = two c .clear-large2 .kept .1 .1 .0 ∙ tried c .attempt .kept .1 .1 .1 .1 .1 .1 .1 .1 .1 .1 .1 .1 .1 .1 .1 .1 .1 .1 .1 .1 .1 .1 .1 .1 .0
+
+same-length-8 : tie.Need-same-length-8
+same-length-8 c = two c .clear-large2 .kept .1 .1 .1 .0 ∙ tried c .attempt .kept .1 .1 .1 .1 .1 .1 .1 .1 .1 .1 .1 .1 .1 .1 .1 .1 .1 .1 .1 .1 .1 .1 .1 .1 .1 .0
+
+same-length-9 : tie.Need-same-length-9
+same-length-9 c = tried c .attempt .kept .1 .1 .1 .1 .1 .1 .1 .1 .1 .1 .1 .1 .1 .1 .1 .1 .1 .1 .1 .1 .1 .1 .1 .1 .1 .1 .1 .1 .1 .1 .1 .1 .1 .1 .1 .0
+
+same-length-10 : tie.Need-same-length-10
+same-length-10 c = tried c .attempt .kept .1 .1 .1 .1 .1 .1 .1 .1 .1 .1 .1 .1 .1 .1 .1 .1 .1 .1 .1 .1 .1 .1 .1 .1 .1 .1 .1 .0
+
+same-length-11 : tie.Need-same-length-11
+same-length-11 c = tried c .attempt .kept .1 .1 .1 .1 .1 .1 .1 .1 .1 .1 .1 .1 .1 .1 .1 .1 .1 .1 .1 .1 .1 .1 .1 .1 .1 .1 .1 .1 .0
+
+same-length-12 : tie.Need-same-length-12
+same-length-12 c = tried c .attempt .kept .1 .1 .1 .1 .1 .1 .1 .1 .1 .1 .1 .1 .1 .1 .1 .1 .1 .1 .1 .1 .1 .1 .1 .1 .1 .1 .1 .1 .1 .0
+
+returns : tie.Need-returns
+returns c =
+    let t = tried c in (
+      rw (c .settle .ensures .0) (t .attempt .ensures),
+      (
+        record {
+          offsets = one c .clear-large .ensures .0 ∙ ap (λ (n : ℕ). replicate n (pos 0)) (tried c .attempt .kept .1 .1 .1 .1 .1 .1 .1 .1 .1 .1 .1 .1 .1 .1 .1 .1 .1 .1 .1 .1 .1 .1 .1 .1 .1 .1 .1 .1 .1 .1 .1 .1 .1 .0);
+          rows = one c .clear-large .ensures .1 .0 ∙ ap (λ (n : ℕ). replicate n 0) (tried c .attempt .kept .1 .1 .1 .1 .1 .1 .1 .1 .1 .1 .1 .1 .1 .1 .1 .1 .1 .1 .1 .0);
+          values = one c .clear-large .ensures .1 .1 .0 ∙ ap (λ (n : ℕ). replicate n (pos 0)) (tried c .attempt .kept .1 .1 .1 .1 .1 .1 .1 .1 .1 .1 .1 .1 .1 .1 .1 .1 .1 .1 .1 .1 .0);
+          elements = one c .clear-large .ensures .1 .1 .1 ∙ ap (λ (n : ℕ). replicate n 0) (tried c .attempt .kept .1 .1 .1 .1 .1 .1 .1 .1 .1 .1 .1 .1 .1 .1 .1 .1 .1 .1 .1 .1 .1 .0);
+        },
+        (
+          record {
+            offsets = two c .clear-large2 .ensures .0 ∙ ap (λ (n : ℕ). replicate n (pos 0)) (tried c .attempt .kept .1 .1 .1 .1 .1 .1 .1 .1 .1 .1 .1 .1 .1 .1 .1 .1 .1 .1 .1 .1 .1 .1 .1 .1 .1 .1 .1 .1 .1 .1 .1 .1 .1 .1 .0);
+            rows = two c .clear-large2 .ensures .1 .0 ∙ ap (λ (n : ℕ). replicate n 0) (tried c .attempt .kept .1 .1 .1 .1 .1 .1 .1 .1 .1 .1 .1 .1 .1 .1 .1 .1 .1 .1 .1 .1 .1 .1 .1 .0);
+            values = two c .clear-large2 .ensures .1 .1 .0 ∙ ap (λ (n : ℕ). replicate n (pos 0)) (tried c .attempt .kept .1 .1 .1 .1 .1 .1 .1 .1 .1 .1 .1 .1 .1 .1 .1 .1 .1 .1 .1 .1 .1 .1 .1 .1 .0);
+            elements = two c .clear-large2 .ensures .1 .1 .1 ∙ ap (λ (n : ℕ). replicate n 0) (tried c .attempt .kept .1 .1 .1 .1 .1 .1 .1 .1 .1 .1 .1 .1 .1 .1 .1 .1 .1 .1 .1 .1 .1 .1 .1 .1 .1 .0);
+          },
+          c .settle .ensures .1 ∙ tallied-is _ _ _ _ (t .attempt .ensures .answer),
+        ),
+      ),
+    )
+
+pub run-recipe-spec : {M : Type 1} → statement M
+run-recipe-spec =
+    tie.close
+    (tie.spec
+    slice-aggregate-attempt
+    slice-aggregate-attempt-2
+    slice-aggregate-attempt-3
+    slice-aggregate-attempt-4
+    slice-aggregate-attempt-5
+    attempt-requires
+    clear-large-requires
+    clear-large-requires-2
+    settle-requires
+    same-length
+    same-length-2
+    same-length-3
+    same-length-4
+    same-length-5
+    same-length-6
+    same-length-7
+    same-length-8
+    same-length-9
+    same-length-10
+    same-length-11
+    same-length-12
+    returns)

@@ -1,3 +1,0 @@
-pub mod CallLaws
-pub mod FitLaws
-pub mod StationLaws

@@ -5,7 +5,8 @@
 
 use crate::coverage::{self, Coverage, SHARED};
 use crate::entry::{decode_i64, decode_offsets, decode_tally, decode_u32};
-use crate::entry::{Case, Content, Expected, Input, Route, SliceKind, TALLY, TALLY_BYTES};
+use crate::entry::{Case, Content, Entry, Expected, Input, Route, SliceKind};
+use crate::entry::{TALLY, TALLY_BYTES};
 use crate::generate::untaken_column;
 use crate::lending;
 use crate::library::Library;
@@ -13,6 +14,7 @@ use crate::model::{is_valid, ArgumentColumn, Tally, Width, UNDER_NULL};
 use crate::numbers::{bytes_of, bytes_of_mut};
 use crate::recipe_coverage;
 use crate::rng::Rng;
+use crate::view_coverage;
 use std::borrow::Cow;
 use std::ops::Range;
 
@@ -205,8 +207,8 @@ impl<'a> Checker<'a> {
         if self.asks {
             return self.ask(case);
         }
-        if case.entry.is_wide() {
-            return self.check_large(case);
+        if case.entry.is_typed_only() {
+            return self.check_typed_only(case);
         }
         self.begin_call();
         let expected = case.expected();
@@ -229,8 +231,8 @@ impl<'a> Checker<'a> {
         observed.expect("a call is made in one way at least")
     }
 
-    /// Makes a call of large lists, which have typed entries alone.
-    fn check_large(&mut self, case: &Case) -> Observed {
+    /// Makes a call of large lists or of ListView columns, which have typed entries alone.
+    fn check_typed_only(&mut self, case: &Case) -> Observed {
         self.begin_call();
         let typed_case = self.typed_case(case);
         let expected = typed_case.expected_typed();
@@ -396,6 +398,9 @@ impl<'a> Checker<'a> {
     ) -> u32 {
         let (counts, outputs) = slices.split_last_mut().expect("counts are always lent");
         let (entry, starts, library) = (case.entry, &case.starts, self.library);
+        if let (true, Some(views)) = (entry.is_view(), &library.views) {
+            return views.call(entry, lent, starts, outputs, counts);
+        }
         match (route, &library.typed, &library.large) {
             (_, _, Some(large)) if entry.is_wide() && asks => {
                 large.lending.ask(entry, lent, starts, counts)
@@ -480,6 +485,9 @@ impl<'a> Checker<'a> {
         if case.entry.is_recipe() {
             return self.record_recipe(case, expected);
         }
+        if case.entry == Entry::IMPORT {
+            return self.record_view(case, expected);
+        }
         if !matches!(expected.number, 0 | 3..=9) {
             return;
         }
@@ -509,6 +517,18 @@ impl<'a> Checker<'a> {
         }
         for (kind, subject) in recipe_coverage::met(case, expected) {
             self.covered(case, kind, subject);
+        }
+    }
+
+    fn record_view(&mut self, case: &Case, expected: &Expected) {
+        for (kind, subject) in view_coverage::met(&case.view(), expected.number) {
+            self.covered(case, kind, subject);
+        }
+        if expected.number == 0 {
+            for subject in coverage::output_lengths(case, expected) {
+                self.covered(case, "outputs", subject);
+            }
+            self.record_null_slots(case, expected);
         }
     }
 
@@ -650,7 +670,9 @@ fn show(kind: SliceKind, bytes: &[u8]) -> String {
         Content::Offsets if kind.width == 8 => {
             format!("{:?}", decode_offsets(bytes, Width::Wide))
         }
-        Content::Offsets => format!("{:?}", decode_offsets(bytes, Width::Narrow)),
+        Content::Offsets | Content::ViewOffsets | Content::Sizes => {
+            format!("{:?}", decode_offsets(bytes, Width::Narrow))
+        }
         Content::Numbers => format!("{:?}", decode_u32(bytes)),
         Content::Values | Content::RowValues => format!("{:?}", decode_i64(bytes)),
         Content::Tally if bytes.len() >= TALLY_BYTES => {

@@ -17,6 +17,7 @@ use crate::model::{
 };
 use crate::recipe_coverage;
 use crate::strides;
+use crate::view_coverage;
 use std::borrow::Cow;
 use std::collections::BTreeMap;
 
@@ -40,7 +41,7 @@ impl Coverage {
 }
 
 /// The subjects whose conditions hold.
-fn chosen<const N: usize>(subjects: [&'static str; N], holds: [bool; N]) -> Vec<&'static str> {
+pub fn chosen<const N: usize>(subjects: [&'static str; N], holds: [bool; N]) -> Vec<&'static str> {
     subjects.into_iter().zip(holds).filter(|(_, holds)| *holds).map(|(name, _)| name).collect()
 }
 
@@ -201,21 +202,21 @@ pub fn argument_layouts(argument: &ArgumentColumn) -> Vec<&'static str> {
 }
 
 /// A 1 behind the last position, in its byte.
-fn has_spare_bit(bitmap: &Bitmap, positions: usize) -> bool {
+pub fn has_spare_bit(bitmap: &Bitmap, positions: usize) -> bool {
     let end = bitmap.start + positions;
     end % 8 != 0 && !bitmap.bytes.is_empty() && bitmap.bytes[end / 8] >> (end % 8) != 0
 }
 
 /// A 1 before the starting bit.
-fn has_bit_before(bitmap: &Bitmap) -> bool {
+pub fn has_bit_before(bitmap: &Bitmap) -> bool {
     bitmap.bytes.first().is_some_and(|byte| byte & !(0xff << bitmap.start) != 0)
 }
 
-fn is_exact(bitmap: &Bitmap, positions: usize) -> bool {
+pub fn is_exact(bitmap: &Bitmap, positions: usize) -> bool {
     !bitmap.bytes.is_empty() && bitmap.bytes.len() == bitmap.needed(positions)
 }
 
-fn is_longer(bitmap: &Bitmap, positions: usize) -> bool {
+pub fn is_longer(bitmap: &Bitmap, positions: usize) -> bool {
     bitmap.bytes.len() > bitmap.needed(positions)
 }
 
@@ -375,7 +376,7 @@ pub fn demanded_null_slots() -> Vec<(&'static str, String)> {
     NULL_SLOTS.map(|name| ("result slots", name.to_string())).to_vec()
 }
 
-const OUTPUT_LENGTHS: [&str; 3] = ["exactly long enough", "longer", "counts longer"];
+pub const OUTPUT_LENGTHS: [&str; 3] = ["exactly long enough", "longer", "counts longer"];
 
 pub fn output_lengths(case: &Case, expected: &Expected) -> Vec<&'static str> {
     let mut lengths = case.outputs.iter().zip(&expected.written);
@@ -416,6 +417,7 @@ const TYPED: [&str; 10] = [
 pub fn typed_met(case: &Case, typed: &Case, number: u32) -> Vec<Cow<'static, str>> {
     let answer = Cow::Owned(format!("answer {number}"));
     let met = match number {
+        0 if case.entry == Entry::IMPORT => Vec::new(),
         0 => accepted_typed_met(case, typed),
         NOT_SERVED => not_served_met(typed),
         _ => Vec::new(),
@@ -431,7 +433,7 @@ const FOR_PLACES: [&str; 3] =
 
 fn not_served_met(typed: &Case) -> Vec<&'static str> {
     let entry = typed.entry;
-    if !entry.is_recipe() && entry.typed_operation().is_none() {
+    if !entry.is_served() {
         return vec![FOR_CODE];
     }
     let short_counts = typed.counts.len() < entry.count_bytes();
@@ -552,6 +554,7 @@ fn outcome_of(entry: Entry, rows: &[&Row], arguments: &[Element]) -> Cow<'static
             Some([None, ..]) => "null lists",
             Some([Some(_), ..]) => "lists",
         },
+        Ok(Made::Views(made)) => made[0].as_ref().map_or("null", |_| "view"),
         Ok(Made::TooLong(_)) => "too long",
     };
     Cow::Borrowed(name)
@@ -1022,12 +1025,14 @@ fn unequal_columns(input: &Input) -> Vec<Column> {
 /// The outputs that the result of an operation does not fit.
 fn short_outputs(case: &Case, input: &Input) -> Vec<&'static str> {
     let operation = case.entry.known_operation();
-    let width = case.entry.width;
-    let Ok(made) = model::rows_made(width, operation, &input.lists, input.taken()) else {
-        return Vec::new();
-    };
+    let made = model::rows_made(case.entry.width, operation, &input.lists, input.taken());
+    made.map_or(Vec::new(), |made| outputs_short_for(case, &made))
+}
+
+/// The outputs that this result does not fit.
+fn outputs_short_for(case: &Case, made: &Made) -> Vec<&'static str> {
     let lengths = case.lengths(case.entry.results());
-    let slots = model::slots_needed(&made).into_iter().zip(lengths);
+    let slots = model::slots_needed(made).into_iter().zip(lengths);
     let kinds = case.entry.outputs().iter().zip(slots);
     kinds.filter(|(_, (needed, lent))| *needed > *lent as u64).map(|(kind, _)| kind.name).collect()
 }
@@ -1035,8 +1040,14 @@ fn short_outputs(case: &Case, input: &Input) -> Vec<&'static str> {
 /// What calls met that show the same and share this answer: the number, and the one column, output,
 /// step or way to be malformed that it comes from.
 pub fn shared_met(case: &Case, number: u32) -> Vec<String> {
-    let input = case.decode();
     let mut met = vec![number.to_string()];
+    if case.entry == Entry::IMPORT {
+        let made = case.view().imported();
+        let short = made.map_or(Vec::new(), |made| outputs_short_for(case, &made));
+        met.extend(short.iter().filter(|_| short.len() == 1).map(|name| shared_9(name)));
+        return met;
+    }
+    let input = case.decode();
     if number == 3 {
         if let [column] = unequal_columns(&input)[..] {
             met.push(shared_3(column, case.entry));
@@ -1402,7 +1413,7 @@ pub fn answers(entry: Entry) -> Vec<u32> {
     answers.extend(others.then_some(3));
     answers.extend(entry.refusals().iter().filter(|_| operation != Operation::Union));
     answers.extend([9, 100]);
-    if !entry.is_wide() {
+    if !entry.is_typed_only() {
         answers.push(101);
         answers.extend(entry.with_code(0).map(|_| 102));
     }
@@ -1482,21 +1493,24 @@ fn demanded(entry: Entry) -> Vec<(&'static str, String)> {
     add("damage", Harm::of(entry).iter().map(|harm| harm.name(entry)).collect());
     add("order", demanded_orders(entry));
     add(SHARED, demanded_shared(entry));
-    for way in ["ragged", "over size", "at size"].into_iter().filter(|_| !entry.is_wide()) {
+    for way in ["ragged", "over size", "at size"].into_iter().filter(|_| !entry.is_typed_only()) {
         let slices = entry.inputs().into_iter().chain(entry.outputs().iter().copied());
         let numbers = slices.filter(|kind| kind.most.is_some());
         add(way, numbers.map(|kind| kind.name.to_string()).collect());
     }
     add("row", demanded_of_rows(entry));
-    match entry.is_wide() {
-        true => add("beside the narrow call", vec!["equal rows".to_string()]),
-        false => add("ragged", vec!["counts".to_string()]),
+    if entry.is_wide() {
+        add("beside the narrow call", vec!["equal rows".to_string()]);
+    } else if !entry.is_view() {
+        add("ragged", vec!["counts".to_string()]);
     }
     all.extend(demanded_no_offsets(entry));
     all.extend(demanded_null_slots());
     all.extend(demanded_starts(entry, &shared_answers(entry)));
     all.extend(demanded_typed(entry, &answers(entry)));
-    all.extend(demanded_lending(entry));
+    if !entry.is_view() {
+        all.extend(demanded_lending(entry));
+    }
     all
 }
 
@@ -1518,8 +1532,13 @@ impl Coverage {
     /// What a whole run must reach for the operations of the library and did not.
     pub fn missing(&self, library: &Library) -> Vec<String> {
         let mut missing = Vec::new();
-        for entry in library.operations() {
-            for (kind, subject) in demanded(entry) {
+        let views = [Entry::IMPORT, Entry::EXPORT].into_iter().filter(|entry| library.has(*entry));
+        for entry in library.operations().chain(views) {
+            let demanded = match entry {
+                Entry::IMPORT => view_coverage::demanded(),
+                _ => demanded(entry),
+            };
+            for (kind, subject) in demanded {
                 if !self.reached(entry.name(), kind, &subject) {
                     missing.push(format!("{}: {kind} {subject}", entry.name()));
                 }
@@ -1548,7 +1567,7 @@ impl Coverage {
     pub fn print(&self) {
         println!("covered, as calls by operation:");
         let rows = |entry: Entry| (entry.name(), demanded_of_rows(entry));
-        let entries = Width::ALL.into_iter().flat_map(Entry::all);
+        let entries = Width::ALL.into_iter().flat_map(Entry::all).chain([Entry::EXPORT]);
         let rows: BTreeMap<&str, Vec<String>> = entries.map(rows).collect();
         let mut line = String::new();
         let mut last = ("", "");

@@ -17,6 +17,7 @@ pub const LIBRARY: Library = Library {
     recipe: Some(recipe),
     typed: None,
     large: None,
+    views: None,
 };
 
 fn decode_i32<'a>(bytes: &[u8], array: &'a mut [i32]) -> &'a [i32] {

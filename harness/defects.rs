@@ -1,7 +1,8 @@
 //! The names of the deliberately wrong versions of the library, which mock.rs, mock_rows.rs,
-//! mock_recipe.rs, mock_typed.rs and mock_lending.rs ask for.
+//! mock_recipe.rs, mock_typed.rs, mock_lending.rs and mock_views.rs ask for.
 
 use crate::entry::{Content, Entry};
+use crate::mock_views::{EXPORT_DEFECTS, IMPORT_DEFECTS};
 use crate::model::Width;
 use std::sync::OnceLock;
 
@@ -261,6 +262,8 @@ const TYPED_DEFECTS: &[(By, &str, &[&str])] = &[
     (By::Large, "large remove", &["large-limits-cut-to-32-bits"]),
     (By::Large, "large list-repeat", LARGE_REPEAT_DEFECTS),
     (By::Large, "large recipe", LARGE_RECIPE_DEFECTS),
+    (By::Typed, "import view", IMPORT_DEFECTS),
+    (By::Typed, "export view", EXPORT_DEFECTS),
 ];
 
 const LARGE_SLICE_DEFECTS: &[&str] = &[

@@ -1,6 +1,7 @@
 //! The C entries: which slices each takes, how columns lie in them, and the answers that an entry
 //! gives by itself: over bytes 100, 101 and 102, typed 100 alone. A case is one call, as bytes; the
-//! bytes of whole numbers are what a typed call is lent. Large lists have typed entries alone.
+//! bytes of whole numbers are what a typed call is lent. Large lists and ListView columns have typed
+//! entries alone.
 //!
 //! An operation is added by its line in `OPERATIONS`, an entry by its arm in each function of
 //! `Entry`. The recipe's entry reaches no operation of its own; its trays and its tally, which go
@@ -10,6 +11,7 @@ use crate::model::{
     self, ArgumentColumn, Bitmap, ListColumn, Operation, Recipe, RecipeRefusal, ResultForm, Role,
     Shown, Slots, Tally, Width,
 };
+use crate::views::ViewColumn;
 use std::ops::Range;
 
 pub const RAGGED: u32 = 100;
@@ -54,6 +56,8 @@ pub enum Kind {
     ListWith(u32),
     ListRepeat,
     Recipe { station: u32, columns: usize },
+    ImportView,
+    ExportView,
 }
 
 impl Kind {
@@ -101,6 +105,9 @@ pub enum Content {
     Bits,
     Numbers,
     Tally,
+    /// The offsets of views, one a row, and their sizes.
+    ViewOffsets,
+    Sizes,
 }
 
 /// One slice of an entry: bytes a slot, and the most slots that the entry takes (bitmaps and the
@@ -142,6 +149,11 @@ pub const MOST_ARGUMENTS: usize = 32768;
 
 const fn offsets(name: &'static str, most_rows: usize) -> SliceKind {
     SliceKind { name, content: Content::Offsets, width: 4, most: Some(most_rows + 1) }
+}
+
+/// One number of 32 bits a row.
+const fn views(name: &'static str, content: Content) -> SliceKind {
+    SliceKind { name, content, width: 4, most: Some(MOST_ROWS) }
 }
 
 const fn values(name: &'static str) -> SliceKind {
@@ -189,6 +201,21 @@ const LIST_OF_LISTS_ANSWER: [SliceKind; 6] = [
     bits("output rows"),
     offsets("inner offsets", MOST_INNER_ROWS),
     bits("inner rows"),
+    values("output values"),
+    bits("output elements"),
+];
+
+const VIEW: [SliceKind; 5] = [
+    views("offsets", Content::ViewOffsets),
+    views("sizes", Content::Sizes),
+    bits("rows"),
+    values("values"),
+    bits("elements"),
+];
+const VIEW_ANSWER: [SliceKind; 5] = [
+    views("output offsets", Content::ViewOffsets),
+    views("output sizes", Content::Sizes),
+    bits("output rows"),
     values("output values"),
     bits("output elements"),
 ];
@@ -256,13 +283,23 @@ impl Entry {
         OPERATIONS.into_iter().map(move |(kind, ..)| kind.at(width))
     }
 
+    /// The entries for ListView columns.
+    pub const IMPORT: Entry = Kind::ImportView.at(Width::Narrow);
+    pub const EXPORT: Entry = Kind::ExportView.at(Width::Narrow);
+
     /// The entry for an operation.
     pub fn of(operation: Operation, width: Width) -> Entry {
+        if operation == Operation::ExportView {
+            return Entry::EXPORT;
+        }
         let line = OPERATIONS.iter().find(|(_, one, ..)| *one == operation);
         line.expect("every operation has an entry").0.at(width)
     }
 
     pub fn operation(self) -> Option<Operation> {
+        if self.kind == Kind::ExportView {
+            return Some(Operation::ExportView);
+        }
         let line = OPERATIONS.iter().find(|(kind, ..)| *kind == self.kind);
         line.map(|(_, operation, ..)| *operation)
     }
@@ -296,6 +333,21 @@ impl Entry {
         self.width == Width::Wide
     }
 
+    /// Whether it is for ListView columns.
+    pub fn is_view(self) -> bool {
+        matches!(self.kind, Kind::ImportView | Kind::ExportView)
+    }
+
+    /// Whether there is no such entry over bytes.
+    pub fn is_typed_only(self) -> bool {
+        self.is_wide() || self.is_view()
+    }
+
+    /// Whether its typed entry serves it, by its code if it takes one.
+    pub fn is_served(self) -> bool {
+        self.typed_operation().is_some() || self.is_recipe() || self.is_view()
+    }
+
     /// The entry of recipes, for station 0 and without columns.
     pub fn recipes(width: Width) -> Entry {
         Kind::Recipe { station: 0, columns: 0 }.at(width)
@@ -318,6 +370,8 @@ impl Entry {
     pub fn name(self) -> &'static str {
         let names = match OPERATIONS.iter().find(|(kind, ..)| *kind == self.kind) {
             _ if self.is_recipe() => ["recipe", "large recipe"],
+            _ if self.kind == Kind::ImportView => ["import view", "large import view"],
+            _ if self.kind == Kind::ExportView => ["export view", "large export view"],
             Some((_, _, name, large)) => [*name, *large],
             None => ["unknown", "large unknown"],
         };
@@ -337,11 +391,12 @@ impl Entry {
             Kind::Lists(_) => Kind::Lists(code),
             Kind::ListWith(_) => Kind::ListWith(code),
             Kind::AnyValue | Kind::Element | Kind::ListRepeat | Kind::Recipe { .. } => return None,
+            Kind::ImportView | Kind::ExportView => return None,
         };
         Some(kind.at(self.width))
     }
 
-    /// How many list columns come first among the inputs.
+    /// How many list columns, or ListView columns, come first among the inputs.
     pub fn lists(self) -> usize {
         match self.kind {
             Kind::Lists(_) | Kind::Recipe { .. } => 2,
@@ -362,6 +417,7 @@ impl Entry {
             Kind::ListRepeat => &TIMES,
             Kind::Recipe { .. } => &RECIPE_INPUTS[9..],
             Kind::List(_) | Kind::AnyValue | Kind::Lists(_) => &[],
+            Kind::ImportView | Kind::ExportView => &[],
         }
     }
 
@@ -381,9 +437,10 @@ impl Entry {
     }
 
     pub fn inputs(self) -> Vec<SliceKind> {
-        let mut kinds = match self.is_recipe() {
-            true => RECIPE_INPUTS.to_vec(),
-            false => [&LISTS[..4 * self.lists()], self.argument_kinds()].concat(),
+        let mut kinds = match self.kind {
+            Kind::Recipe { .. } => RECIPE_INPUTS.to_vec(),
+            Kind::ImportView => VIEW.to_vec(),
+            _ => [&LISTS[..4 * self.lists()], self.argument_kinds()].concat(),
         };
         let offsets = kinds.iter_mut().filter(|kind| kind.content == Content::Offsets);
         offsets.for_each(|kind| kind.width = self.width.bytes());
@@ -411,6 +468,7 @@ impl Entry {
             (Kind::ListRepeat, Width::Wide) => &LARGE_LIST_OF_LISTS_ANSWER,
             (Kind::Recipe { .. }, Width::Narrow) => &RECIPE_OUTPUTS,
             (Kind::Recipe { .. }, Width::Wide) => &LARGE_RECIPE_OUTPUTS,
+            (Kind::ExportView, _) => &VIEW_ANSWER,
             (_, Width::Narrow) => &LIST_ANSWER,
             (_, Width::Wide) => &LARGE_LIST_ANSWER,
         }
@@ -431,9 +489,13 @@ impl Entry {
         (end - 2, end - 1)
     }
 
-    /// The bytes of the counts that an accepted call writes: as many counts as result slices.
+    /// The bytes of the counts that an accepted call writes: as many counts as result slices, but
+    /// that export gives a list answer in five slices.
     pub fn count_bytes(self) -> usize {
-        8 * self.results().len()
+        match self.kind {
+            Kind::ExportView => 32,
+            _ => 8 * self.results().len(),
+        }
     }
 
     /// The slots of each result slice that a result with these counts takes.
@@ -443,6 +505,10 @@ impl Entry {
         let values_and_bits = |values: usize| [values, model::bitmap_bytes(values)];
         match counts[..] {
             [rows, _] => values_and_bits(rows).to_vec(),
+            [rows, elements, ..] if self.kind == Kind::ExportView => {
+                let views = [rows, rows, model::bitmap_bytes(rows)];
+                [&views[..], &values_and_bits(elements)].concat()
+            }
             [rows, elements, _, _] => [offsets_and_bits(rows), values_and_bits(elements)].concat(),
             [rows, elements, _, _, inner_rows, _] => {
                 let lists = [offsets_and_bits(rows), offsets_and_bits(inner_rows)];
@@ -600,10 +666,41 @@ impl Case {
         (self.entry, self.inputs, self.starts) = (input.entry, input.encode(), input.starts());
     }
 
-    /// The rows of the first list, counted by its offsets.
+    /// The rows of the first list, or of the views, counted by its offsets.
     pub fn row_count(&self) -> usize {
         let offsets = self.inputs[usize::from(self.entry.is_recipe())].len();
-        (offsets / self.entry.width.bytes()).max(1) - 1
+        match self.entry.kind {
+            Kind::ImportView => offsets / 4,
+            _ => (offsets / self.entry.width.bytes()).max(1) - 1,
+        }
+    }
+
+    /// The call of import with this column.
+    pub fn of_view(view: &ViewColumn, outputs: Vec<Vec<u8>>, counts: Vec<u8>) -> Case {
+        let inputs = vec![
+            encode_offsets(&view.offsets, Width::Narrow),
+            encode_offsets(&view.sizes, Width::Narrow),
+            view.rows.bytes.clone(),
+            encode_i64(&view.values),
+            view.elements.bytes.clone(),
+        ];
+        let starts = vec![view.rows.start, view.elements.start];
+        Case { entry: Entry::IMPORT, inputs, starts, outputs, counts }
+    }
+
+    /// The column that a call of import lends.
+    pub fn view(&self) -> ViewColumn {
+        let bitmap = |slice: usize, at: usize| Bitmap {
+            bytes: self.inputs[slice].clone(),
+            start: self.starts[at],
+        };
+        ViewColumn {
+            offsets: decode_offsets(&self.inputs[0], Width::Narrow),
+            sizes: decode_offsets(&self.inputs[1], Width::Narrow),
+            rows: bitmap(2, 0),
+            values: decode_i64(&self.inputs[3]),
+            elements: bitmap(4, 1),
+        }
     }
 
     /// The inputs with the width for which each is aligned, which is 1 over bytes.
@@ -636,12 +733,13 @@ impl Case {
         for (kind, bytes) in self.entry.inputs().into_iter().zip(&self.inputs) {
             match kind.content {
                 Content::Offsets => positions = (bytes.len() / kind.width).max(1) - 1,
+                Content::ViewOffsets => positions = bytes.len() / kind.width,
                 Content::Values | Content::RowValues => positions = bytes.len() / 8,
                 Content::Bits => {
                     let start = *starts.next().expect("a starting bit for each bitmap");
                     bitmaps.push((kind.name, bytes.as_slice(), start, positions));
                 }
-                Content::Numbers | Content::Tally => (),
+                Content::Numbers | Content::Tally | Content::Sizes => (),
             }
         }
         bitmaps.truncate(self.entry.taken_bitmaps().len());
@@ -683,8 +781,7 @@ impl Case {
 
     /// The answer that the typed entry gives before the columns are looked at.
     fn typed_own_answer(&self) -> Option<u32> {
-        let unknown = self.entry.typed_operation().is_none() && !self.entry.is_recipe();
-        (unknown || self.is_short_of_places()).then_some(NOT_SERVED)
+        (!self.entry.is_served() || self.is_short_of_places()).then_some(NOT_SERVED)
     }
 
     /// The answer that the byte entry gives before the columns are looked at.
@@ -709,6 +806,9 @@ impl Case {
 
     /// What the call starts from; None where a column is not well-formed.
     pub fn start(&self) -> Option<Start> {
+        if self.entry == Entry::IMPORT {
+            return self.start_of_view();
+        }
         let input = self.decode();
         let (lists, arguments) = (&input.lists, input.taken());
         model::are_well_formed(lists, arguments).then(|| Start {
@@ -720,15 +820,26 @@ impl Case {
         })
     }
 
+    fn start_of_view(&self) -> Option<Start> {
+        let view = self.view();
+        view.refusal().is_none().then(|| Start {
+            entry: self.entry,
+            numbers: Vec::new(),
+            shown: Shown { lists: vec![view.shown_rows()], arguments: Vec::new() },
+            lengths: self.lengths(self.entry.results()),
+            tally: None,
+        })
+    }
+
     /// The slots of these outputs.
     pub fn lengths(&self, outputs: Range<usize>) -> Vec<usize> {
         let kinds = self.entry.outputs()[outputs.clone()].iter();
         kinds.zip(&self.outputs[outputs]).map(|(kind, bytes)| bytes.len() / kind.width).collect()
     }
 
-    /// What the call over bytes must answer and write; of large lists, the typed one.
+    /// What the call over bytes must answer and write; where there is none, the typed one.
     pub fn expected(&self) -> Expected {
-        if self.entry.is_wide() {
+        if self.entry.is_typed_only() {
             return self.expected_typed();
         }
         self.expected_with(self.own_answer(), self.entry.operation())
@@ -746,11 +857,16 @@ impl Case {
         if let Some(number) = own {
             return Expected::refusal(number);
         }
-        let operation = operation.expect("a code that the entry knows");
-        let input = self.decode();
-        let taken = &input.arguments[..operation.roles().len()];
         let lengths = self.lengths(self.entry.results());
-        match model::outcome(self.entry.width, operation, &input.lists, taken, &lengths) {
+        let outcome = if self.entry == Entry::IMPORT {
+            self.view().outcome(&lengths)
+        } else {
+            let operation = operation.expect("a code that the entry knows");
+            let input = self.decode();
+            let taken = &input.arguments[..operation.roles().len()];
+            model::outcome(self.entry.width, operation, &input.lists, taken, &lengths)
+        };
+        match outcome {
             Ok(form) => Expected::accepted(&form, self.entry.width),
             Err(number) => Expected::refusal(number),
         }

@@ -170,20 +170,20 @@ pub fn random_layout(rng: &mut Rng) -> Layout {
 
 /// Values and their validity, while a column is laid out.
 #[derive(Default)]
-struct Places {
-    values: Vec<i64>,
-    valid: Vec<bool>,
+pub struct Places {
+    pub values: Vec<i64>,
+    pub valid: Vec<bool>,
 }
 
 impl Places {
-    fn push_hidden(&mut self, count: usize, rng: &mut Rng) {
+    pub fn push_hidden(&mut self, count: usize, rng: &mut Rng) {
         for _ in 0..count {
             self.values.push(random_value(rng));
             self.valid.push(rng.chance(1, 2));
         }
     }
 
-    fn push_shown(&mut self, element: Element, layout: Layout, rng: &mut Rng) {
+    pub fn push_shown(&mut self, element: Element, layout: Layout, rng: &mut Rng) {
         let hidden = match layout.numbers_under_nulls {
             true if rng.chance(1, 4) => 0,
             true => random_value(rng) | 1,
@@ -194,7 +194,7 @@ impl Places {
     }
 }
 
-fn bitmap_of(valid: &[bool], start: usize, layout: Layout, rng: &mut Rng) -> Bitmap {
+pub fn bitmap_of(valid: &[bool], start: usize, layout: Layout, rng: &mut Rng) -> Bitmap {
     let end = start + valid.len();
     let mut bytes = vec![0; bitmap_bytes(end)];
     if start > 0 {
@@ -897,11 +897,11 @@ impl Damage {
     }
 }
 
-fn absent_over_7(rng: &mut Rng) -> Bitmap {
+pub fn absent_over_7(rng: &mut Rng) -> Bitmap {
     Bitmap { bytes: Vec::new(), start: start_over_7(rng) }
 }
 
-fn one_byte_short(bitmap: &mut Bitmap, positions: usize) {
+pub fn one_byte_short(bitmap: &mut Bitmap, positions: usize) {
     let bytes = bitmap.needed(positions) - 1;
     bitmap.bytes.truncate(bytes);
 }

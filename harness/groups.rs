@@ -17,6 +17,7 @@ use crate::rng::Rng;
 use crate::starts;
 use crate::strides;
 use crate::typed_groups;
+use crate::view_groups;
 use crate::wide;
 use crate::worked;
 
@@ -168,6 +169,31 @@ pub fn all() -> Vec<Group> {
         groups.push(Group::new(kind.at(Width::Narrow), name, unknown_operations, 1, false));
     }
     groups.extend(of_width(Width::Wide));
+    groups.extend(of_views());
+    groups
+}
+
+/// The groups of ListView columns, all of whose calls are typed. Export has those of an operation on
+/// one list, but for what nothing is asked about.
+fn of_views() -> Vec<Group> {
+    let mut groups = Vec::new();
+    let mut add = |entry: Entry, name: &str, run: Run, shares: u64| {
+        let name = format!("{}: {name}", entry.name());
+        groups.push(Group::new(entry, name, run, shares, true));
+    };
+    for (name, run, shares) in view_groups::OF_IMPORT {
+        add(Entry::IMPORT, name, run, shares);
+    }
+    for (name, run) in view_groups::OF_EXPORT {
+        add(Entry::EXPORT, name, run, 0);
+    }
+    let own = FOR_EACH.into_iter().filter(|(name, ..)| *name != OWN_ANSWERS);
+    for (name, _, run, shares) in own.filter(|(_, applies, ..)| applies(Entry::EXPORT)) {
+        add(Entry::EXPORT, name, run, shares);
+    }
+    for (name, run) in TYPED_FOR_EACH.into_iter().filter(|(name, _)| !name.contains(" to lend, ")) {
+        add(Entry::EXPORT, name, run, 0);
+    }
     groups
 }
 
@@ -378,8 +404,8 @@ impl Refused {
             }
             4..=8 => self.refuse_some_row(number, rng),
             9 => shorten_an_output(&mut self.case, rng),
-            100 if self.case.entry.is_wide() => not_served(&mut self.case, rng),
-            101 | 102 if self.case.entry.is_wide() => false,
+            100 if self.case.entry.is_typed_only() => not_served(&mut self.case, rng),
+            101 | 102 if self.case.entry.is_typed_only() => false,
             100 => make_ragged(&mut self.case, rng),
             101 => over_size(&mut self.case, rng),
             102 => {
@@ -723,7 +749,7 @@ fn unknown_operations(checker: &mut Checker, entry: Entry, rng: &mut Rng, calls:
 
 // Random bytes in slices of random lengths.
 
-fn random_bytes(checker: &mut Checker, entry: Entry, rng: &mut Rng, calls: u64) {
+pub fn random_bytes(checker: &mut Checker, entry: Entry, rng: &mut Rng, calls: u64) {
     while checker.calls < calls.max(500) {
         checker.check(&random_case(entry, rng));
     }
@@ -777,11 +803,21 @@ pub fn random_slice(kind: SliceKind, rows: usize, rng: &mut Rng) -> Vec<u8> {
             rng.bytes(slots)
         }
         Content::Numbers => recipe_groups::random_numbers(rng),
+        Content::ViewOffsets | Content::Sizes => random_views(rows, rng),
         Content::Tally => unreachable!("a tally is no input"),
     };
     let more = ragged_end(kind, rng);
     bytes.extend(rng.bytes(more));
     bytes
+}
+
+/// Offsets or sizes of views over a small alphabet, now and then one too few or too many.
+fn random_views(rows: usize, rng: &mut Rng) -> Vec<u8> {
+    let slots = if rng.chance(1, 32) { rng.below(rows + 2) } else { rows };
+    let least = if rng.chance(1, 16) { -1 } else { 0 };
+    let most = rng.pick(&[0, 1, 2, 4, 8]);
+    let numbers: Vec<i64> = (0..slots).map(|_| rng.between(least, most)).collect();
+    encode_offsets(&numbers, Width::Narrow)
 }
 
 /// Offsets over a small alphabet, in order more often than not.

@@ -44,6 +44,11 @@
 //! An entry has a width: lists have offsets of 32 bits, large lists of 64. The groups run once for
 //! each, over the one reading in model.rs; those of large lists, which have typed entries alone, are
 //! named "large ..", and what they alone meet is in wide.rs.
+//!
+//! ListView columns have typed entries alone, too. They are read in views.rs; import has its groups
+//! in view_groups.rs and what these must reach in view_coverage.rs, export those of an operation on
+//! one list; the wrong versions of both are in mock_views.rs. `--operation 'import view'` and
+//! `--operation 'export view'` run their groups.
 
 mod bench;
 mod compare;
@@ -70,6 +75,8 @@ mod mock_recipe;
 mod mock_rows;
 #[cfg(mock)]
 mod mock_typed;
+#[cfg(mock)]
+mod mock_views;
 mod model;
 mod no_offsets;
 mod numbers;
@@ -88,6 +95,9 @@ mod typed;
 mod typed_groups;
 #[cfg(not(mock))]
 mod typed_port;
+mod view_coverage;
+mod view_groups;
+mod views;
 mod wide;
 mod worked;
 

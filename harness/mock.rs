@@ -10,6 +10,7 @@ use crate::mock_rows::{
     distinct, intersect, is_beyond, place_of, pop, remove, replace, resize, reverse, slice, union,
 };
 use crate::mock_typed::typed;
+use crate::mock_views::VIEWS;
 use crate::model::Width;
 use crate::plain;
 use std::ops::Range;
@@ -26,6 +27,7 @@ pub const LIBRARY: Library = Library {
     recipe: Some(recipe),
     typed: Some(typed()),
     large: Some(typed()),
+    views: Some(VIEWS),
 };
 
 /// How many lists an entry takes, with argument columns behind them, the kind of its answer, and the

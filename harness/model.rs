@@ -7,7 +7,9 @@
 //! or of the row functions, and the function that says what one row becomes.
 //!
 //! A recipe carries rows through these operations; it is read from the definition that document 01
-//! gives of it on rows.
+//! gives of it on rows. ListView columns are read in views.rs.
+
+use crate::views;
 
 /// A value, or None for a null.
 pub type Element = Option<i64>;
@@ -87,6 +89,8 @@ pub enum Operation {
     Replace,
     Remove,
     ListRepeat,
+    /// None of the thirteen: writes a column as a ListView, whose form is read in views.rs.
+    ExportView,
 }
 
 /// What an argument column is to its operation; `Old` is the element that replace and remove look
@@ -182,6 +186,8 @@ pub enum Made {
     Lists(Vec<Row>),
     Values(Vec<Element>),
     ListsOfLists(Vec<Option<Vec<Row>>>),
+    /// Rows that are written as a ListView.
+    Views(Vec<Row>),
     /// Rows too long to be held here: the slots that each slice of the result takes.
     TooLong(Vec<u64>),
 }
@@ -263,7 +269,7 @@ fn shown_row(column: &ListColumn, row: usize) -> Row {
     Some((start..end).map(|place| shown_value(&column.values, &column.elements, place)).collect())
 }
 
-fn shown_value(values: &[i64], bitmap: &Bitmap, place: usize) -> Element {
+pub fn shown_value(values: &[i64], bitmap: &Bitmap, place: usize) -> Element {
     if bitmap.is_valid(place) {
         Some(values[place])
     } else {
@@ -579,7 +585,7 @@ fn each_value(width: Width, operation: Operation, shown: &Shown) -> Result<Vec<E
     rows.map(|(at, row)| value_row(width, operation, row, &row_arguments(shown, at))).collect()
 }
 
-fn elements_in(rows: &[Row]) -> u128 {
+pub fn elements_in(rows: &[Row]) -> u128 {
     rows.iter().flatten().map(|row| row.len() as u128).sum()
 }
 
@@ -655,6 +661,7 @@ pub fn make(width: Width, operation: Operation, shown: &Shown) -> Result<Made, R
         Operation::Union => union_of_each(width, shown),
         Operation::Resize | Operation::ResizeWithoutFill => resize_of_each(width, operation, shown),
         Operation::ListRepeat => list_repeat(width, shown),
+        Operation::ExportView => Ok(Made::Views(shown.lists[0].clone())),
         _ => each_list(width, operation, shown).map(Made::Lists),
     }
 }
@@ -689,7 +696,7 @@ pub fn rows_made(
 // Result form.
 
 /// Bits in their bytes, spare bits 0.
-fn bitmap_of(valid: impl Iterator<Item = bool>) -> Vec<u8> {
+pub fn bitmap_of(valid: impl Iterator<Item = bool>) -> Vec<u8> {
     let mut bytes = Vec::new();
     for (position, bit) in valid.enumerate() {
         if position % 8 == 0 {
@@ -702,7 +709,7 @@ fn bitmap_of(valid: impl Iterator<Item = bool>) -> Vec<u8> {
     bytes
 }
 
-fn nulls<T>(items: &[Option<T>]) -> u64 {
+pub fn nulls<T>(items: &[Option<T>]) -> u64 {
     items.iter().filter(|item| item.is_none()).count() as u64
 }
 
@@ -719,13 +726,13 @@ fn laid_out<T: Clone>(rows: &[Option<Vec<T>>]) -> ([Slots; 2], Vec<T>) {
 }
 
 /// One number under all nulls.
-fn elements_laid_out(elements: &[Element]) -> [Slots; 2] {
+pub fn elements_laid_out(elements: &[Element]) -> [Slots; 2] {
     let values = elements.iter().map(|element| element.unwrap_or(UNDER_NULL)).collect();
     [Slots::Values(values), Slots::Bits(bitmap_of(elements.iter().map(Option::is_some)))]
 }
 
 /// The counts are those of the rows.
-fn list_form(rows: &[Row]) -> ResultForm {
+pub fn list_form(rows: &[Row]) -> ResultForm {
     let (row_slices, elements) = laid_out(rows);
     ResultForm {
         counts: vec![rows.len() as u64, elements.len() as u64, nulls(rows), nulls(&elements)],
@@ -761,15 +768,16 @@ pub fn result_form(made: &Made) -> ResultForm {
         Made::Lists(rows) => list_form(rows),
         Made::Values(values) => value_form(values),
         Made::ListsOfLists(rows) => list_of_lists_form(rows),
+        Made::Views(rows) => views::form(rows),
         Made::TooLong(_) => panic!("no slice that is lent is long enough for this result"),
     }
 }
 
-fn bitmap_slots(positions: u128) -> u128 {
+pub fn bitmap_slots(positions: u128) -> u128 {
     positions / 8 + u128::from(positions % 8 != 0)
 }
 
-fn list_slots(rows: u128, elements: u128) -> Vec<u64> {
+pub fn list_slots(rows: u128, elements: u128) -> Vec<u64> {
     let slots = [rows + 1, bitmap_slots(rows), elements, bitmap_slots(elements)];
     slots.map(|slots| slots as u64).to_vec()
 }
@@ -785,6 +793,7 @@ pub fn slots_needed(made: &Made) -> Vec<u64> {
             let inner = list_slots(inner_rows.len() as u128, elements_in(&inner_rows));
             [outer, &inner].concat()
         }
+        Made::Views(rows) => views::slots(rows),
         Made::TooLong(slots) => slots.clone(),
     }
 }

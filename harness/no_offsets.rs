@@ -131,7 +131,7 @@ fn wanted(none: &Input, case: &Case) -> u32 {
         || none.taken().iter().any(|argument| argument.values.len() > 1);
     let offsets = |at: usize| case.outputs[at].is_empty();
     let no_slot = match none.entry.kind {
-        Kind::AnyValue | Kind::Element => false,
+        Kind::AnyValue | Kind::Element | Kind::ExportView => false,
         Kind::ListRepeat => offsets(0) || offsets(2),
         Kind::Recipe { .. } => {
             let steps = none.numbers.len() / 4;

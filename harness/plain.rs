@@ -7,6 +7,7 @@
 use crate::library::Library;
 use crate::numbers::{bytes_of, Number};
 use crate::typed::{Lending, List, OuterRoom, Recipe, Room, Typed, Values};
+use crate::typed::{View, ViewRoom, Views};
 use std::collections::HashSet;
 use std::hash::Hash;
 use std::ops::Range;
@@ -21,6 +22,7 @@ pub const LIBRARY: Library = Library {
     recipe: Some(recipe),
     typed: Some(typed()),
     large: Some(typed()),
+    views: Some(VIEWS),
 };
 
 type Bytes4 = [u8; 4];
@@ -1805,5 +1807,106 @@ fn recipe_limits<O: Offset>(recipe: Recipe<O>, limits: &mut [u64]) -> u32 {
         let lent = RecipeColumns { list, second, arguments };
         let steps = check_steps(columns, bytes_of(numbers), &lent)?;
         Ok(lent.limits(steps))
+    })
+}
+
+// ListView columns.
+
+pub const VIEWS: Views = Views { import: import_view, export: export_view };
+
+impl<'a> View<'a> {
+    fn is_valid(&self, row: usize) -> bool {
+        bit(self.rows, self.rows_start + row)
+    }
+
+    fn sizes(&self) -> impl Iterator<Item = usize> + use<'a, '_> {
+        let valid = self.sizes.iter().enumerate().filter(|(row, _)| self.is_valid(*row));
+        valid.map(|(_, size)| *size as usize)
+    }
+
+    fn row(&self, row: usize) -> Option<Row<'a, i64>> {
+        self.is_valid(row).then(|| {
+            let (start, size) = (self.offsets[row] as usize, self.sizes[row] as usize);
+            let values = &self.values[start..start + size];
+            Row { values, elements: self.elements, start: self.elements_start + start }
+        })
+    }
+
+    /// How many elements are copied, if the column is not refused.
+    fn check(&self) -> Result<usize, u32> {
+        let rows = self.offsets.len();
+        if self.rows_start > 7 || self.elements_start > 7 {
+            return Err(13);
+        }
+        if too_short(self.rows, self.rows_start, rows)
+            || too_short(self.elements, self.elements_start, self.values.len())
+        {
+            return Err(2);
+        }
+        if rows != self.sizes.len() {
+            return Err(3);
+        }
+        // No early end, so that many are compared at a time; what is negative is far outside.
+        let number = |number: &i32| i64::from(*number) as u64;
+        let mut end = 0;
+        for (offset, size) in self.offsets.iter().zip(self.sizes) {
+            let (offset, size) = (number(offset), number(size));
+            end = end.max(offset).max(size).max(offset.wrapping_add(size));
+        }
+        if end > self.values.len() as u64 {
+            return Err(11);
+        }
+        let elements = self.sizes().sum();
+        if elements as u64 > i32::LARGEST {
+            return Err(8);
+        }
+        Ok(elements)
+    }
+}
+
+fn import_view(view: View, room: Room<i32>, counts: &mut [u64]) -> u32 {
+    tell(counts, || {
+        let (rows, elements) = (view.offsets.len(), view.check()?);
+        if !rows_fit(room.offsets, room.rows, rows)
+            || !elements_fit(room.values, room.elements, elements)
+        {
+            return Err(9);
+        }
+        let mut row_writer = RowWriter::new(room.offsets, room.rows);
+        let mut element_writer = ElementWriter::new(&mut room.values[..elements], room.elements);
+        for row in 0..rows {
+            let row = view.row(row);
+            row.inspect(|row| element_writer.run(*row, 0..row.len()));
+            row_writer.push(row.is_some(), element_writer.elements);
+        }
+        let (null_rows, null_elements) = (row_writer.bits.finish(), element_writer.bits.finish());
+        Ok([rows as u64, elements as u64, null_rows, null_elements])
+    })
+}
+
+fn export_view(list: List<i32>, room: ViewRoom, counts: &mut [u64]) -> u32 {
+    tell(counts, || {
+        check_column(list)?;
+        let (rows, elements) = (list.row_count(), elements_shown(list) as usize);
+        if room.offsets.len().min(room.sizes.len()) < rows
+            || room.rows.len() < rows.div_ceil(8)
+            || !elements_fit(room.values, room.elements, elements)
+        {
+            return Err(9);
+        }
+        let mut bits = BitWriter::new(room.rows);
+        let mut element_writer = ElementWriter::new(&mut room.values[..elements], room.elements);
+        let slots = room.offsets.iter_mut().zip(room.sizes).take(rows).enumerate();
+        for (row, (offset, size)) in slots {
+            let row = list.row(row);
+            bits.push_bit(row.is_some());
+            (*offset, *size) = match row {
+                Some(row) => (element_writer.elements as i32, row.len() as i32),
+                None => (0, 0),
+            };
+            row.inspect(|row| element_writer.run(*row, 0..row.len()));
+        }
+        let (null_rows, null_elements) = (bits.finish(), element_writer.bits.finish());
+        Ok([rows as u64, elements as u64, null_rows, null_elements])
     })
 }

@@ -11,7 +11,7 @@ pub use crate::mock::LIBRARY;
 #[cfg(not(mock))]
 use crate::library::Library;
 #[cfg(not(mock))]
-use crate::typed_port::{large, narrow};
+use crate::typed_port::{large, narrow, VIEWS};
 
 /// The safe function of an entry: the code, if it takes one, or the station and the number of
 /// columns, then the names of its input slices, those of bitmaps with that of their starting bit,
@@ -114,6 +114,7 @@ macro_rules! archive {
             $($name: Some($name),)+
             typed: Some(narrow::TYPED),
             large: Some(large::TYPED),
+            views: Some(VIEWS),
             ..Library::EMPTY
         };
     };

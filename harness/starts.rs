@@ -12,11 +12,12 @@ use crate::recipe_generate::{accepted_recipe, RecipeCall};
 use crate::rng::Rng;
 
 /// Starting bits that there are not: the next ones, and such as are 0 to 7 in a part of their bits.
-const OVER: [usize; 12] = [8, 9, 15, 16, 31, 255, 256, 259, 65536, 65543, 2147483648, 4294967295];
+pub const OVER: [usize; 12] =
+    [8, 9, 15, 16, 31, 255, 256, 259, 65536, 65543, 2147483648, 4294967295];
 
 /// What lies behind a bitmap that is just long enough: the bits from its start to its end fill their
 /// bytes, or go one bit, or some bits, into the last.
-const ENDS: [usize; 3] = [0, 1, 4];
+pub const ENDS: [usize; 3] = [0, 1, 4];
 
 pub fn every_start(checker: &mut Checker, entry: Entry, rng: &mut Rng, _calls: u64) {
     for at in 0..entry.taken_bitmaps().len() {
@@ -72,7 +73,7 @@ impl Shows {
 }
 
 /// Flips the bits of a bitmap that are for no position.
-fn flip_unseen(bitmap: &mut Bitmap, positions: usize) {
+pub fn flip_unseen(bitmap: &mut Bitmap, positions: usize) {
     let start = bitmap.start;
     for bit in (0..8 * bitmap.bytes.len()).filter(|bit| !(start..start + positions).contains(bit)) {
         bitmap.bytes[bit / 8] ^= 1 << (bit % 8);

@@ -15,6 +15,33 @@ pub type Values<'a> = Argument<'a, i64>;
 pub type Room<'a, O> = Lists<'a, O, i64>;
 pub type OuterRoom<'a, O> = Outer<'a, O>;
 
+/// A ListView column, and the room for one.
+#[derive(Clone, Copy)]
+pub struct View<'a> {
+    pub offsets: &'a [i32],
+    pub sizes: &'a [i32],
+    pub rows: &'a [u8],
+    pub rows_start: usize,
+    pub values: &'a [i64],
+    pub elements: &'a [u8],
+    pub elements_start: usize,
+}
+
+pub struct ViewRoom<'a> {
+    pub offsets: &'a mut [i32],
+    pub sizes: &'a mut [i32],
+    pub rows: &'a mut [u8],
+    pub values: &'a mut [i64],
+    pub elements: &'a mut [u8],
+}
+
+/// The entries for ListView columns, whose lists have offsets of 32 bits.
+#[derive(Clone, Copy)]
+pub struct Views {
+    pub import: fn(View, Room<i32>, &mut [u64]) -> u32,
+    pub export: fn(List<i32>, ViewRoom, &mut [u64]) -> u32,
+}
+
 /// A recipe as it is lent: its station, its numbers, how many argument columns it has, its lists,
 /// and the one slice of its arguments.
 #[derive(Clone, Copy)]
@@ -109,6 +136,7 @@ impl<O: Number> Lending<O> {
             Kind::Recipe { station, columns } => {
                 (self.limits)(recipe(station, columns, lent, starts), lengths)
             }
+            Kind::ImportView | Kind::ExportView => panic!("nothing is asked of views"),
         }
     }
 }
@@ -156,6 +184,42 @@ impl<O: Number> Typed<O> {
                 let rooms = [[a, b, c, d], [e, f, g, h], [i, j, k, l]].map(room);
                 (self.recipe)(recipe, rooms, counts, of_bytes_mut(tally))
             }
+            Kind::ImportView | Kind::ExportView => panic!("views have entries of their own"),
         }
+    }
+}
+
+impl Views {
+    /// Calls an entry in the same way.
+    pub fn call(
+        &self,
+        entry: Entry,
+        lent: &[&[u8]],
+        starts: &[usize],
+        results: &mut [&mut [u8]],
+        counts: &mut [u8],
+    ) -> u32 {
+        let counts = of_bytes_mut(counts);
+        if entry == Entry::IMPORT {
+            let view = View {
+                offsets: of_bytes(lent[0]),
+                sizes: of_bytes(lent[1]),
+                rows: lent[2],
+                rows_start: starts[0],
+                values: of_bytes(lent[3]),
+                elements: lent[4],
+                elements_start: starts[1],
+            };
+            return (self.import)(view, room(outputs(results)), counts);
+        }
+        let [offsets, sizes, rows, values, elements] = outputs(results);
+        let room = ViewRoom {
+            offsets: of_bytes_mut(offsets),
+            sizes: of_bytes_mut(sizes),
+            rows,
+            values: of_bytes_mut(values),
+            elements,
+        };
+        (self.export)(list(lent, starts), room, counts)
     }
 }

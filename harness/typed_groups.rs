@@ -151,7 +151,7 @@ fn recipe_call(width: Width, otherwise: Otherwise, rng: &mut Rng) -> Case {
 // Numbers beyond 32 bits.
 
 /// Such as are 0 to 7 in their lowest 32 bits, and the largest.
-const FAR_STARTS: [usize; 7] =
+pub const FAR_STARTS: [usize; 7] =
     [1 << 32, (1 << 32) | 3, (1 << 32) | 8, (5 << 32) | 7, 1 << 63, usize::MAX - 7, usize::MAX];
 
 /// A starting bit beyond 32 bits gives 13, beside a bitmap or without one; that of a column which
@@ -243,7 +243,7 @@ pub fn shared_inputs_of_recipes(checker: &mut Checker, entry: Entry, rng: &mut R
 /// refuses them.
 fn require_over(checker: &mut Checker, case: &Case, number: u32, what: &str) {
     require_typed(checker, case, number, what);
-    if checker.makes(Route::Bytes) && !case.entry.is_wide() {
+    if checker.makes(Route::Bytes) && !case.entry.is_typed_only() {
         check_answer(checker, case, 101);
     }
 }

@@ -1,8 +1,10 @@
-//! The port's typed C entries behind safe functions, those of large lists too.
+//! The port's typed C entries behind safe functions, those of large lists and of ListView columns too.
 //!
 //! A slice passes as a pointer and a length in numbers, a bitmap of a column with its starting bit
 //! behind them. The entries demand of their caller what the byte entries do, and that each pointer is
 //! aligned for its numbers; Rust's slices give all of it, empty ones too.
+
+use crate::typed::{List, Room, View, ViewRoom, Views};
 
 #[link(name = "duthlan", kind = "static")]
 extern "C" {}
@@ -314,3 +316,35 @@ entries!(
     duthlan_large_list_lengths duthlan_large_lists_lengths duthlan_large_any_value_lengths
     duthlan_large_element_lengths duthlan_large_list_repeat_lengths duthlan_large_recipe_limits
 );
+
+// ListView columns.
+
+pub const VIEWS: Views = Views { import: import_view, export: export_view };
+
+entry!(
+    duthlan_typed_import_view ()
+    [offsets: i32; sizes: i32; rows: u8, rows_start; values: i64; elements: u8, elements_start]
+    [out_offsets: i32, out_rows: u8, out_values: i64, out_elements: u8, counts: u64]
+);
+
+entry!(
+    duthlan_typed_export_view ()
+    [offsets: i32; rows: u8, rows_start; values: i64; elements: u8, elements_start]
+    [out_offsets: i32, out_sizes: i32, out_rows: u8, out_values: i64, out_elements: u8, counts: u64]
+);
+
+#[rustfmt::skip]
+fn import_view(v: View, out: Room<i32>, counts: &mut [u64]) -> u32 {
+    duthlan_typed_import_view(
+        v.offsets, v.sizes, v.rows, v.rows_start, v.values, v.elements, v.elements_start,
+        out.offsets, out.rows, out.values, out.elements, counts,
+    )
+}
+
+#[rustfmt::skip]
+fn export_view(l: List<i32>, out: ViewRoom, counts: &mut [u64]) -> u32 {
+    duthlan_typed_export_view(
+        l.offsets, l.rows, l.rows_start, l.values, l.elements, l.elements_start,
+        out.offsets, out.sizes, out.rows, out.values, out.elements, counts,
+    )
+}

@@ -47,6 +47,18 @@ typedef struct duthlan_list {
     duthlan_bits elements;
 } duthlan_list;
 
+/* A ListView column: an offset and a size for each row, in any order, which may overlap; a bit a row, the values, a bit a value. */
+typedef struct duthlan_view {
+    const int32_t *offsets;
+    size_t offset_count;
+    const int32_t *sizes;
+    size_t size_count;
+    duthlan_bits rows;
+    const int64_t *values;
+    size_t value_count;
+    duthlan_bits elements;
+} duthlan_view;
+
 /* An argument column: a value for each row, and a bit a value; a limit may have one value, used for all rows. */
 typedef struct duthlan_values {
     const int64_t *values;
@@ -72,6 +84,20 @@ typedef struct duthlan_out {
     uint8_t *elements;
     size_t element_bytes;
 } duthlan_out;
+
+/* Room for a ListView column: an offset and a size for each row, a bit a row, the elements, a bit an element; none for no rows. */
+typedef struct duthlan_view_out {
+    int32_t *offsets;
+    size_t offset_count;
+    int32_t *sizes;
+    size_t size_count;
+    uint8_t *rows;
+    size_t row_bytes;
+    int64_t *values;
+    size_t value_count;
+    uint8_t *elements;
+    size_t element_bytes;
+} duthlan_view_out;
 
 /* Room for one value a row: the values, and a bit a row. */
 typedef struct duthlan_value_out {
@@ -134,7 +160,8 @@ enum duthlan_number {
     DUTHLAN_ACCEPTED = 0,
     DUTHLAN_BAD_OFFSETS = 1,        /* The first offset is negative, one falls, or the last lies past the values. */
     DUTHLAN_SHORT_BITMAP = 2,       /* A bitmap that has bytes is too short for its rows, or for all the values lent. */
-    DUTHLAN_ROW_COUNTS_DIFFER = 3,  /* Two columns have different numbers of rows, or a recipe's arguments are not columns times rows. */
+    DUTHLAN_ROW_COUNTS_DIFFER = 3,  /* Two columns have different numbers of rows, or offsets and sizes of views different numbers, or a
+                                     * recipe's arguments are not columns times rows. */
     DUTHLAN_WIDE_INDEX = 4,         /* An index or a bound does not fit 32 signed bits. */
     DUTHLAN_ZERO_STRIDE = 5,        /* The stride is 0 where both bounds fall in the row. */
     DUTHLAN_WIDE_STRIDE = 6,        /* The stride does not fit 32 signed bits where its direction suits the bounds. */
@@ -142,6 +169,7 @@ enum duthlan_number {
     DUTHLAN_TOO_MANY = 8,           /* The result would have more than 2147483647 elements or outer lists. */
     DUTHLAN_SHORT_OUTPUT = 9,       /* An output, or a tray that a step writes, is too short for the result. */
     DUTHLAN_MALFORMED_RECIPE = 10,  /* The recipe is malformed. */
+    DUTHLAN_VIEW_OUTSIDE = 11,      /* The offset of a view, its size or their sum is below 0 or over the number of values. */
     DUTHLAN_BAD_STARTING_BIT = 13,  /* A starting bit is over 7, also beside a bitmap of no bytes. */
     DUTHLAN_NO_SUCH_STATION = 15,   /* The station is over 15. */
     DUTHLAN_BAD_CALL = 100          /* A raw entry got a code that it does not serve, or too few places for what it tells. */
@@ -201,6 +229,14 @@ static inline uint32_t duthlan_element(
 /* Repeats each list `times` times in an outer row; a null count gives a null outer row, 0 or less an empty one. */
 static inline uint32_t duthlan_list_repeat(
     const duthlan_list *list, const duthlan_values *times, const duthlan_repeat_out *out, duthlan_repeat_counts *counts);
+
+/* Writes the rows that a ListView column shows as a list column. Refused by 13, 2 (the rows are those of the offsets), 3, 11 (null
+ * rows' views too), 8 and 9. The result has as many elements as the sizes of its valid rows add up to. */
+static inline uint32_t duthlan_import_view(const duthlan_view *view, const duthlan_out *out, duthlan_counts *counts);
+
+/* Writes a list column as a ListView: the values and bitmaps of a result, where each valid row begins in them and its size, and 0 and
+ * 0 for a null row. Import of that gives the list column as a result. */
+static inline uint32_t duthlan_export_view(const duthlan_list *list, const duthlan_view_out *out, duthlan_counts *counts);
 
 /* Runs a recipe for a station, 0 to 15, and counts it in the tally as finished or as refused; both trays are zero afterwards.
  * `second` serves union and intersect and has as many rows as `list`; where it is NULL, the list itself is lent again. Row r of
@@ -341,6 +377,9 @@ static inline const char *duthlan_refusal(uint32_t number);
 /* Gives the result that an accepted call wrote as a column, to read or to lend to the next call. */
 static inline duthlan_list duthlan_written(const duthlan_out *out, const duthlan_counts *counts);
 
+/* Gives the ListView that an accepted export wrote. */
+static inline duthlan_view duthlan_written_view(const duthlan_view_out *out, const duthlan_counts *counts);
+
 /* Says whether place i is valid; i lies within the bitmap, if that has bytes. */
 static inline int duthlan_is_valid(duthlan_bits bits, size_t i);
 
@@ -393,6 +432,24 @@ uint32_t duthlan_typed_list_repeat(
     const int64_t *times, size_t times_count, const uint8_t *times_bits, size_t times_bytes, size_t times_start,
     int32_t *out_offsets, size_t out_offset_count, uint8_t *out_rows, size_t out_row_bytes,
     int32_t *inner_offsets, size_t inner_offset_count, uint8_t *inner_rows, size_t inner_row_bytes,
+    int64_t *out_values, size_t out_value_count, uint8_t *out_elements, size_t out_element_bytes,
+    uint64_t *counts, size_t count_places);
+
+/* Runs the import of a ListView column. */
+uint32_t duthlan_typed_import_view(
+    const int32_t *offsets, size_t offset_count, const int32_t *sizes, size_t size_count,
+    const uint8_t *rows, size_t row_bytes, size_t rows_start,
+    const int64_t *values, size_t value_count, const uint8_t *elements, size_t element_bytes, size_t elements_start,
+    int32_t *out_offsets, size_t out_offset_count, uint8_t *out_rows, size_t out_row_bytes,
+    int64_t *out_values, size_t out_value_count, uint8_t *out_elements, size_t out_element_bytes,
+    uint64_t *counts, size_t count_places);
+
+/* Runs the export of a list column to a ListView. */
+uint32_t duthlan_typed_export_view(
+    const int32_t *offsets, size_t offset_count, const uint8_t *rows, size_t row_bytes, size_t rows_start,
+    const int64_t *values, size_t value_count, const uint8_t *elements, size_t element_bytes, size_t elements_start,
+    int32_t *out_offsets, size_t out_offset_count, int32_t *out_sizes, size_t out_size_count,
+    uint8_t *out_rows, size_t out_row_bytes,
     int64_t *out_values, size_t out_value_count, uint8_t *out_elements, size_t out_element_bytes,
     uint64_t *counts, size_t count_places);
 
@@ -649,6 +706,26 @@ static inline uint32_t duthlan_list_repeat(
     return number;
 }
 
+static inline uint32_t duthlan_import_view(const duthlan_view *view, const duthlan_out *out, duthlan_counts *counts) {
+    uint64_t told[4] = {0, 0, 0, 0};
+    return duthlan_told_(
+        duthlan_typed_import_view(
+            DUTHLAN_INPUT_(i32, view->offsets, view->offset_count), DUTHLAN_INPUT_(i32, view->sizes, view->size_count),
+            DUTHLAN_BITS_(view->rows), DUTHLAN_INPUT_(i64, view->values, view->value_count), DUTHLAN_BITS_(view->elements),
+            DUTHLAN_ROWS_(out), DUTHLAN_ELEMENTS_(out), told, 4),
+        told, counts);
+}
+
+static inline uint32_t duthlan_export_view(const duthlan_list *list, const duthlan_view_out *out, duthlan_counts *counts) {
+    uint64_t told[4] = {0, 0, 0, 0};
+    return duthlan_told_(
+        duthlan_typed_export_view(
+            DUTHLAN_LIST_(list),
+            DUTHLAN_OUTPUT_(i32, out->offsets, out->offset_count), DUTHLAN_OUTPUT_(i32, out->sizes, out->size_count),
+            DUTHLAN_OUTPUT_(u8, out->rows, out->row_bytes), DUTHLAN_ELEMENTS_(out), told, 4),
+        told, counts);
+}
+
 static inline uint32_t duthlan_recipe(
     uint32_t station, const uint32_t *numbers, size_t number_count,
     const duthlan_list *list, const duthlan_list *second, const duthlan_values *arguments, size_t columns,
@@ -832,6 +909,7 @@ static inline const char *duthlan_refusal(uint32_t number) {
     case DUTHLAN_TOO_MANY: return "a result of more elements or lists than its offsets may count";
     case DUTHLAN_SHORT_OUTPUT: return "an output or a tray too short for the result";
     case DUTHLAN_MALFORMED_RECIPE: return "a malformed recipe";
+    case DUTHLAN_VIEW_OUTSIDE: return "a view that lies outside the values";
     case DUTHLAN_BAD_STARTING_BIT: return "a starting bit over 7";
     case DUTHLAN_NO_SUCH_STATION: return "a station over 15";
     case DUTHLAN_BAD_CALL: return "an unknown code, or too few places for what is told";
@@ -854,6 +932,25 @@ static inline duthlan_list duthlan_written(const duthlan_out *out, const duthlan
     list.elements.byte_count = DUTHLAN_BITMAP_BYTES(elements);
     list.elements.start = 0;
     return list;
+}
+
+static inline duthlan_view duthlan_written_view(const duthlan_view_out *out, const duthlan_counts *counts) {
+    const size_t rows = (size_t)counts->rows;
+    const size_t elements = (size_t)counts->elements;
+    duthlan_view view;
+    view.offsets = out->offsets;
+    view.offset_count = rows;
+    view.sizes = out->sizes;
+    view.size_count = rows;
+    view.rows.bytes = out->rows;
+    view.rows.byte_count = DUTHLAN_BITMAP_BYTES(rows);
+    view.rows.start = 0;
+    view.values = out->values;
+    view.value_count = elements;
+    view.elements.bytes = out->elements;
+    view.elements.byte_count = DUTHLAN_BITMAP_BYTES(elements);
+    view.elements.start = 0;
+    return view;
 }
 
 static inline int duthlan_is_valid(duthlan_bits bits, size_t i) {

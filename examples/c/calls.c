@@ -545,7 +545,7 @@ static void asked_recipes(void) {
 }
 
 static void sentences(void) {
-    static const uint32_t named[] = {0, 1, 2, 3, 4, 5, 6, 7, 8, 9, 10, 13, 15, 100};
+    static const uint32_t named[] = {0, 1, 2, 3, 4, 5, 6, 7, 8, 9, 10, 11, 13, 15, 100};
     const char *unnamed = duthlan_refusal(99);
     size_t i;
     int have_words = 1;
@@ -690,6 +690,105 @@ static void recipes(void) {
     check("refused", tally.refused[3] == UINT64_MAX && tally.refused[4] == 1 && tally.refused[5] == 1 && tally.finished[2] == 2);
 }
 
+#ifndef CALLS_LARGE
+/* ListView columns, which have offsets of 32 bits. */
+
+static int32_t view_offsets[ROOM], view_sizes[ROOM];
+static const duthlan_view_out view_out = {view_offsets, ROOM, view_sizes, ROOM, rows, ROOM, values, ROOM, elements, ROOM};
+
+/* The column `list` as views out of order, the null row over the last three values. */
+static const int64_t viewed[] = {7, 7, 9, 12, -3, 99, 40, 41, 7};
+static const int32_t starts[] = {3, 6, 9, 0}, sizes[] = {3, 3, 0, 3};
+static const uint8_t viewed_bits_2[] = {0x7f, 0xff};
+static const duthlan_view view = {starts, 4, sizes, 4, {row_bits_2, 1, 2}, viewed, 9, {viewed_bits_2, 2, 2}};
+
+static void views(void) {
+    static const int32_t below[] = {3, -1, 9, 0}, negative[] = {3, 3, -1, 3}, past[] = {3, 4, 0, 3};
+    static const int32_t far_offsets[] = {INT32_MAX, 0, 0, 0}, over[] = {0, 0, 0}, three[] = {3, 3, 3};
+    const duthlan_view overlapping = {over, 3, three, 3, {0, 0, 0}, in_values, 3, {element_bits, 1, 0}};
+    const duthlan_view fewer = {starts, 4, sizes, 3, {0, 0, 0}, viewed, 9, {0, 0, 0}};
+    const duthlan_view nothing_viewed = {0, 0, 0, 0, {0, 0, 0}, 0, 0, {0, 0, 0}};
+    const duthlan_list no_rows = {0, 0, {0, 0, 0}, 0, 0, {0, 0, 0}};
+    const duthlan_out one_slot = {offsets, 1, 0, 0, 0, 0, 0, 0};
+    const duthlan_out no_slot = {0, 0, 0, 0, 0, 0, 0, 0};
+    const duthlan_view_out no_room = {0, 0, 0, 0, 0, 0, 0, 0, 0, 0};
+    duthlan_view bad = view, back;
+    uint32_t number;
+    size_t less;
+    check("import", made(duthlan_import_view(&view, &out, &counts), "[12,-3,null] null [] [7,7,9]"));
+    check("its counts", counts.rows == 4 && counts.elements == 6 && counts.null_rows == 1 && counts.null_elements == 1);
+    check("import, overlaps", made(duthlan_import_view(&overlapping, &out, &counts), "[12,-3,null] [12,-3,null] [12,-3,null]"));
+    check("import, no rows", duthlan_import_view(&nothing_viewed, &one_slot, 0) == DUTHLAN_ACCEPTED && offsets[0] == 0);
+    check("import, no slot", duthlan_import_view(&nothing_viewed, &no_slot, 0) == DUTHLAN_SHORT_OUTPUT);
+    memset(offsets, 85, sizeof offsets);
+    memset(&counts, 85, sizeof counts);
+    check("import, 3", duthlan_import_view(&fewer, &out, &counts) == DUTHLAN_ROW_COUNTS_DIFFER);
+    bad.offsets = below;
+    check("import, 11 of a null row", duthlan_import_view(&bad, &out, &counts) == DUTHLAN_VIEW_OUTSIDE);
+    bad.offsets = far_offsets;
+    check("import, 11 of a far offset", duthlan_import_view(&bad, &out, &counts) == DUTHLAN_VIEW_OUTSIDE);
+    bad = view;
+    bad.sizes = negative;
+    check("import, 11 of a size", duthlan_import_view(&bad, &out, &counts) == DUTHLAN_VIEW_OUTSIDE);
+    bad.sizes = past;
+    check("import, 11 of a sum", duthlan_import_view(&bad, &out, &counts) == DUTHLAN_VIEW_OUTSIDE);
+    bad.rows.start = 5;
+    check("import, 2 before 11", duthlan_import_view(&bad, &out, &counts) == DUTHLAN_SHORT_BITMAP);
+    bad.elements.start = 8;
+    check("import, 13 before 2", duthlan_import_view(&bad, &out, &counts) == DUTHLAN_BAD_STARTING_BIT);
+    check("import, kept", offsets[0] == kept_offset && counts.rows == 0x5555555555555555);
+    for (less = 0; less < 5; less++) {
+        const duthlan_out tight = {offsets, less == 1 ? 4u : 5u, rows, less == 2 ? 0u : 1u,
+                                   values, less == 3 ? 5u : 6u, elements, less == 4 ? 0u : 1u};
+        number = duthlan_import_view(&view, &tight, 0);
+        check("import, room", number == (less == 0 ? DUTHLAN_ACCEPTED : DUTHLAN_SHORT_OUTPUT));
+    }
+
+    memset(view_offsets, 85, sizeof view_offsets);
+    memset(view_sizes, 85, sizeof view_sizes);
+    check("export, 1", duthlan_export_view(&bad_offsets, &view_out, &counts) == DUTHLAN_BAD_OFFSETS);
+    check("export, 2", duthlan_export_view(&short_bitmap, &view_out, &counts) == DUTHLAN_SHORT_BITMAP);
+    check("export, 13", duthlan_export_view(&bad_start, &view_out, &counts) == DUTHLAN_BAD_STARTING_BIT);
+    check("export, kept", view_offsets[0] == kept_offset && view_sizes[0] == kept_offset);
+    check("export", duthlan_export_view(&shifted, &view_out, &counts) == DUTHLAN_ACCEPTED && counts.rows == 4 && counts.elements == 6);
+    check("its offsets", view_offsets[0] == 0 && view_offsets[1] == 0 && view_offsets[2] == 3 && view_offsets[3] == 3);
+    check("its sizes", view_sizes[0] == 3 && view_sizes[1] == 0 && view_sizes[2] == 0 && view_sizes[3] == 3);
+    check("past the views", view_offsets[4] == kept_offset && view_sizes[4] == kept_offset && values[2] == INT64_MIN);
+    back = duthlan_written_view(&view_out, &counts);
+    {
+        int64_t again_values[6];
+        uint8_t again_rows[1], again_elements[1];
+        const duthlan_out again = {offsets, ROOM, again_rows, 1, again_values, 6, again_elements, 1};
+        number = duthlan_import_view(&back, &again, &counts);
+        check("export, then import", number == DUTHLAN_ACCEPTED &&
+                                         strcmp(show_list(duthlan_written(&again, &counts)), "[12,-3,null] null [] [7,7,9]") == 0 &&
+                                         memcmp(again_values, values, sizeof again_values) == 0 && again_rows[0] == 0x0d);
+    }
+    for (less = 0; less < 6; less++) {
+        const duthlan_view_out tight = {view_offsets, less == 1 ? 3u : 4u, view_sizes, less == 2 ? 3u : 4u, rows, less == 3 ? 0u : 1u,
+                                        values, less == 4 ? 5u : 6u, elements, less == 5 ? 0u : 1u};
+        number = duthlan_export_view(&list, &tight, 0);
+        check("export, room", number == (less == 0 ? DUTHLAN_ACCEPTED : DUTHLAN_SHORT_OUTPUT));
+    }
+    check("export, no rows", duthlan_export_view(&no_rows, &no_room, 0) == DUTHLAN_ACCEPTED);
+}
+
+/* What only the raw entries can say of views. */
+static void raw_views(void) {
+    uint64_t told[5] = {5, 5, 5, 5, 5};
+    const int32_t zero = 0;
+    const int64_t none = 0;
+    const uint8_t bits = 0;
+    check("100, import", duthlan_typed_import_view(&zero, 0, &zero, 0, &bits, 0, 0, &none, 0, &bits, 0, 0, offsets, ROOM, rows, ROOM,
+                                                   values, ROOM, elements, ROOM, told, 3) == DUTHLAN_BAD_CALL);
+    check("100, export", duthlan_typed_export_view(&zero, 1, &bits, 0, 0, &none, 0, &bits, 0, 0, view_offsets, ROOM, view_sizes, ROOM,
+                                                   rows, ROOM, values, ROOM, elements, ROOM, told, 3) == DUTHLAN_BAD_CALL && told[0] == 5);
+    check("past the counts", duthlan_typed_export_view(&zero, 1, &bits, 0, 0, &none, 0, &bits, 0, 0, view_offsets, 0, view_sizes, 0,
+                                                       rows, 0, values, 0, elements, 0, told, 5) == DUTHLAN_ACCEPTED &&
+                                 told[0] == 0 && told[3] == 0 && told[4] == 5);
+}
+#endif
+
 int main(void) {
     wide[0] = far_number;
     many[0] = most_elements;
@@ -704,6 +803,10 @@ int main(void) {
     sentences();
     raw();
     raw_lengths();
+#ifndef CALLS_LARGE
+    views();
+    raw_views();
+#endif
     printf("%d passed, %d failed\n", passed, failed);
     return failed != 0;
 }

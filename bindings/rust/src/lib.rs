@@ -35,10 +35,12 @@
 //!   every operation. Slices of the lengths told are never refused by 9.
 //! - A [`Recipe`] chains list operations through two trays; [`run_recipe`] runs it, and
 //!   [`recipe_limits`] tells how many elements the trays and the output must hold.
+//! - A ListView column is a [`View`]; [`import_view`] reads it into a list column, and [`export_view`]
+//!   writes a list column to a [`ViewOut`].
 //! - With the feature `std`, which is on by default, [`owned`] has columns in vectors, built from rows
 //!   and read back as rows. Without it the crate is `no_std` and has no heap.
-//! - With the feature `large`, also on by default, [`large`] has all of this for columns with 64-bit
-//!   offsets.
+//! - With the feature `large`, also on by default, [`large`] has all of this but ListView columns for
+//!   columns with 64-bit offsets.
 //!
 //! The crate links `libduthlan.a`, and for large lists `libduthlan_large.a`, from the folder that
 //! `DUTHLAN_LIB_DIR` names, by an absolute path, when the crate is built; or from `target/staticlib` of
@@ -63,6 +65,7 @@ pub mod owned;
 mod raw;
 mod recipe;
 mod refusal;
+mod views;
 
 pub use columns::{Bits, Elements, List, NestedList, OuterRows, Rows, Values};
 pub use columns::{ListOf, NestedListOf, OuterRowsOf, RowsOf};
@@ -84,3 +87,4 @@ pub use outputs::{ListOutOf, RepeatOutOf};
 pub use recipe::{run_recipe, Recipe, RecipeInputs, Tally, Trays};
 pub use recipe::{RecipeInputsOf, TraysOf};
 pub use refusal::Refusal;
+pub use views::{export_view, import_view, View, ViewOut};

@@ -6,7 +6,7 @@ pub const fn bitmap_bytes(bits: usize) -> usize {
 }
 
 /// The first `n` places, or all where there are fewer.
-fn front<T>(slice: &[T], n: u64) -> &[T] {
+pub(crate) fn front<T>(slice: &[T], n: u64) -> &[T] {
     match usize::try_from(n) {
         Ok(n) if n < slice.len() => &slice[..n],
         _ => slice,

@@ -8,6 +8,7 @@
 use crate::{
     ListCounts, ListLengths, ListOf, ListOutOf, RecipeInputsOf, RecipeLimits, Refusal,
     RepeatCounts, RepeatLengths, RepeatOutOf, TraysOf, ValueCounts, ValueLengths, ValueOut, Values,
+    View, ViewOut,
 };
 
 /// The entries of one width of offsets.
@@ -927,3 +928,118 @@ entries!(
     duthlan_large_list_lengths duthlan_large_lists_lengths duthlan_large_any_value_lengths
     duthlan_large_element_lengths duthlan_large_list_repeat_lengths duthlan_large_recipe_limits
 );
+
+extern "C" {
+    fn duthlan_typed_import_view(
+        offsets: *const i32,
+        _: usize,
+        sizes: *const i32,
+        _: usize,
+        rows: *const u8,
+        _: usize,
+        rows_start: usize,
+        values: *const i64,
+        _: usize,
+        elements: *const u8,
+        _: usize,
+        elements_start: usize,
+        out_offsets: *mut i32,
+        _: usize,
+        out_rows: *mut u8,
+        _: usize,
+        out_values: *mut i64,
+        _: usize,
+        out_elements: *mut u8,
+        _: usize,
+        counts: *mut u64,
+        _: usize,
+    ) -> u32;
+    fn duthlan_typed_export_view(
+        offsets: *const i32,
+        _: usize,
+        rows: *const u8,
+        _: usize,
+        rows_start: usize,
+        values: *const i64,
+        _: usize,
+        elements: *const u8,
+        _: usize,
+        elements_start: usize,
+        out_offsets: *mut i32,
+        _: usize,
+        out_sizes: *mut i32,
+        _: usize,
+        out_rows: *mut u8,
+        _: usize,
+        out_values: *mut i64,
+        _: usize,
+        out_elements: *mut u8,
+        _: usize,
+        counts: *mut u64,
+        _: usize,
+    ) -> u32;
+}
+
+// SAFETY, of both blocks: as above.
+
+pub fn import_view(view: View, out: &mut ListOutOf<i32>) -> Result<ListCounts, Refusal> {
+    let mut counts = [0; 4];
+    let number = unsafe {
+        duthlan_typed_import_view(
+            view.offsets.as_ptr(),
+            view.offsets.len(),
+            view.sizes.as_ptr(),
+            view.sizes.len(),
+            view.rows.bytes.as_ptr(),
+            view.rows.bytes.len(),
+            view.rows.start,
+            view.values.as_ptr(),
+            view.values.len(),
+            view.elements.bytes.as_ptr(),
+            view.elements.bytes.len(),
+            view.elements.start,
+            out.offsets.as_mut_ptr(),
+            out.offsets.len(),
+            out.rows.as_mut_ptr(),
+            out.rows.len(),
+            out.values.as_mut_ptr(),
+            out.values.len(),
+            out.elements.as_mut_ptr(),
+            out.elements.len(),
+            counts.as_mut_ptr(),
+            counts.len(),
+        )
+    };
+    told(number, counts).map(list_counts)
+}
+
+pub fn export_view(list: ListOf<i32>, out: &mut ViewOut) -> Result<ListCounts, Refusal> {
+    let mut counts = [0; 4];
+    let number = unsafe {
+        duthlan_typed_export_view(
+            list.offsets.as_ptr(),
+            list.offsets.len(),
+            list.rows.bytes.as_ptr(),
+            list.rows.bytes.len(),
+            list.rows.start,
+            list.values.as_ptr(),
+            list.values.len(),
+            list.elements.bytes.as_ptr(),
+            list.elements.bytes.len(),
+            list.elements.start,
+            out.offsets.as_mut_ptr(),
+            out.offsets.len(),
+            out.sizes.as_mut_ptr(),
+            out.sizes.len(),
+            out.rows.as_mut_ptr(),
+            out.rows.len(),
+            out.values.as_mut_ptr(),
+            out.values.len(),
+            out.elements.as_mut_ptr(),
+            out.elements.len(),
+            counts.as_mut_ptr(),
+            counts.len(),
+        )
+    };
+    told(number, counts).map(list_counts)
+}

@@ -12,8 +12,8 @@ pub enum Refusal {
     /// 2: a bitmap that has bytes is too short, from its starting bit on, for its rows, or for all
     /// the values lent.
     ShortBitmap,
-    /// 3: two columns have different numbers of rows, or a recipe's arguments are not columns times
-    /// rows. The limit of replace and remove may also have one row, used for all.
+    /// 3: two columns have different numbers of rows, the offsets and sizes of views different numbers,
+    /// or a recipe's arguments are not columns times rows. The limit of replace and remove may also have one row, used for all.
     RowCountsDiffer,
     /// 4: an index or a bound does not fit 32 signed bits; never of large lists.
     WideIndex,
@@ -31,6 +31,8 @@ pub enum Refusal {
     ShortOutput,
     /// 10: the recipe has over 32 steps or eight columns, or it uses a column that is not there.
     MalformedRecipe,
+    /// 11: the offset of a view, its size or their sum is below 0 or over the number of values.
+    ViewOutside,
     /// 13: a starting bit is over 7, also beside a bitmap of no bytes.
     BadStartingBit,
     /// 15: the station is over 15; the call counts for nobody.
@@ -53,6 +55,7 @@ impl Refusal {
             8 => Refusal::TooMany,
             9 => Refusal::ShortOutput,
             10 => Refusal::MalformedRecipe,
+            11 => Refusal::ViewOutside,
             13 => Refusal::BadStartingBit,
             15 => Refusal::NoSuchStation,
             // 100, a fault of the call itself, cannot come from here: the crate passes only codes
@@ -79,6 +82,7 @@ impl Refusal {
             Refusal::TooMany => 8,
             Refusal::ShortOutput => 9,
             Refusal::MalformedRecipe => 10,
+            Refusal::ViewOutside => 11,
             Refusal::BadStartingBit => 13,
             Refusal::NoSuchStation => 15,
             Refusal::Other(number) => number,
@@ -99,6 +103,7 @@ impl fmt::Display for Refusal {
             Refusal::TooMany => "a result of more elements or lists than its offsets may count",
             Refusal::ShortOutput => "an output or a tray too short for the result",
             Refusal::MalformedRecipe => "a malformed recipe",
+            Refusal::ViewOutside => "a view that lies outside the values",
             Refusal::BadStartingBit => "a starting bit over 7",
             Refusal::NoSuchStation => "a station over 15",
             Refusal::Other(_) => "a number that has no name here",

@@ -13,6 +13,7 @@ use lib.Seq.{take-at}
 use denote.Ref.{now}
 use Rattle.model.specs.Basics.{pick, any, Lent, given, All}
 use Rattle.model.specs.Column.{Elem, Row, Column, Arguments}
+use Rattle.model.specs.View.{View}
 use Rattle.model.specs.Form.{Room, ValueRoom, RepeatRoom, Outer}
 use Rattle.model.specs.Limits.{Limits, narrow}
 use Rattle.model.specs.Rows.{unary, setOp, onLent}
@@ -47,16 +48,16 @@ use Rattle.duthlan_bytes.proofs.duthlan_bytes_recipe.Reads as Recipe
 use Rattle.claims.specs.Bytes.{ByteSlices, BytePair, ListBytesLent, ValueBytesLent, listIn, argumentsIn, roomIn, valueRoomIn, repeatRoomIn, enter4, leave4, enter2, leave2, enter6, leave6, enter3, leave3, HoldsOver, offsetBytes, valueBytes, bitmapBytes, AnswerBytes, ListBytes, ValueBytes, RepeatBytes, RecipeBytes, overTally}
 
 -- calls that are alike, on well-formed columns, end in one thing, at whichever width
-pub one-end : (L : Limits) (q q′ : Call Column Arguments) → Formed q → Formed q′ → Alike q q′ → end L q ≡ end L q′
+pub one-end : (L : Limits) (q q′ : Call Column Arguments View) → Formed q → Formed q′ → Alike q q′ → end L q ≡ end L q′
 one-end L q q′ f f′ a = agreement L q q′ f f′ a .shares
 
 -- what a call of an entry says of its end (ListBytes, ValueBytes, RepeatBytes or RecipeBytes below), it says of an alike call's
-pub one-end-written : (L : Limits) (P : End → Type 0) {q q′ : Call Column Arguments} → Formed q → Formed q′ → Alike q q′ → P (end L q′) → P (end L q)
+pub one-end-written : (L : Limits) (P : End → Type 0) {q q′ : Call Column Arguments View} → Formed q → Formed q′ → Alike q q′ → P (end L q′) → P (end L q)
 one-end-written L P {q} {q′} f f′ a h = rw (one-end L q q′ f f′ a) h
 
 -- "two such calls that are alike return one number and write the same bytes" (DECISIONS C2): what the two say of their ends, P and P′, they
 -- say of one end, that which the definitions give from what is shown, the same of both (`same-written` below says what that makes of the bytes)
-pub same-bytes : (P P′ : End → Type 0) {q q′ : Call Column Arguments} → Formed q → Formed q′ → Alike q q′ → P (end narrow q) → P′ (end narrow q′) → P (endShown narrow (shown q)) × P′ (endShown narrow (shown q))
+pub same-bytes : (P P′ : End → Type 0) {q q′ : Call Column Arguments View} → Formed q → Formed q′ → Alike q q′ → P (end narrow q) → P′ (end narrow q′) → P (endShown narrow (shown q)) × P′ (endShown narrow (shown q))
 same-bytes P P′ {q} {q′} f f′ a h h′ =
     let g = agreement narrow q q′ f f′ a in
     (rw (← (g .exact)) h, rw (← (g .exact), g .shares) h′)
@@ -130,7 +131,7 @@ pub same-tally : (x : End) (u : Tally) {n n′ : ℕ} {l l′ m m′ o o′ : By
 unfolding overTally
 same-tally x u t t′ e h k = same-front (bytesOfCounts (u .finished) ++ bytesOfCounts (u .refused)) t t′ (rw e at (h .tally)) (rw e at (k .tally))
 
-pub one-number : {q q′ : Call Column Arguments} {n n′ : ℕ} {c c′ : Slice ℕ} → Formed q → Formed q′ → Alike q q′ → AnswerBytes (end narrow q) n c → AnswerBytes (end narrow q′) n′ c′ → n ≡ n′
+pub one-number : {q q′ : Call Column Arguments View} {n n′ : ℕ} {c c′ : Slice ℕ} → Formed q → Formed q′ → Alike q q′ → AnswerBytes (end narrow q) n c → AnswerBytes (end narrow q′) n′ c′ → n ≡ n′
 one-number {q} {q′} f f′ a h h′ = h .number ∙ ap (λ (x : End). numberIn (x .answer)) (one-end narrow q q′ f f′ a) ∙ sym (h′ .number)
 
 -- ---- an outcome's bytes are those of its end
@@ -285,7 +286,7 @@ recipes κs s s′ k k′ ns c d x l m o cs t n h b =
     }
 
 -- the tally's bytes, after a call that took the tally in them, hold the tally that the call gives
-pub recipes-gave : (q : Call Column Arguments) {n : ℕ} {l m o : ByteSlices} {cs : Slice ℕ} (t : Slice ℕ) → All (λ (b : ℕ). b < 256) (now (t .entry)) → tallyTaken q ≡ given (tallyIn (now (t .entry)))
+pub recipes-gave : (q : Call Column Arguments View) {n : ℕ} {l m o : ByteSlices} {cs : Slice ℕ} (t : Slice ℕ) → All (λ (b : ℕ). b < 256) (now (t .entry)) → tallyTaken q ≡ given (tallyIn (now (t .entry)))
     → RecipeBytes (end narrow q) n l m o cs t → end narrow q .tally ≡ given (tallyIn (now (t .exit)))
 unfolding overTally
 recipes-gave q t a h r =

@@ -10,6 +10,7 @@ use contract.Lifetimes.{Lfts}
 use denote.Ref.{now}
 use Rattle.model.specs.Basics.{given}
 use Rattle.model.specs.Column.{Column, Arguments, rowCount}
+use Rattle.model.specs.View.{View}
 use Rattle.model.specs.Form.{Room}
 use Rattle.model.specs.Lengths.{TrayLimits, OffsetsFit, LentEnough}
 use Rattle.model.specs.Limits.{wide}
@@ -88,7 +89,7 @@ use Rattle.claims.proofs.Typed.{one-typed, two-typed, any-typed, elemen
 use Rattle.claims.proofs.Lending.{ListAsked, ValueAsked, one-measured, two-measured, any-measured, element-measured, repeats-measured, recipe-measured}
 
 -- "There 4 and 6 never occur.": no run on large lists, of whatever call, answers either
-pub four-and-six : {q : Call Column Arguments} {e : End} (k : ℕ) → Run wide q e → e .answer ≡ refusal k → Neither k
+pub four-and-six : {q : Call Column Arguments View} {e : End} (k : ℕ) → Run wide q e → e .answer ≡ refusal k → Neither k
 four-and-six {q} k r h = no-four-or-six q k (ap (λ (x : End). x .answer) (sym (run-ends wide r)) ∙ h)
 
 -- "Lending that much, with offsets and bitmaps to match, rules out 9.": m is what the limits answer, lent to a run of the recipe

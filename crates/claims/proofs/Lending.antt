@@ -10,6 +10,7 @@ use contract.Lifetimes.{Lfts}
 use denote.Ref.{now}
 use Rattle.model.specs.Basics.{Lent, given}
 use Rattle.model.specs.Column.{Column, Arguments}
+use Rattle.model.specs.View.{View}
 use Rattle.model.specs.Form.{over}
 use Rattle.model.specs.Lengths.{TrayLimits, listLengths, anyValueLengths, elementLengths, repeatLengths, recipeLimits}
 use Rattle.model.specs.Limits.{Limits, narrow}
@@ -59,10 +60,10 @@ use Rattle.claims.specs.Numbers.{AnswerTyped}
 
 -- ---- the functions of `lists`, and `recipe_limits`: c and d are the lists lent, x, y and z the argument columns, a the answer
 
-abbrev pub ListAsked : Limits → Call Column Arguments → ListLengths → Type 0
+abbrev pub ListAsked : Limits → Call Column Arguments View → ListLengths → Type 0
 ListAsked L q a = Run L q (measureEnd (toldLengths a))
 
-abbrev pub ValueAsked : Limits → Call Column Arguments → ValueLengths → Type 0
+abbrev pub ValueAsked : Limits → Call Column Arguments View → ValueLengths → Type 0
 ValueAsked L q a = Run L q (measureEnd (toldValueLengths a))
 
 pub reverse : (κs : Lfts 4) (c : LentList) (a : ListLengths) → Reverse.Post κs (entry6 c tt) a (exit6 c tt) → ListAsked narrow (measureList (unary U.Reverse (listLent c))) a

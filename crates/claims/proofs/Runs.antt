@@ -13,6 +13,7 @@ use denote.Ref.{now}
 use Rattle.model.specs.Basics.{given}
 use Rattle.model.specs.Bitmap.{Bits, validAt}
 use Rattle.model.specs.Column.{Column, column, Arguments, arguments, rowCount, offsetAt, EqualRows, EqualArguments}
+use Rattle.model.specs.View.{View}
 use Rattle.model.specs.Limits.{Limits, narrow}
 use Rattle.model.specs.Rows.{unary, setOp, slice, resize, replace, remove}
 use Rattle.model.specs.Call.{Call, anyValue, element, listRepeat, End, Formed, Alike, end, moveIn, Chain, finishedBy, refusedBy}
@@ -51,30 +52,30 @@ use Rattle.claims.specs.Slots.{Slices, Pair, LentList, LentValues, listL
 -- "Take any two runs of one operation or one recipe, whatever its steps and whichever of them, if any, is refused.": two runs on
 -- well-formed columns, alike in what is shown, in arguments, lengths lent, station and tally, end in the same, and that is what the definitions
 -- give from what is shown alone
-pub demand-3 : (L : Limits) {q q′ : Call Column Arguments} {e e′ : End} → Run L q e → Run L q′ e′ → Formed q → Formed q′ → Alike q q′ → Agree L q q′ e e′
+pub demand-3 : (L : Limits) {q q′ : Call Column Arguments View} {e e′ : End} → Run L q e → Run L q′ e′ → Formed q → Formed q′ → Alike q q′ → Agree L q q′ e e′
 demand-3 L r r′ f f′ a = runs-agree L r r′ f f′ a
 
 -- "Where each call takes the tally the last one gave, and while no count has reached its largest value, the sums over stations grow by
 -- the calls made, split by outcome" (Note 10 of document 02): of any recipes, the first taking t and the last giving u. What a run gave
 -- is what its call gives (`gave`), so runs are calls of such a chain; Entries.antt says so of the C entry (`recipes-gave`).
-pub sums-grow : (L : Limits) {t u : M.Tally} (qs : List (Call Column Arguments)) → Chain L t qs u → Sixteen t → While (map (moveIn L) qs) t
+pub sums-grow : (L : Limits) {t u : M.Tally} (qs : List (Call Column Arguments View)) → Chain L t qs u → Sixteen t → While (map (moveIn L) qs) t
     → (M.total (u .finished) ≡ M.total (t .finished) + M.total (map (finishedBy L) qs)) × (M.total (u .refused) ≡ M.total (t .refused) + M.total (map (refusedBy L) qs))
 sums-grow L qs c z w = recipes-split L qs c z w
 
-pub gave : (L : Limits) {q : Call Column Arguments} {e : End} {t : M.Tally} → Run L q e → e .tally ≡ given t → end L q .tally ≡ given t
+pub gave : (L : Limits) {q : Call Column Arguments View} {e : End} {t : M.Tally} → Run L q e → e .tally ≡ given t → end L q .tally ≡ given t
 gave L r h = run-gives L r h
 
 -- "Columns with equal rows but other starting bits answer alike in two runs.": no premise of the claim speaks of starting bits. So for two
 -- runs of any call that takes a list at some place (K, in which lists that show equal rows make alike calls), on the same offsets and values,
 -- with bitmaps that start at other bits, or hold other bytes, and mark the same rows and places
-pub other-starts : (L : Limits) (K : Column → Call Column Arguments) → ((c d : Column) → EqualRows c d → Alike (K c) (K d)) → (o v : List ℤ) (rb rb′ eb eb′ : Bits)
+pub other-starts : (L : Limits) (K : Column → Call Column Arguments View) → ((c d : Column) → EqualRows c d → Alike (K c) (K d)) → (o v : List ℤ) (rb rb′ eb eb′ : Bits)
     → ((r : ℕ) → r < rowCount o → validAt rb r ≡ validAt rb′ r)
     → ((r i : ℕ) → r < rowCount o → validAt rb r ≡ true → i < offsetAt o (r + 1) - offsetAt o r → validAt eb (offsetAt o r + i) ≡ validAt eb′ (offsetAt o r + i))
     → (e e′ : End) → Run L (K (column o rb v eb)) e → Run L (K (column o rb′ v eb′)) e′ → Formed (K (column o rb v eb)) → Formed (K (column o rb′ v eb′)) → Agree L (K (column o rb v eb)) (K (column o rb′ v eb′)) e e′
 other-starts L K same o v rb rb′ eb eb′ h g e e′ x x′ f f′ = demand-3 L x x′ f f′ (same _ _ (other-bits o v rb rb′ eb eb′ h g))
 
 -- the same of any call that takes an argument column at some place
-pub other-startsᵃ : (L : Limits) (K : Arguments → Call Column Arguments) → ((a b : Arguments) → EqualArguments a b → Alike (K a) (K b)) → (v : List ℤ) (b b′ : Bits) → ((i : ℕ) → i < length v → validAt b i ≡ validAt b′ i)
+pub other-startsᵃ : (L : Limits) (K : Arguments → Call Column Arguments View) → ((a b : Arguments) → EqualArguments a b → Alike (K a) (K b)) → (v : List ℤ) (b b′ : Bits) → ((i : ℕ) → i < length v → validAt b i ≡ validAt b′ i)
     → (e e′ : End) → Run L (K (arguments v b)) e → Run L (K (arguments v b′)) e′ → Formed (K (arguments v b)) → Formed (K (arguments v b′)) → Agree L (K (arguments v b)) (K (arguments v b′)) e e′
 other-startsᵃ L K same v b b′ h e e′ x x′ f f′ = demand-3 L x x′ f f′ (same _ _ (other-bitsᵃ v b b′ h))
 

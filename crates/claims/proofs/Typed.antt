@@ -12,6 +12,7 @@ use lib.Seq.{take-at}
 use denote.Ref.{now}
 use Rattle.model.specs.Basics.{pick, Lent, given}
 use Rattle.model.specs.Column.{Elem, Row, Column, Arguments}
+use Rattle.model.specs.View.{View}
 use Rattle.model.specs.Form.{Room, ValueRoom, RepeatRoom, Outer}
 use Rattle.model.specs.Limits.{Limits, narrow}
 use Rattle.model.specs.Rows.{setOp, onLent}
@@ -98,7 +99,7 @@ module _ {A L : Type 0} (f : L → Outcome A) (l : L) {n : ℕ} (s : n ≡ 100 �
   long true e = absurd (s e)
   long false e = refl
 
-  was-served : (b : Bool) → n ≡ numberOf (served (given f) b l) → served (given f) b l ≡ f l
+  pub was-served : (b : Bool) → n ≡ numberOf (served (given f) b l) → served (given f) b l ≡ f l
   unfolding served gate
   was-served b e = rw (long b e)
 
@@ -107,7 +108,7 @@ unfolding onLent
 names f e = rw e
 
 -- F is what the entry serves by its code
-list-served : {n : ℕ} (s : n ≡ 100 → ⊥) (b : Bool) (o : Slices) (c : Slice ℕ) {F : Lent (Room → Outcome (List Row))} (f : Room → Outcome (List Row)) → F ≡ given f
+pub list-served : {n : ℕ} (s : n ≡ 100 → ⊥) (b : Bool) (o : Slices) (c : Slice ℕ) {F : Lent (Room → Outcome (List Row))} (f : Room → Outcome (List Row)) → F ≡ given f
     → TypedList (served F b (slicesRoom o)) n (now (o .offsets .entry)) (now (o .offsets .exit)) (now (o .rows .entry)) (now (o .rows .exit)) (now (o .values .entry)) (now (o .values .exit)) (now (o .elements .entry)) (now (o .elements .exit)) (now (c .entry)) (now (c .exit))
     → ListTyped (listEnd (f (slicesRoom o))) n o c
 list-served s b o c f e h =
@@ -269,7 +270,7 @@ unfolding tallyOver
 same-recipe x v t t′ e h k = same (v .finished ++ v .refused) t t′ (rw e at (h .tally)) (rw e at (k .tally))
 
 -- the tally's slice, after a call that took the tally in it, holds the tally that the call gives
-pub recipes-gave : (L : Limits) (q : Call Column Arguments) {n : ℕ} {l m o : Slices} {cs : Slice ℕ} (t : Slice ℕ) → tallyTaken q ≡ given (tallyAt (now (t .entry)))
+pub recipes-gave : (L : Limits) (q : Call Column Arguments View) {n : ℕ} {l m o : Slices} {cs : Slice ℕ} (t : Slice ℕ) → tallyTaken q ≡ given (tallyAt (now (t .entry)))
     → RecipeTyped (end L q) n l m o cs t → end L q .tally ≡ given (tallyAt (now (t .exit)))
 unfolding tallyOver
 recipes-gave L q t h r =

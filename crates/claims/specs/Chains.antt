@@ -4,6 +4,7 @@ use mathlib.Core.Path.{_≡_}
 use mathlib.Core.List.{List, [], _∷_}
 use Rattle.model.specs.Basics.{given}
 use Rattle.model.specs.Column.{Column, Arguments}
+use Rattle.model.specs.View.{View}
 use Rattle.model.specs.Limits.{Limits}
 use Rattle.model.specs.Tally.{Tally, Move}
 use Rattle.model.specs.Call.{Call, end, tallyTaken, moveIn, finishedBy, refusedBy}
@@ -11,7 +12,7 @@ use Rattle.model.specs.Call.{Call, end, tallyTaken, moveIn, finishedBy, refused
 -- a call, and the limits of its width
 pub record Sized : Type 0 where
   pub limits : Limits
-  pub call : Call Column Arguments
+  pub call : Call Column Arguments View
 
 -- "each call takes the tally the last one gave": the first takes t, the last gives u
 pub data Handed : Tally → List Sized → Tally → Type 0 where

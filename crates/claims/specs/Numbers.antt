@@ -12,7 +12,7 @@ use Rattle.model.specs.Form.{over}
 use Rattle.model.specs.Tally.{Tally}
 use Rattle.entry.specs.Inner.{numberIn, countsIn}
 use Rattle.typed.specs.Tallies.{withTally}
-use Rattle.claims.specs.Slots.{Slices, Pair}
+use Rattle.claims.specs.Slots.{Slices, Pair, ViewSlices}
 
 -- the slice s holds w over what it held as the call began
 abbrev pub Holds : {A : Type 0} → List A → Slice A → Type 0
@@ -36,6 +36,15 @@ pub record ListTyped (x : End) (n : ℕ) (o : Slices) (c : Slice ℕ) : Type 0 w
   pub offsets : Holds (numbersIn x 0) (o .offsets)
   pub rows : Holds (bitmapIn x 0) (o .rows)
   pub values : Holds (numbersIn x 1) (o .values)
+  pub elements : Holds (bitmapIn x 1) (o .elements)
+
+-- of a view written
+pub record ViewTyped (x : End) (n : ℕ) (o : ViewSlices) (c : Slice ℕ) : Type 0 where
+  pub answer : AnswerTyped x n c
+  pub offsets : Holds (numbersIn x 0) (o .offsets)
+  pub sizes : Holds (numbersIn x 1) (o .sizes)
+  pub rows : Holds (bitmapIn x 0) (o .rows)
+  pub values : Holds (numbersIn x 2) (o .values)
   pub elements : Holds (bitmapIn x 1) (o .elements)
 
 -- of a value answer

@@ -5,15 +5,17 @@ use lib.IntN.{ℤ}
 use lib.ListN.{length}
 use denote.Ref.{RefT, now}
 use denote.Triple.Both.{Both}
-use Rattle.model.specs.Limits.{Limits}
+use Rattle.model.specs.Limits.{Limits, narrow}
 use Rattle.model.specs.Form.{Room, ValueRoom, RepeatRoom}
 use Rattle.model.specs.Rows.{ListCall}
 use Rattle.model.specs.Column.{Column, Arguments}
-use Rattle.model.specs.Call.{Call, list, recipe}
-use Rattle.model.specs.Contract.{Slice, roomOf, valueRoom, repeatRoomOf}
+use Rattle.model.specs.View.{View, ViewRoom}
+use Rattle.view_checks.specs.Views.{lentView}
+use Rattle.model.specs.Call.{Call, list, recipe, importView, exportView}
+use Rattle.model.specs.Contract.{Slice, roomOf, valueRoom, repeatRoomOf, viewRoom}
 use Rattle.model.specs.Inner.{lentFrom, lentArgumentsFrom}
 use Rattle.model.specs.Recipe.{Recipe}
-use Rattle.model.specs.Run.{Run, listRunEnd, valueRunEnd, repeatRunEnd, recipeRunEnd}
+use Rattle.model.specs.Run.{Run, listRunEnd, valueRunEnd, repeatRunEnd, recipeRunEnd, viewRunEnd}
 use Rattle.model.specs.declared.ListAnswer.{ListAnswer}
 use Rattle.model.specs.declared.RepeatAnswer.{RepeatAnswer}
 use Rattle.model.specs.declared.ValueAnswer.{ValueAnswer}
@@ -99,16 +101,54 @@ entry3 x k = (x .values .entry, (x .bits .entry, (x .start .entry, k)))
 abbrev pub exit3 : {A : Type 0} → LentValues → A → Before3 A
 exit3 x k = (x .values .exit, (x .bits .exit, (x .start .exit, k)))
 
+-- a ListView column that is lent, and the five slices of one that is written
+pub record LentView : Type 0 where
+  pub offsets : Slice ℤ
+  pub sizes : Slice ℤ
+  pub rows : Slice ℕ
+  pub rows-start : Number
+  pub values : Slice ℤ
+  pub elements : Slice ℕ
+  pub elements-start : Number
+
+pub record ViewSlices : Type 0 where
+  pub offsets : Slice ℤ
+  pub sizes : Slice ℤ
+  pub rows : Slice ℕ
+  pub values : Slice ℤ
+  pub elements : Slice ℕ
+
+abbrev pub viewLent : LentView → View
+viewLent c = lentView (c .offsets) (c .sizes) (c .rows) (c .rows-start .entry) (c .values) (c .elements) (c .elements-start .entry)
+
+abbrev pub viewSlicesRoom : ViewSlices → ViewRoom
+viewSlicesRoom o = viewRoom (length (now (o .offsets .entry))) (length (now (o .sizes .entry))) (length (now (o .rows .entry))) (length (now (o .values .entry))) (length (now (o .elements .entry)))
+
+abbrev pub Before7 : Type 0 → Type 0
+Before7 A = RefT (List ℤ) × Before3 (Before3 A)
+
+abbrev pub entry7 : {A : Type 0} → LentView → A → Before7 A
+entry7 c k = (c .offsets .entry, (c .sizes .entry, (c .rows .entry, (c .rows-start .entry, (c .values .entry, (c .elements .entry, (c .elements-start .entry, k)))))))
+
+abbrev pub exit7 : {A : Type 0} → LentView → A → Before7 A
+exit7 c k = (c .offsets .exit, (c .sizes .exit, (c .rows .exit, (c .rows-start .exit, (c .values .exit, (c .elements .exit, (c .elements-start .exit, k)))))))
+
+abbrev pub entry5 : {A : Type 0} → ViewSlices → A → RefT (List ℤ) × Before4 A
+entry5 c k = (c .offsets .entry, (c .sizes .entry, (c .rows .entry, (c .values .entry, (c .elements .entry, k)))))
+
+abbrev pub exit5 : {A : Type 0} → ViewSlices → A → RefT (List ℤ) × Before4 A
+exit5 c k = (c .offsets .exit, (c .sizes .exit, (c .rows .exit, (c .values .exit, (c .elements .exit, k)))))
+
 -- a call of q, at the width of L, that answered a and had o for its output is a run
 abbrev pub ListRuns : Limits → ListCall Column Arguments → ListAnswer → Slices → Type 0
 ListRuns L q a o = Run L (list q (slicesRoom o)) (listRunEnd a (now (o .offsets .exit)) (now (o .rows .exit)) (now (o .values .exit)) (now (o .elements .exit)))
 
 -- the same with a value answer
-abbrev pub ValueRuns : Limits → (ValueRoom → Call Column Arguments) → ValueAnswer → Pair → Type 0
+abbrev pub ValueRuns : Limits → (ValueRoom → Call Column Arguments View) → ValueAnswer → Pair → Type 0
 ValueRuns L q a o = Run L (q (pairRoom o)) (valueRunEnd a (now (o .values .exit)) (now (o .bits .exit)))
 
 -- and with list-repeat's, whose outer lists have two slices and inner lists four
-abbrev pub RepeatRuns : Limits → (RepeatRoom → Call Column Arguments) → RepeatAnswer → Pair → Slices → Type 0
+abbrev pub RepeatRuns : Limits → (RepeatRoom → Call Column Arguments View) → RepeatAnswer → Pair → Slices → Type 0
 RepeatRuns L q a b o =
     Run L
     (q (repeatRoomOf (b .values) (b .bits) (o .offsets) (o .rows) (o .values) (o .elements)))
@@ -123,3 +163,10 @@ RecipeRuns L s p c d x l m o t a =
     (now (l .offsets .exit)) (now (l .rows .exit)) (now (l .values .exit)) (now (l .elements .exit))
     (now (m .offsets .exit)) (now (m .rows .exit)) (now (m .values .exit)) (now (m .elements .exit))
     (tallyOf (a .tally)))
+
+-- an import, and an export, that answered a
+abbrev pub ImportRuns : View → ListAnswer → Slices → Type 0
+ImportRuns c a o = Run narrow (importView c (slicesRoom o)) (listRunEnd a (now (o .offsets .exit)) (now (o .rows .exit)) (now (o .values .exit)) (now (o .elements .exit)))
+
+abbrev pub ExportRuns : Column → ListAnswer → ViewSlices → Type 0
+ExportRuns c a o = Run narrow (exportView c (viewSlicesRoom o)) (viewRunEnd a (now (o .offsets .exit)) (now (o .sizes .exit)) (now (o .rows .exit)) (now (o .values .exit)) (now (o .elements .exit)))

@@ -4,3 +4,4 @@ pub mod PutLaws
 pub mod WriteLaws
 pub mod WalkLaws
 pub mod AnswerLaws
+pub mod ReadLaws

@@ -21,7 +21,7 @@ pub falls-step : (l : List ℤ) (n i : ℕ) → i + 1 < length l → falls (getD
 unfolding falls
 falls-step l n i h = rw (drop-cons l (i + 1) (pos 0) h, add-one (i + 1))
 
-count-beyond : (n : ℕ) (o : ℤ) → ltb n (count o) ≡ ltZ (pos n) o
+pub count-beyond : (n : ℕ) (o : ℤ) → ltb n (count o) ≡ ltZ (pos n) o
 unfolding count
 count-beyond n (pos m) = refl
 count-beyond n (negsuc m) = le-ltb n 0 (omega arith)

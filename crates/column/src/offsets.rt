@@ -40,7 +40,7 @@ pub fn put_offset(out: &mut [i32], i: usize, v: usize)
 }
 
 // Whether the offset at i is less than v.
-fn below(offsets: &[i32], i: usize, v: usize) -> bool
+pub fn below(offsets: &[i32], i: usize, v: usize) -> bool
     requires { ⌜ i < length (now offsets) ⌝ }
     ensures { λ r. ⌜ r ≡ ltZ (getD (now (offsets .entry)) i (pos 0)) (pos v) ⌝ }
 {

@@ -45,7 +45,7 @@ pub fn measure_rows(
 
 // Writes row r, but for its offset; gives the number of elements then written.
 #[rattlefmt::skip]
-fn put_row(
+pub fn put_row(
     rows: &[u8], rstart: usize, n: usize, values: &[i64], elements: &[u8], estart: usize,
     r: usize, a: usize, b: usize, out_rows: &mut [u8], out_values: &mut [i64], out_elements: &mut [u8],
     at: usize,

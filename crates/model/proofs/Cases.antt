@@ -8,6 +8,7 @@ use Rattle.model.specs.Basics.{tab, any, absent, given}
 use Rattle.model.specs.Limits.{narrow}
 use Rattle.model.specs.Bitmap.{from, validAt, shortBits, byteOf, packN, pack, nulls}
 use Rattle.model.specs.Column.{Column, column, Arguments, arguments, count, elemAt, rowAt, rowsOf, shownBy, falls, badOffsets, refusal13, refusal13ᵃ, refusal2, refusal2ᵃ}
+use Rattle.model.specs.View.{View}
 use Rattle.model.specs.Form.{Room, ValueRoom, RepeatRoom, isVal, valueOf, isRow, elemsOf, flat, offsetsFrom, isOuter, innerOf, inner}
 use Rattle.model.specs.Elements.{eqZ, sameElem, isIn, firsts, unaryElems, common, setElems, resized, replaced, removed, elementAt}
 use Rattle.model.specs.Slice.{fits, fromPlace, inRow, fromBound, toPlace, toBound, stepCount, against, isZero, strided, between, slicePlan, stepFrom, sliced}
@@ -81,10 +82,10 @@ refusedValue k = operationEnd (refusal k) ([] ∷ []) ([] ∷ [])
 -- a part of a case, with the code of its letter
 pub record Case : Type 0 where
   pub letter : ℕ
-  pub call : Call Column Arguments
+  pub call : Call Column Arguments View
   pub ends : End
 
-abbrev case : ℕ → Call Column Arguments → End → Case
+abbrev case : ℕ → Call Column Arguments View → End → Case
 case x q e = record { letter = x; call = q; ends = e }
 
 pub table : List Case

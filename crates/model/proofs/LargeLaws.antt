@@ -10,6 +10,7 @@ use lib.IntN.{ℤ, pos, negsuc}
 use Rattle.model.specs.Basics.{pick, tab, any}
 use Rattle.model.specs.Limits.{wide, largest}
 use Rattle.model.specs.Column.{Elem, nul, val, Row, nullRow, listRow, Column, Arguments, rowsOf, shownBy, refusal13, refusal13ᵃ, refusal1, refusal2, refusal2ᵃ}
+use Rattle.model.specs.View.{View, ViewRoom, viewRows, refusal13ᵛ, refusal2ᵛ, refusal3ᵛ, refusal11, viewRefusal, fitsView, importShown, importOutcome, exportShown, exportOutcome}
 use Rattle.model.specs.Form.{flat, Room, ValueRoom, RepeatRoom, Outer, fitsIn, fitsValues, fitsRepeat}
 use Rattle.model.specs.Slice.{fits, fromPlace, inRow, fromBound, toPlace, toBound, Bound, unfit, outside, place, Plan, refuse, empty, places, isZero, against, strided, between, slicePlan, stepCount}
 use Rattle.model.specs.Rows.{ListCall, unary, setOp, slice, resize, replace, remove, onCall, listsIn, argumentsIn, planned, strideOf, sliceRow, madeOf, rowOf, argumentOf, atRow, rowsIn, rowByRow, rowsMade, anyValueOf}
@@ -17,7 +18,7 @@ use Rattle.model.specs.Refusals.{differs, unequal, firstOf, refusalOf, R
 use Rattle.model.specs.Outcome.{Outcome, refused, made, gate, columnsRefusal, fitted, fittedValues, fittedRepeat, afterThree, listShown, anyValueShown, elementsMade, elementsRefusal, elementShown, repeatsMade, repeatShown, listOutcome, anyValueOutcome, elementOutcome, repeatOutcome}
 use Rattle.model.specs.Lengths.{roomOfRows, roomOfValues, roomOfOuter, listLengthsShown, anyValueLengthsShown, elementLengthsShown, repeatLengthsShown, listLengths, anyValueLengths, elementLengths, repeatLengths, formedLimits, recipeLimits}
 use Rattle.model.specs.Recipe.{Step, Recipe, malformed, recipeUnequal, stepCall, thenOn, carried, stepped, formedRecipe, recipeOutcome, stationed, stepsOf}
-use Rattle.model.specs.Call.{Call, list, anyValue, element, listRepeat, recipe, measureList, measureAnyValue, measureElement, measureRepeat, limitRecipe, Answer, refusal, counts, answerOf, end, listEnd, valueEnd, repeatEnd, recipeEnd}
+use Rattle.model.specs.Call.{Call, list, anyValue, element, listRepeat, recipe, measureList, measureAnyValue, measureElement, measureRepeat, limitRecipe, importView, exportView, Answer, refusal, counts, answerOf, end, listEnd, valueEnd, repeatEnd, recipeEnd, viewEnd}
 use Rattle.model.specs.declared.SetOp.the-variants.{Union, Intersect}
 use Rattle.model.proofs.BoolLaws.{never}
 use Rattle.model.proofs.TabLaws.{map-tab}
@@ -265,13 +266,25 @@ limits-spared : (p : Recipe) (c d : Column) (e : Arguments) → Spared (recipeLi
 unfolding recipeLimits
 limits-spared p c d e = spared-gate _ _ (ten-or (malformed p)) (spared-gate _ _ (columns-neither _ _) (formed-limits-spared p (rowsOf c) (rowsOf d) (shownBy e)))
 
+import-spared : (v : View) (l : Room) → Spared (importOutcome wide v l)
+unfolding importOutcome importShown viewRefusal
+import-spared v l =
+    spared-gate _ _ (
+    pick-case Neither (refusal13ᵛ v) 13 _ (λ e. omega arith, λ e. omega arith)
+    (pick-case Neither (refusal2ᵛ v) 2 _ (λ e. omega arith, λ e. omega arith) (pick-case Neither (refusal3ᵛ v) 3 _ (λ e. omega arith, λ e. omega arith) (zero-or (refusal11 v) 11 (λ e. omega arith, λ e. omega arith)))))
+    (spared-gate _ _ (eight-or (ltb (wide .offset) (length (flat (viewRows v))))) (fitted-spared (viewRows v) l))
+
+export-spared : (c : Column) (l : ViewRoom) → Spared (exportOutcome c l)
+unfolding exportOutcome exportShown
+export-spared c l = spared-gate _ _ (columns-neither _ _) (or-nine (fitsView (length (rowsOf c)) (length (flat (rowsOf c))) l) (rowsOf c))
+
 answered : {A : Type 0} (f : A → List ℕ) (x : Outcome A) (k : ℕ) → Spared x → answerOf f x ≡ refusal k → Neither k
 unfolding answerOf
 answered f (refused j) k h e = let q : j ≡ k = cc in rw (← q) (h .neither j refl)
 answered f (made a) k h e = never cc
 
-pub no-four-or-six : (q : Call Column Arguments) (k : ℕ) → end wide q .answer ≡ refusal k → Neither k
-unfolding end listEnd valueEnd repeatEnd recipeEnd
+pub no-four-or-six : (q : Call Column Arguments View) (k : ℕ) → end wide q .answer ≡ refusal k → Neither k
+unfolding end listEnd valueEnd repeatEnd recipeEnd viewEnd
 no-four-or-six (list q l) k e = answered _ _ k (list-spared q l) e
 no-four-or-six (anyValue c l) k e = answered _ _ k (any-spared c l) e
 no-four-or-six (element c a l) k e = answered _ _ k (element-spared c a l) e
@@ -282,3 +295,5 @@ no-four-or-six (measureAnyValue c) k e = answered _ _ k (any-lengths-spared c) e
 no-four-or-six (measureElement c a) k e = answered _ _ k (element-lengths-spared c a) e
 no-four-or-six (measureRepeat c a) k e = answered _ _ k (repeat-lengths-spared c a) e
 no-four-or-six (limitRecipe p c d x) k e = answered _ _ k (limits-spared p c d x) e
+no-four-or-six (importView v l) k e = answered _ _ k (import-spared v l) e
+no-four-or-six (exportView c l) k e = answered _ _ k (export-spared c l) e

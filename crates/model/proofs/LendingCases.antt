@@ -7,6 +7,7 @@ use Rattle.model.specs.Basics.{tab, any, given}
 use Rattle.model.specs.Limits.{narrow}
 use Rattle.model.specs.Bitmap.{from, validAt, shortBits}
 use Rattle.model.specs.Column.{Column, Arguments, arguments, count, elemAt, rowAt, rowsOf, shownBy, falls, badOffsets, refusal13, refusal13ᵃ, refusal2, refusal2ᵃ}
+use Rattle.model.specs.View.{View}
 use Rattle.model.specs.Form.{elemsOf, flat, innerOf, inner}
 use Rattle.model.specs.Elements.{unaryElems}
 use Rattle.model.specs.Slice.{fits, fromPlace, inRow, fromBound, toPlace, toBound, isZero, strided, between, slicePlan}
@@ -20,17 +21,17 @@ use Rattle.model.specs.declared.Unary.the-variants.{Reverse}
 use Rattle.model.proofs.Cases.{lists, row, S, one, minus}
 
 pub record Lending : Type 0 where
-  pub call : Call Column Arguments
+  pub call : Call Column Arguments View
   pub answers : Answer
 
-abbrev lends : Call Column Arguments → List ℕ → Lending
+abbrev lends : Call Column Arguments View → List ℕ → Lending
 lends q ns = record { call = q; answers = counts ns }
 
-abbrev refuses : Call Column Arguments → ℕ → Lending
+abbrev refuses : Call Column Arguments View → ℕ → Lending
 refuses q k = record { call = q; answers = refusal k }
 
 -- a recipe's limits: its numbers, the argument columns lent, the two lists and the arguments; tray one, tray two and the output
-abbrev limits : List ℕ → ℕ → Column → Column → List ℤ → List ℕ → Call Column Arguments
+abbrev limits : List ℕ → ℕ → Column → Column → List ℤ → List ℕ → Call Column Arguments View
 limits ns k c d vs bs = limitRecipe (record { numbers = ns; columns = k }) c d (arguments vs (from 0 bs))
 
 -- [1,2], null, []: the null row lies over 8, 8

@@ -2,6 +2,7 @@ pub mod BoolLaws
 pub mod TabLaws
 pub mod ColumnLaws
 pub mod OutcomeLaws
+pub mod ViewLaws
 pub mod FormLaws
 pub mod LengthLaws
 pub mod RowLaws

@@ -5,16 +5,17 @@ use Prim.Native.Nat.{ℕ, _+_}
 use native.Mathlib.Omega.{arith}
 use lib.ListN.{length, take, drop}
 use lib.Seq.{take-at}
-use lib.IntN.{ℤ}
+use lib.IntN.{ℤ, pos}
 use Rattle.model.specs.Bitmap.{bytesFor, pack}
 use Rattle.model.specs.Limits.{Limits}
 use Rattle.model.specs.Column.{Elem, Row, Column, Arguments}
+use Rattle.model.specs.View.{View, viewOffsets, viewSizes}
 use Rattle.model.specs.Tally.{Tally, tallied}
 use Rattle.model.specs.Form.{Room, isVal, isRow, valueOf, Outer, isOuter, outerLength, inner, flat, lengthOf, over, offsetsFrom, formOffsets, formRows, formValues, formElements}
 use Rattle.model.specs.Outcome.{Outcome, refused, made}
-use Rattle.model.specs.Call.{Call, answerOf, written, End, listNumbers, listBitmaps, listEnd, valueEnd, repeatEnd, recipeEnd, measureEnd, end}
-use Rattle.model.specs.Contract.{told, toldValue, toldRepeat, ListMeets, ValueMeets, RepeatMeets, Zeroed}
-use Rattle.model.specs.Run.{listRunEnd, valueRunEnd, repeatRunEnd, recipeRunEnd, Run, listRun, anyValueRun, elementRun, repeatRun, recipeRun, measureListRun, measureAnyValueRun, measureElementRun, measureRepeatRun, limitRecipeRun}
+use Rattle.model.specs.Call.{Call, answerOf, written, End, listNumbers, listBitmaps, listEnd, valueEnd, repeatEnd, recipeEnd, viewEnd, measureEnd, end}
+use Rattle.model.specs.Contract.{told, toldValue, toldRepeat, ListMeets, ViewMeets, ValueMeets, RepeatMeets, Zeroed}
+use Rattle.model.specs.Run.{listRunEnd, valueRunEnd, repeatRunEnd, recipeRunEnd, Run, listRun, anyValueRun, elementRun, repeatRun, recipeRun, measureListRun, measureAnyValueRun, measureElementRun, measureRepeatRun, limitRecipeRun, viewRunEnd, importRun, exportRun}
 use Rattle.model.specs.declared.ListAnswer.{ListAnswer}
 use Rattle.model.specs.declared.ListAnswer.the-variants as L
 use Rattle.model.specs.declared.RepeatAnswer.{RepeatAnswer}
@@ -23,6 +24,7 @@ use Rattle.model.specs.declared.ValueAnswer.{ValueAnswer}
 use Rattle.model.specs.declared.ValueAnswer.the-variants as V′
 use Rattle.model.proofs.TabLaws.{length-map}
 use Rattle.model.proofs.FormLaws.{length-pack, length-offsets}
+use Rattle.model.proofs.ViewLaws.{length-view}
 use Rattle.model.proofs.BoolLaws.{never}
 
 -- the slots that were written, taken from the slice
@@ -83,6 +85,25 @@ module _ {o o′ : List ℤ} {r r′ : List ℕ} {io io′ : List ℤ} {ir ir′
       let elements = taken (formElements (flat (inner os))) e e′ (bytesFor m) (h .elements) (omega (arith, length-pack (map isVal (flat (inner os))), length-map isVal (flat (inner os)))) in
       cc
 
+-- ---- a view's answer
+
+module _ {o o′ s s′ : List ℤ} {r r′ : List ℕ} {v v′ : List ℤ} {e e′ : List ℕ} where
+  view-run : (x : Outcome (List Row)) (a : ListAnswer) → ViewMeets x a o o′ s s′ r r′ v v′ e e′ → viewRunEnd a o′ s′ r′ v′ e′ ≡ viewEnd x
+  unfolding viewRunEnd viewEnd listBitmaps told answerOf written
+  view-run (refused k) (L.Refused j) h = let q = h .answer in cc
+  view-run (refused k) (L.Counts n m p q) h = let z = h .answer in never cc
+  view-run (made ws) (L.Refused j) h = let z = h .answer in never cc
+  view-run (made ws) (L.Counts n m p q) h =
+      let z = h .answer in
+      let en : n ≡ length ws = cc in
+      let em : m ≡ length (flat ws) = cc in
+      let offsets = taken (viewOffsets ws) o o′ n (h .offsets) (omega (arith, length-view 0 ws)) in
+      let sizes = taken (viewSizes ws) s s′ n (h .sizes) (omega (arith, length-map (λ w. pos (lengthOf w)) ws)) in
+      let rows = taken (formRows ws) r r′ (bytesFor n) (h .rows) (omega (arith, length-pack (map isRow ws), length-map isRow ws)) in
+      let values = taken (formValues (flat ws)) v v′ m (h .values) (omega (arith, length-map valueOf (flat ws))) in
+      let elements = taken (formElements (flat ws)) e e′ (bytesFor m) (h .elements) (omega (arith, length-pack (map isVal (flat ws)), length-map isVal (flat ws))) in
+      cc
+
 -- ---- a recipe's answer, trays and tally
 
 module _ {o o′ : List ℤ} {r r′ : List ℕ} {v v′ : List ℤ} {e e′ : List ℕ} {ao : List ℤ} {ar : List ℕ} {av : List ℤ} {ae : List ℕ} {bo : List ℤ} {br : List ℕ} {bv : List ℤ} {be : List ℕ} where
@@ -91,7 +112,7 @@ module _ {o o′ : List ℤ} {r r′ : List ℕ} {v v′ : List ℤ} {e e′ : L
   unfolding recipeRunEnd recipeEnd listEnd
   recipe-run s x a l m t t′ h y z q = rw (list-run x a h, y .offsets, y .rows, y .values, y .elements, z .offsets, z .rows, z .values, z .elements, q)
 
-pub run-ends : (L : Limits) {q : Call Column Arguments} {e : End} → Run L q e → e ≡ end L q
+pub run-ends : (L : Limits) {q : Call Column Arguments View} {e : End} → Run L q e → e ≡ end L q
 unfolding end
 run-ends L (listRun h) = list-run _ _ h
 run-ends L (anyValueRun h) = value-run _ _ h
@@ -103,3 +124,5 @@ run-ends L (measureAnyValueRun h) = ap measureEnd (h .answer)
 run-ends L (measureElementRun h) = ap measureEnd (h .answer)
 run-ends L (measureRepeatRun h) = ap measureEnd (h .answer)
 run-ends L (limitRecipeRun h) = ap measureEnd (h .answer)
+run-ends L (importRun h) = list-run _ _ h
+run-ends L (exportRun h) = view-run _ _ h

@@ -15,11 +15,12 @@ use Rattle.model.specs.Basics.{pick, given, All, none, more}
 use Rattle.model.specs.Limits.{Limits, largest}
 use Rattle.model.specs.Bitmap.{bit}
 use Rattle.model.specs.Column.{Row, Column, Arguments}
+use Rattle.model.specs.View.{View}
 use Rattle.model.specs.Form.{Room}
 use Rattle.model.specs.Outcome.{Outcome, refused, made, gate}
 use Rattle.model.specs.Recipe.{Recipe, recipeOutcome, stationed}
 use Rattle.model.specs.Tally.{Tally, Sixteen, oneMore, countedAt, Move, finishedAt, refusedAt, nobody, moved, named, outcomeAt, moveOf, tallied, Names, movedAll, Below, While, noMore, still, total, asFinished, asRefused, Grown}
-use Rattle.model.specs.Call.{Call, list, anyValue, element, listRepeat, recipe, measureList, measureAnyValue, measureElement, measureRepeat, limitRecipe, End, refusal, answerOf, written, listNumbers, listBitmaps, recipeEnd, end, tallyTaken, moveIn, Chain, listCounts, namesStation, accepted, finishedBy, refusedBy}
+use Rattle.model.specs.Call.{Call, list, anyValue, element, listRepeat, recipe, measureList, measureAnyValue, measureElement, measureRepeat, limitRecipe, importView, exportView, End, refusal, answerOf, written, listNumbers, listBitmaps, recipeEnd, end, tallyTaken, moveIn, Chain, listCounts, namesStation, accepted, finishedBy, refusedBy}
 use Rattle.model.specs.Call as C
 use Rattle.model.specs.Run.{Run}
 use Rattle.model.proofs.BoolLaws.{never}
@@ -171,7 +172,7 @@ names-of s x = go (ltb 15 s) refl x
     go false e (made a) = let l = ltb-false 15 s e in omega (arith, l)
     go false e (refused k) = let l = ltb-false 15 s e in omega (arith, l)
 
-names-in : (L : Limits) (q : Call Column Arguments) → Names (moveIn L q)
+names-in : (L : Limits) (q : Call Column Arguments View) → Names (moveIn L q)
 unfolding moveIn Names
 names-in L (list q l) = tt
 names-in L (anyValue c l) = tt
@@ -183,13 +184,15 @@ names-in L (measureAnyValue c) = tt
 names-in L (measureElement c a) = tt
 names-in L (measureRepeat c a) = tt
 names-in L (limitRecipe p c d e) = tt
+names-in L (importView v l) = tt
+names-in L (exportView c l) = tt
 
-all-name : (L : Limits) (qs : List (Call Column Arguments)) → All Names (map (moveIn L) qs)
+all-name : (L : Limits) (qs : List (Call Column Arguments View)) → All Names (map (moveIn L) qs)
 all-name L [] = none
 all-name L (q ∷ qs) = more (names-in L q) (all-name L qs)
 
 -- a call that takes a tally gives the one that its move leaves
-pub end-moves : (L : Limits) (q : Call Column Arguments) (t : Tally) → tallyTaken q ≡ given t → end L q .tally ≡ given (moved (moveIn L q) t)
+pub end-moves : (L : Limits) (q : Call Column Arguments View) (t : Tally) → tallyTaken q ≡ given t → end L q .tally ≡ given (moved (moveIn L q) t)
 unfolding tallyTaken end recipeEnd moveIn
 end-moves L (list q l) t h = never cc
 end-moves L (anyValue c l) t h = never cc
@@ -201,8 +204,10 @@ end-moves L (measureAnyValue c) t h = never cc
 end-moves L (measureElement c a) t h = never cc
 end-moves L (measureRepeat c a) t h = never cc
 end-moves L (limitRecipe p c d e) t h = never cc
+end-moves L (importView v l) t h = never cc
+end-moves L (exportView c l) t h = never cc
 
-chain-moves : (L : Limits) {t u : Tally} {qs : List (Call Column Arguments)} → Chain L t qs u → u ≡ movedAll (map (moveIn L) qs) t
+chain-moves : (L : Limits) {t u : Tally} {qs : List (Call Column Arguments View)} → Chain L t qs u → u ≡ movedAll (map (moveIn L) qs) t
 unfolding movedAll
 chain-moves L C.none = refl
 chain-moves L {t = t} (C.next {q} {qs} {t′ = t′} h g c) =
@@ -211,12 +216,12 @@ chain-moves L {t = t} (C.next {q} {qs} {t′ = t′} h g c) =
     chain-moves L c ∙ ap (movedAll (map (moveIn L) qs)) k
 
 -- the claim over recipes: t is the tally that the first call takes, u the one that the last gives
-pub recipes-grow : (L : Limits) {t u : Tally} (qs : List (Call Column Arguments)) → Chain L t qs u → Sixteen t → While (map (moveIn L) qs) t → Grown (map (moveIn L) qs) t u
+pub recipes-grow : (L : Limits) {t u : Tally} (qs : List (Call Column Arguments View)) → Chain L t qs u → Sixteen t → While (map (moveIn L) qs) t → Grown (map (moveIn L) qs) t u
 recipes-grow L {t} qs c z w = rw (chain-moves L c) (sums-grow (map (moveIn L) qs) t z (all-name L qs) w)
 
 -- what counts as finished is a call for a station that was accepted, and what counts as refused one that was not
 module _ (L : Limits) where
-  split-finished : (q : Call Column Arguments) → asFinished (moveIn L q) ≡ finishedBy L q
+  split-finished : (q : Call Column Arguments View) → asFinished (moveIn L q) ≡ finishedBy L q
   unfolding moveIn moveOf named outcomeAt asFinished namesStation accepted end recipeEnd answerOf
   split-finished (list q l) = refl
   split-finished (anyValue c l) = refl
@@ -227,6 +232,8 @@ module _ (L : Limits) where
   split-finished (measureElement c a) = refl
   split-finished (measureRepeat c a) = refl
   split-finished (limitRecipe p c d e) = refl
+  split-finished (importView v l) = refl
+  split-finished (exportView c l) = refl
   split-finished (recipe s p c d e a b o t) = go (ltb 15 s) (stationed s (recipeOutcome L p c d e a b o))
     where
       go : (b : Bool) (x : Outcome (List Row)) → asFinished (pick b nobody (outcomeAt s x)) ≡ bit (not b && accepted (answerOf listCounts x))
@@ -234,7 +241,7 @@ module _ (L : Limits) where
       go false (refused k) = refl
       go false (made ws) = refl
 
-  split-refused : (q : Call Column Arguments) → asRefused (moveIn L q) ≡ refusedBy L q
+  split-refused : (q : Call Column Arguments View) → asRefused (moveIn L q) ≡ refusedBy L q
   unfolding moveIn moveOf named outcomeAt asRefused namesStation accepted end recipeEnd answerOf
   split-refused (list q l) = refl
   split-refused (anyValue c l) = refl
@@ -245,6 +252,8 @@ module _ (L : Limits) where
   split-refused (measureElement c a) = refl
   split-refused (measureRepeat c a) = refl
   split-refused (limitRecipe p c d e) = refl
+  split-refused (importView v l) = refl
+  split-refused (exportView c l) = refl
   split-refused (recipe s p c d e a b o t) = go (ltb 15 s) (stationed s (recipeOutcome L p c d e a b o))
     where
       go : (b : Bool) (x : Outcome (List Row)) → asRefused (pick b nobody (outcomeAt s x)) ≡ bit (not b && not (accepted (answerOf listCounts x)))
@@ -252,21 +261,21 @@ module _ (L : Limits) where
       go false (refused k) = refl
       go false (made ws) = refl
 
-  sum-finished : (qs : List (Call Column Arguments)) → total (map asFinished (map (moveIn L) qs)) ≡ total (map (finishedBy L) qs)
+  sum-finished : (qs : List (Call Column Arguments View)) → total (map asFinished (map (moveIn L) qs)) ≡ total (map (finishedBy L) qs)
   unfolding total
   sum-finished [] = refl
   sum-finished (q ∷ qs) = rw (split-finished q, sum-finished qs)
 
-  sum-refused : (qs : List (Call Column Arguments)) → total (map asRefused (map (moveIn L) qs)) ≡ total (map (refusedBy L) qs)
+  sum-refused : (qs : List (Call Column Arguments View)) → total (map asRefused (map (moveIn L) qs)) ≡ total (map (refusedBy L) qs)
   unfolding total
   sum-refused [] = refl
   sum-refused (q ∷ qs) = rw (split-refused q, sum-refused qs)
 
   -- the claim over recipes, by what the calls came to
-  pub recipes-split : {t u : Tally} (qs : List (Call Column Arguments)) → Chain L t qs u → Sixteen t → While (map (moveIn L) qs) t
+  pub recipes-split : {t u : Tally} (qs : List (Call Column Arguments View)) → Chain L t qs u → Sixteen t → While (map (moveIn L) qs) t
       → (total (u .finished) ≡ total (t .finished) + total (map (finishedBy L) qs)) × (total (u .refused) ≡ total (t .refused) + total (map (refusedBy L) qs))
   recipes-split qs c z w = let g = recipes-grow L qs c z w in (rw (← sum-finished qs) (g .finished), rw (← sum-refused qs) (g .refused))
 
 -- what a run of a call gave is what the call gives
-pub run-gives : (L : Limits) {q : Call Column Arguments} {e : End} {t : Tally} → Run L q e → e .tally ≡ given t → end L q .tally ≡ given t
+pub run-gives : (L : Limits) {q : Call Column Arguments View} {e : End} {t : Tally} → Run L q e → e .tally ≡ given t → end L q .tally ≡ given t
 run-gives L r h = ap (λ (x : End). x .tally) (sym (run-ends L r)) ∙ h

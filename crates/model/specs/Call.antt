@@ -9,6 +9,7 @@ use lib.Dec.{ltb}
 use Rattle.model.specs.Basics.{Lent, absent, given, All}
 use Rattle.model.specs.Limits.{Limits}
 use Rattle.model.specs.Column.{Elem, Row, Column, Arguments, rowsOf, shownBy, WellFormed, WellFormedᵃ, EqualRows, EqualArguments}
+use Rattle.model.specs.View.{View, ViewRoom, viewRows, viewOffsets, viewSizes, WellFormedᵛ, EqualViews, importShown, importOutcome, exportShown, exportOutcome}
 use Rattle.model.specs.Form.{Room, ValueRoom, RepeatRoom, Outer, isOuter, outerLength, inner, flat, offsetsFrom, formOffsets, formRows, formValues, formElements, nullRows, nullElems}
 use Rattle.model.specs.Bitmap.{bit, pack, nulls}
 use Rattle.model.specs.Rows.{ListCall, unary, setOp, slice, resize, replace, remove, onCall, listsIn, argumentsIn}
@@ -21,22 +22,25 @@ use Rattle.model.specs.declared.SetOp.{SetOp}
 
 -- a call: its operation with the lists and argument columns it takes, the lengths lent for results and trays, and a recipe's
 -- station and tally
-pub data Call (C A : Type 0) : Type 0 where
-  list : ListCall C A → Room → Call C A
-  anyValue : C → ValueRoom → Call C A
-  element : C → A → ValueRoom → Call C A
-  listRepeat : C → A → RepeatRoom → Call C A
+pub data Call (C A W : Type 0) : Type 0 where
+  list : ListCall C A → Room → Call C A W
+  anyValue : C → ValueRoom → Call C A W
+  element : C → A → ValueRoom → Call C A W
+  listRepeat : C → A → RepeatRoom → Call C A W
   -- station, recipe, first list, second list, argument columns, tray one, tray two, output
-  recipe : ℕ → Recipe → C → C → A → Room → Room → Room → Tally → Call C A
+  recipe : ℕ → Recipe → C → C → A → Room → Room → Room → Tally → Call C A W
   -- Note 1 of document 02, how much to lend: what a list operation, any-value, element and list-repeat need, and a recipe's limits
-  measureList : ListCall C A → Call C A
-  measureAnyValue : C → Call C A
-  measureElement : C → A → Call C A
-  measureRepeat : C → A → Call C A
-  limitRecipe : Recipe → C → C → A → Call C A
+  measureList : ListCall C A → Call C A W
+  measureAnyValue : C → Call C A W
+  measureElement : C → A → Call C A W
+  measureRepeat : C → A → Call C A W
+  limitRecipe : Recipe → C → C → A → Call C A W
+  -- Note 3 of document 02: a ListView column read into a list column, and a list column written as one
+  importView : W → Room → Call C A W
+  exportView : C → ViewRoom → Call C A W
 
 -- what is shown of a call
-unfoldable pub shown : Call Column Arguments → Call (List Row) (List Elem)
+unfoldable pub shown : Call Column Arguments View → Call (List Row) (List Elem) (List Row)
 shown (list q l) = list (onCall rowsOf shownBy q) l
 shown (anyValue c l) = anyValue (rowsOf c) l
 shown (element c a l) = element (rowsOf c) (shownBy a) l
@@ -47,8 +51,10 @@ shown (measureAnyValue c) = measureAnyValue (rowsOf c)
 shown (measureElement c a) = measureElement (rowsOf c) (shownBy a)
 shown (measureRepeat c a) = measureRepeat (rowsOf c) (shownBy a)
 shown (limitRecipe p c d e) = limitRecipe p (rowsOf c) (rowsOf d) (shownBy e)
+shown (importView v l) = importView (viewRows v) l
+shown (exportView c l) = exportView (rowsOf c) l
 
-unfoldable pub listsOf : {C A : Type 0} → Call C A → List C
+unfoldable pub listsOf : {C A W : Type 0} → Call C A W → List C
 listsOf (list q l) = listsIn q
 listsOf (anyValue c l) = c ∷ []
 listsOf (element c a l) = c ∷ []
@@ -59,8 +65,10 @@ listsOf (measureAnyValue c) = c ∷ []
 listsOf (measureElement c a) = c ∷ []
 listsOf (measureRepeat c a) = c ∷ []
 listsOf (limitRecipe p c d e) = c ∷ d ∷ []
+listsOf (importView v l) = []
+listsOf (exportView c l) = c ∷ []
 
-unfoldable pub argumentsOf : {C A : Type 0} → Call C A → List A
+unfoldable pub argumentsOf : {C A W : Type 0} → Call C A W → List A
 argumentsOf (list q l) = argumentsIn q
 argumentsOf (anyValue c l) = []
 argumentsOf (element c a l) = a ∷ []
@@ -71,6 +79,22 @@ argumentsOf (measureAnyValue c) = []
 argumentsOf (measureElement c a) = a ∷ []
 argumentsOf (measureRepeat c a) = a ∷ []
 argumentsOf (limitRecipe p c d e) = e ∷ []
+argumentsOf (importView v l) = []
+argumentsOf (exportView c l) = []
+
+unfoldable pub viewsOf : {C A W : Type 0} → Call C A W → List W
+viewsOf (list q l) = []
+viewsOf (anyValue c l) = []
+viewsOf (element c a l) = []
+viewsOf (listRepeat c a l) = []
+viewsOf (recipe s p c d e a b o t) = []
+viewsOf (measureList q) = []
+viewsOf (measureAnyValue c) = []
+viewsOf (measureElement c a) = []
+viewsOf (measureRepeat c a) = []
+viewsOf (limitRecipe p c d e) = []
+viewsOf (importView v l) = v ∷ []
+viewsOf (exportView c l) = []
 
 -- an answer: the number of a refusal, or all counts
 pub data Answer : Type 0 where
@@ -161,8 +185,14 @@ recipeEnd s x a b t =
 abbrev pub measureEnd : Answer → End
 measureEnd a = operationEnd a [] []
 
+-- a view written: its offsets, sizes and values, and the two bitmaps
+unfoldable pub viewEnd : Outcome (List Row) → End
+viewEnd x =
+    operationEnd (answerOf listCounts x) (written viewOffsets x ∷ written viewSizes x ∷ written (λ ws. formValues (flat ws)) x ∷ [])
+    (listBitmaps x)
+
 -- what a call ends in, from the columns lent: contracts name the same outcomes
-unfoldable pub end : Limits → Call Column Arguments → End
+unfoldable pub end : Limits → Call Column Arguments View → End
 end L (list q l) = listEnd (listOutcome L q l)
 end L (anyValue c l) = valueEnd (anyValueOutcome c l)
 end L (element c a l) = valueEnd (elementOutcome L c a l)
@@ -173,9 +203,11 @@ end L (measureAnyValue c) = measureEnd (answerOf valueRoomCounts (anyValueLength
 end L (measureElement c a) = measureEnd (answerOf valueRoomCounts (elementLengths L c a))
 end L (measureRepeat c a) = measureEnd (answerOf repeatRoomCounts (repeatLengths L c a))
 end L (limitRecipe p c d e) = measureEnd (answerOf limitCounts (recipeLimits L p c d e))
+end L (importView v l) = listEnd (importOutcome L v l)
+end L (exportView c l) = viewEnd (exportOutcome c l)
 
 -- what demand 2's definitions give from what is shown alone
-unfoldable pub endShown : Limits → Call (List Row) (List Elem) → End
+unfoldable pub endShown : Limits → Call (List Row) (List Elem) (List Row) → End
 endShown L (list q l) = listEnd (listShown L q l)
 endShown L (anyValue ws l) = valueEnd (anyValueShown ws l)
 endShown L (element ws is l) = valueEnd (elementShown L ws is l)
@@ -186,11 +218,14 @@ endShown L (measureAnyValue ws) = measureEnd (answerOf valueRoomCounts (anyValue
 endShown L (measureElement ws is) = measureEnd (answerOf valueRoomCounts (elementLengthsShown L ws is))
 endShown L (measureRepeat ws ns) = measureEnd (answerOf repeatRoomCounts (repeatLengthsShown L ws ns))
 endShown L (limitRecipe p ws rs es) = measureEnd (answerOf limitCounts (recipeLimitsShown L p ws rs es))
+endShown L (importView ws l) = listEnd (importShown L ws l)
+endShown L (exportView ws l) = viewEnd (exportShown ws l)
 
 -- "If they start from well-formed columns"
-pub record Formed (q : Call Column Arguments) : Type 0 where
+pub record Formed (q : Call Column Arguments View) : Type 0 where
   pub lists : All WellFormed (listsOf q)
   pub arguments : All WellFormedᵃ (argumentsOf q)
+  pub views : All WellFormedᵛ (viewsOf q)
 
 -- equally many argument columns, and equal ones
 pub data SameLent : Lent Arguments → Lent Arguments → Type 0 where
@@ -208,7 +243,7 @@ pub data SameCall : ListCall Column Arguments → ListCall Column Arguments → 
 
 -- two runs of one operation or one recipe on columns "that show equal rows, with equal arguments, equal slice lengths lent for
 -- results and trays and an equal tally"; "the two runs of demand 3 name the same" station
-pub data Alike : Call Column Arguments → Call Column Arguments → Type 0 where
+pub data Alike : Call Column Arguments View → Call Column Arguments View → Type 0 where
   alikeList : {q q′ : ListCall Column Arguments} (l : Room) → SameCall q q′ → Alike (list q l) (list q′ l)
   alikeAnyValue : {c d : Column} (l : ValueRoom) → EqualRows c d → Alike (anyValue c l) (anyValue d l)
   alikeElement : {c d : Column} {a b : Arguments} (l : ValueRoom) → EqualRows c d → EqualArguments a b → Alike (element c a l) (element d b l)
@@ -219,9 +254,11 @@ pub data Alike : Call Column Arguments → Call Column Arguments → Type 0 wher
   alikeMeasureElement : {c d : Column} {a b : Arguments} → EqualRows c d → EqualArguments a b → Alike (measureElement c a) (measureElement d b)
   alikeMeasureRepeat : {c d : Column} {a b : Arguments} → EqualRows c d → EqualArguments a b → Alike (measureRepeat c a) (measureRepeat d b)
   alikeLimitRecipe : {c c′ d d′ : Column} {e e′ : Arguments} (p : Recipe) → EqualRows c c′ → EqualRows d d′ → EqualArguments e e′ → Alike (limitRecipe p c d e) (limitRecipe p c′ d′ e′)
+  alikeImport : {v w : View} (l : Room) → EqualViews v w → Alike (importView v l) (importView w l)
+  alikeExport : {c d : Column} (l : ViewRoom) → EqualRows c d → Alike (exportView c l) (exportView d l)
 
 -- the tally that a call takes
-unfoldable pub tallyTaken : {C A : Type 0} → Call C A → Lent Tally
+unfoldable pub tallyTaken : {C A W : Type 0} → Call C A W → Lent Tally
 tallyTaken (list q l) = absent
 tallyTaken (anyValue c l) = absent
 tallyTaken (element c a l) = absent
@@ -232,9 +269,11 @@ tallyTaken (measureAnyValue c) = absent
 tallyTaken (measureElement c a) = absent
 tallyTaken (measureRepeat c a) = absent
 tallyTaken (limitRecipe p c d e) = absent
+tallyTaken (importView v l) = absent
+tallyTaken (exportView c l) = absent
 
 -- what a call does to it
-unfoldable pub moveIn : Limits → Call Column Arguments → Move
+unfoldable pub moveIn : Limits → Call Column Arguments View → Move
 moveIn L (list q l) = nobody
 moveIn L (anyValue c l) = nobody
 moveIn L (element c a l) = nobody
@@ -245,9 +284,11 @@ moveIn L (measureAnyValue c) = nobody
 moveIn L (measureElement c a) = nobody
 moveIn L (measureRepeat c a) = nobody
 moveIn L (limitRecipe p c d e) = nobody
+moveIn L (importView v l) = nobody
+moveIn L (exportView c l) = nobody
 
 -- does a call name one of the sixteen stations
-unfoldable pub namesStation : {C A : Type 0} → Call C A → Bool
+unfoldable pub namesStation : {C A W : Type 0} → Call C A W → Bool
 namesStation (list q l) = false
 namesStation (anyValue c l) = false
 namesStation (element c a l) = false
@@ -258,20 +299,22 @@ namesStation (measureAnyValue c) = false
 namesStation (measureElement c a) = false
 namesStation (measureRepeat c a) = false
 namesStation (limitRecipe p c d e) = false
+namesStation (importView v l) = false
+namesStation (exportView c l) = false
 
 unfoldable pub accepted : Answer → Bool
 accepted (refusal k) = false
 accepted (counts ns) = true
 
 -- "the calls made, split by outcome; calls naming no such station .. are left out": 1 for a call that was accepted, and for one that was refused
-abbrev pub finishedBy : Limits → Call Column Arguments → ℕ
+abbrev pub finishedBy : Limits → Call Column Arguments View → ℕ
 finishedBy L q = bit (namesStation q && accepted (end L q .answer))
 
-abbrev pub refusedBy : Limits → Call Column Arguments → ℕ
+abbrev pub refusedBy : Limits → Call Column Arguments View → ℕ
 refusedBy L q = bit (namesStation q && not (accepted (end L q .answer)))
 
 -- calls of recipes, "each call takes the tally the last one gave": the first takes t, the last gives u
-pub data Chain (L : Limits) : Tally → List (Call Column Arguments) → Tally → Type 0 where
+pub data Chain (L : Limits) : Tally → List (Call Column Arguments View) → Tally → Type 0 where
   none : {t : Tally} → Chain L t [] t
-  next : {q : Call Column Arguments} {qs : List (Call Column Arguments)} {t t′ u : Tally}
+  next : {q : Call Column Arguments View} {qs : List (Call Column Arguments View)} {t t′ u : Tally}
       → tallyTaken q ≡ given t → end L q .tally ≡ given t′ → Chain L t′ qs u → Chain L t (q ∷ qs) u

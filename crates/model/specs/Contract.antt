@@ -11,6 +11,7 @@ use Rattle.model.specs.Column.{Elem, Row, Arguments}
 use Rattle.model.specs.Form.{Room, ValueRoom, RepeatRoom, Outer, isOuter, outerLength, inner, flat, over, offsetsFrom, formOffsets, formRows, formValues, formElements}
 use Rattle.model.specs.Outcome.{Outcome}
 use Rattle.model.specs.Lengths.{TrayLimits}
+use Rattle.model.specs.View.{ViewRoom, viewOffsets, viewSizes}
 use Rattle.model.specs.Call.{Answer, refusal, counts, answerOf, written, listCounts, valueCounts, repeatCounts, roomCounts, valueRoomCounts, repeatRoomCounts, limitCounts}
 use Rattle.model.specs.declared.ListAnswer.{ListAnswer}
 use Rattle.model.specs.declared.ListAnswer.the-variants as L
@@ -154,3 +155,21 @@ pub record RepeatMeasures (x : Outcome RepeatRoom) (a : RepeatLengths) : Type 0 
 
 pub record RecipeLimited (x : Outcome TrayLimits) (a : RecipeLimits) : Type 0 where
   pub answer : toldLimits a ≡ answerOf limitCounts x
+
+-- the answer and the five outputs of a view, at entry and at exit, are those of the outcome
+pub record ViewMeets (x : Outcome (List Row)) (a : ListAnswer) (o o′ s s′ : List ℤ) (r r′ : List ℕ) (v v′ : List ℤ) (e e′ : List ℕ) : Type 0 where
+  pub answer : told a ≡ answerOf listCounts x
+  pub offsets : o′ ≡ after viewOffsets x o
+  pub sizes : s′ ≡ after viewSizes x s
+  pub rows : r′ ≡ after formRows x r
+  pub values : v′ ≡ after (λ ws. formValues (flat ws)) x v
+  pub elements : e′ ≡ after (λ ws. formElements (flat ws)) x e
+
+abbrev pub viewRoom : ℕ → ℕ → ℕ → ℕ → ℕ → ViewRoom
+viewRoom o s r v e = record { offsets = o; sizes = s; rows = r; values = v; elements = e }
+
+-- the contract of export: the answer and the outputs are what f gives for the lengths lent
+abbrev pub ViewAnswers : (ViewRoom → Outcome (List Row)) → ListAnswer → Slice ℤ → Slice ℤ → Slice ℕ → Slice ℤ → Slice ℕ → Type 0
+ViewAnswers f a o s r v e =
+    ViewMeets (f (viewRoom (length (now (o .entry))) (length (now (s .entry))) (length (now (r .entry))) (length (now (v .entry))) (length (now (e .entry))))) a
+    (now (o .entry)) (now (o .exit)) (now (s .entry)) (now (s .exit)) (now (r .entry)) (now (r .exit)) (now (v .entry)) (now (v .exit)) (now (e .entry)) (now (e .exit))

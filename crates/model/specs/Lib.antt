@@ -8,6 +8,7 @@ pub mod Slice
 pub mod Rows
 pub mod Refusals
 pub mod Outcome
+pub mod View
 pub mod Recipe
 pub mod Tally
 pub mod Lengths

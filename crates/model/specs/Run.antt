@@ -9,11 +9,12 @@ use Rattle.model.specs.Basics.{given}
 use Rattle.model.specs.Bitmap.{bytesFor}
 use Rattle.model.specs.Limits.{Limits}
 use Rattle.model.specs.Column.{Column, Arguments}
+use Rattle.model.specs.View.{View, ViewRoom, importOutcome, exportOutcome}
 use Rattle.model.specs.Form.{Room, ValueRoom, RepeatRoom}
 use Rattle.model.specs.Rows.{ListCall}
 use Rattle.model.specs.Outcome.{listOutcome, anyValueOutcome, elementOutcome, repeatOutcome}
-use Rattle.model.specs.Call.{Call, list, anyValue, element, listRepeat, recipe, measureList, measureAnyValue, measureElement, measureRepeat, limitRecipe, End, refusal, counts, operationEnd, measureEnd}
-use Rattle.model.specs.Contract.{ListMeets, ValueMeets, RepeatMeets, Zeroed, toldLengths, toldValueLengths, toldRepeatLengths, toldLimits, ListMeasures, ValueMeasures, RepeatMeasures, RecipeLimited}
+use Rattle.model.specs.Call.{Call, list, anyValue, element, listRepeat, recipe, measureList, measureAnyValue, measureElement, measureRepeat, limitRecipe, importView, exportView, End, refusal, counts, operationEnd, measureEnd}
+use Rattle.model.specs.Contract.{ListMeets, ViewMeets, ValueMeets, RepeatMeets, Zeroed, toldLengths, toldValueLengths, toldRepeatLengths, toldLimits, ListMeasures, ValueMeasures, RepeatMeasures, RecipeLimited}
 use Rattle.model.specs.Lengths.{listLengths, anyValueLengths, elementLengths, repeatLengths, recipeLimits}
 use Rattle.model.specs.Recipe.{Recipe, recipeOutcome, stationed}
 use Rattle.model.specs.Tally.{Tally, tallied}
@@ -44,6 +45,12 @@ repeatRunEnd (R.Refused k) o r io ir v e = operationEnd (refusal k) ([] ∷ [] �
 repeatRunEnd (R.Counts n m p q i j) o r io ir v e =
     operationEnd (counts (n ∷ m ∷ p ∷ q ∷ i ∷ j ∷ [])) (take (n + 1) o ∷ take (i + 1) io ∷ take m v ∷ []) (take (bytesFor n) r ∷ take (bytesFor i) ir ∷ take (bytesFor m) e ∷ [])
 
+-- a view's: its offsets, sizes and values, and the two bitmaps
+unfoldable pub viewRunEnd : ListAnswer → List ℤ → List ℤ → List ℕ → List ℤ → List ℕ → End
+viewRunEnd (L.Refused k) o s r v e = operationEnd (refusal k) ([] ∷ [] ∷ [] ∷ []) ([] ∷ [] ∷ [])
+viewRunEnd (L.Counts n m p q) o s r v e =
+    operationEnd (counts (n ∷ m ∷ p ∷ q ∷ [])) (take n o ∷ take n s ∷ take m v ∷ []) (take (bytesFor n) r ∷ take (bytesFor m) e ∷ [])
+
 -- a recipe's: the list answer and output, then the trays, all their slots, and the tally that came back
 unfoldable pub recipeRunEnd : ListAnswer → List ℤ → List ℕ → List ℤ → List ℕ → List ℤ → List ℕ → List ℤ → List ℕ → List ℤ → List ℕ → List ℤ → List ℕ → Tally → End
 recipeRunEnd a o r v e ao ar av ae bo br bv be t =
@@ -58,7 +65,7 @@ recipeRunEnd a o r v e ao ar av ae bo br bv be t =
     }
 
 -- a run of a call that ended so: the contract of its function holds of it
-pub data Run (L : Limits) : Call Column Arguments → End → Type 0 where
+pub data Run (L : Limits) : Call Column Arguments View → End → Type 0 where
   listRun : {q : ListCall Column Arguments} {l : Room} {a : ListAnswer} {o o′ : List ℤ} {r r′ : List ℕ} {v v′ : List ℤ} {e e′ : List ℕ}
       → ListMeets (listOutcome L q l) a o o′ r r′ v v′ e e′ → Run L (list q l) (listRunEnd a o′ r′ v′ e′)
   anyValueRun : {c : Column} {l : ValueRoom} {a : ValueAnswer} {v v′ : List ℤ} {r r′ : List ℕ}
@@ -76,3 +83,7 @@ pub data Run (L : Limits) : Call Column Arguments → End → Type 0 where
   measureElementRun : {c : Column} {x : Arguments} {a : ValueLengths} → ValueMeasures (elementLengths L c x) a → Run L (measureElement c x) (measureEnd (toldValueLengths a))
   measureRepeatRun : {c : Column} {x : Arguments} {a : RepeatLengths} → RepeatMeasures (repeatLengths L c x) a → Run L (measureRepeat c x) (measureEnd (toldRepeatLengths a))
   limitRecipeRun : {p : Recipe} {c d : Column} {x : Arguments} {a : RecipeLimits} → RecipeLimited (recipeLimits L p c d x) a → Run L (limitRecipe p c d x) (measureEnd (toldLimits a))
+  importRun : {c : View} {l : Room} {a : ListAnswer} {o o′ : List ℤ} {r r′ : List ℕ} {v v′ : List ℤ} {e e′ : List ℕ}
+      → ListMeets (importOutcome L c l) a o o′ r r′ v v′ e e′ → Run L (importView c l) (listRunEnd a o′ r′ v′ e′)
+  exportRun : {c : Column} {l : ViewRoom} {a : ListAnswer} {o o′ s s′ : List ℤ} {r r′ : List ℕ} {v v′ : List ℤ} {e e′ : List ℕ}
+      → ViewMeets (exportOutcome c l) a o o′ s s′ r r′ v v′ e e′ → Run L (exportView c l) (viewRunEnd a o′ s′ r′ v′ e′)

@@ -9,7 +9,7 @@ use Rattle.model.specs.Column.{Elem, Row}
 use Rattle.model.specs.Form.{Outer, over}
 use Rattle.model.specs.Outcome.{Outcome, refused, gate}
 use Rattle.model.specs.Call.{listCounts, valueCounts, repeatCounts, written}
-use Rattle.model.specs.Contract.{told, toldValue, toldRepeat, ListMeets, ValueMeets, RepeatMeets}
+use Rattle.model.specs.Contract.{told, toldValue, toldRepeat, ListMeets, ValueMeets, RepeatMeets, ViewMeets}
 use Rattle.model.specs.declared.ListAnswer.{ListAnswer}
 use Rattle.model.specs.declared.ListAnswer.the-variants as L
 use Rattle.model.specs.declared.ValueAnswer.{ValueAnswer}
@@ -19,7 +19,7 @@ use Rattle.model.specs.declared.RepeatAnswer.the-variants as R
 use Rattle.entry.specs.Entry.{numberOf}
 use Rattle.entry.specs.Inner.{numberIn, countsIn}
 use Rattle.entry.proofs.AnswerLaws.{number-of, counts-of}
-use Rattle.typed.specs.Typed.{served, Told, TypedList, TypedValues, TypedRepeat}
+use Rattle.typed.specs.Typed.{served, Told, TypedList, TypedValues, TypedRepeat, TypedView}
 
 -- ---- an answer is told
 
@@ -74,6 +74,25 @@ list-told {x = x} {c = c} h m t =
     (record {
       number = t .number ∙ ap numberIn (m .answer) ∙ number-of listCounts x;
       offsets = m .offsets;
+      rows = m .rows;
+      values = m .values;
+      elements = m .elements;
+      counts = t .counts ∙ ap (λ w. over w c) (ap countsIn (m .answer) ∙ counts-of listCounts x);
+    })
+
+-- ---- a view's answer
+
+pub view-unserved : {x : Outcome (List Row)} {o s v : List ℤ} {r e c : List ℕ} → x ≡ refused 100 → TypedView x 100 o o s s r r v v e e c c
+unfolding numberOf written
+view-unserved h = rw h (record { number = refl; offsets = refl; sizes = refl; rows = refl; values = refl; elements = refl; counts = refl })
+
+pub view-told : {n : ℕ} {x y : Outcome (List Row)} {a : ListAnswer} {o o′ s s′ v v′ : List ℤ} {r r′ e e′ c c′ : List ℕ} → y ≡ x → ViewMeets x a o o′ s s′ r r′ v v′ e e′ → Told (told a) n c c′ → TypedView y n o o′ s s′ r r′ v v′ e e′ c c′
+view-told {x = x} {c = c} h m t =
+    rw h
+    (record {
+      number = t .number ∙ ap numberIn (m .answer) ∙ number-of listCounts x;
+      offsets = m .offsets;
+      sizes = m .sizes;
       rows = m .rows;
       values = m .values;
       elements = m .elements;

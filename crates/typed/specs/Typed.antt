@@ -12,8 +12,9 @@ use Rattle.model.specs.Bitmap.{pack}
 use Rattle.model.specs.Column.{Elem, Row}
 use Rattle.model.specs.Form.{Room, ValueRoom, RepeatRoom, Outer, isOuter, outerLength, inner, offsetsFrom, over, flat, formOffsets, formRows, formValues, formElements}
 use Rattle.model.specs.Outcome.{Outcome, refused, gate}
+use Rattle.model.specs.View.{ViewRoom, viewOffsets, viewSizes}
 use Rattle.model.specs.Call.{Answer, listCounts, valueCounts, repeatCounts}
-use Rattle.model.specs.Contract.{Slice, after, roomOf, valueRoom, repeatRoomOf}
+use Rattle.model.specs.Contract.{Slice, after, roomOf, valueRoom, repeatRoomOf, viewRoom}
 use Rattle.entry.specs.Entry.{numberOf}
 use Rattle.entry.specs.Inner.{numberIn, countsIn}
 
@@ -62,6 +63,16 @@ pub record TypedRepeat (x : Outcome (List Outer)) (n : ℕ) (o o′ : List ℤ) 
   pub elements : e′ ≡ after (λ os. formElements (flat (inner os))) x e
   pub counts : c′ ≡ after repeatCounts x c
 
+-- of a view's
+pub record TypedView (x : Outcome (List Row)) (n : ℕ) (o o′ s s′ : List ℤ) (r r′ : List ℕ) (v v′ : List ℤ) (e e′ c c′ : List ℕ) : Type 0 where
+  pub number : n ≡ numberOf x
+  pub offsets : o′ ≡ after viewOffsets x o
+  pub sizes : s′ ≡ after viewSizes x s
+  pub rows : r′ ≡ after formRows x r
+  pub values : v′ ≡ after (λ ws. formValues (flat ws)) x v
+  pub elements : e′ ≡ after (λ ws. formElements (flat ws)) x e
+  pub counts : c′ ≡ after listCounts x c
+
 -- ---- the contracts: f is what the operation comes to for the lengths lent; the number returned, the outputs and the counts
 
 abbrev pub ListServed : Lent (Room → Outcome (List Row)) → ℕ → Slice ℤ → Slice ℕ → Slice ℤ → Slice ℕ → Slice ℕ → Type 0
@@ -78,6 +89,11 @@ abbrev pub RepeatServed : (RepeatRoom → Outcome (List Outer)) → ℕ → Slic
 RepeatServed f n o r io ir v e c =
     TypedRepeat (served (given f) (short 6 c) (repeatRoomOf o r io ir v e)) n
     (now (o .entry)) (now (o .exit)) (now (r .entry)) (now (r .exit)) (now (io .entry)) (now (io .exit)) (now (ir .entry)) (now (ir .exit)) (now (v .entry)) (now (v .exit)) (now (e .entry)) (now (e .exit)) (now (c .entry)) (now (c .exit))
+
+abbrev pub ViewServed : (ViewRoom → Outcome (List Row)) → ℕ → Slice ℤ → Slice ℤ → Slice ℕ → Slice ℤ → Slice ℕ → Slice ℕ → Type 0
+ViewServed f n o s r v e c =
+    TypedView (served (given f) (short 4 c) (viewRoom (length (now (o .entry))) (length (now (s .entry))) (length (now (r .entry))) (length (now (v .entry))) (length (now (e .entry))))) n
+    (now (o .entry)) (now (o .exit)) (now (s .entry)) (now (s .exit)) (now (r .entry)) (now (r .exit)) (now (v .entry)) (now (v .exit)) (now (e .entry)) (now (e .exit)) (now (c .entry)) (now (c .exit))
 
 -- ---- how much to lend: x is what the measure comes to, f its lengths in the order of the slices, and `need` how many they are
 

@@ -15,6 +15,7 @@ use crate::numbers::{bytes_of, bytes_of_mut};
 use crate::recipe_coverage;
 use crate::rng::Rng;
 use crate::view_coverage;
+use crate::window_coverage;
 use std::borrow::Cow;
 use std::ops::Range;
 
@@ -231,7 +232,7 @@ impl<'a> Checker<'a> {
         observed.expect("a call is made in one way at least")
     }
 
-    /// Makes a call of large lists or of ListView columns, which have typed entries alone.
+    /// Makes a call of large lists, of ListView columns or of a window, which have typed entries alone.
     fn check_typed_only(&mut self, case: &Case) -> Observed {
         self.begin_call();
         let typed_case = self.typed_case(case);
@@ -401,6 +402,9 @@ impl<'a> Checker<'a> {
         if let (true, Some(views)) = (entry.is_view(), &library.views) {
             return views.call(entry, lent, starts, outputs, counts);
         }
+        if let (true, Some(windows)) = (entry.is_window(), &library.windows) {
+            return windows.call(entry, lent, starts, outputs, counts);
+        }
         match (route, &library.typed, &library.large) {
             (_, _, Some(large)) if entry.is_wide() && asks => {
                 large.lending.ask(entry, lent, starts, counts)
@@ -488,6 +492,9 @@ impl<'a> Checker<'a> {
         if case.entry == Entry::IMPORT {
             return self.record_view(case, expected);
         }
+        if case.entry.is_window() {
+            return self.record_window(case, expected);
+        }
         if !matches!(expected.number, 0 | 3..=9) {
             return;
         }
@@ -528,6 +535,15 @@ impl<'a> Checker<'a> {
             for subject in coverage::output_lengths(case, expected) {
                 self.covered(case, "outputs", subject);
             }
+            self.record_null_slots(case, expected);
+        }
+    }
+
+    fn record_window(&mut self, case: &Case, expected: &Expected) {
+        for (kind, subject) in window_coverage::met(case, expected) {
+            self.covered(case, kind, subject);
+        }
+        if expected.number == 0 {
             self.record_null_slots(case, expected);
         }
     }

@@ -18,6 +18,7 @@ use crate::model::{
 use crate::recipe_coverage;
 use crate::strides;
 use crate::view_coverage;
+use crate::window_coverage;
 use std::borrow::Cow;
 use std::collections::BTreeMap;
 
@@ -243,7 +244,7 @@ pub fn starts_met(case: &Case, number: u32) -> Vec<String> {
         if number != 2 || bytes.len() * 8 + 1 == start + positions {
             met.push(start_name(name, start, is_absent, number));
         }
-        if number == 13 && case.entry.is_recipe() && case.entry.recipe().1 == 0 {
+        if number == 13 && case.entry.has_steps() && case.entry.columns() == 0 {
             met.push(format!("{name} of no columns over 7"));
         }
     }
@@ -289,7 +290,7 @@ pub fn demanded_starts(entry: Entry, shared: &[u32]) -> Vec<(&'static str, Strin
         all.extend([false, true].map(|absent| ("start", start_name(name, 8, absent, 13))));
         all.push((SHARED, shared_starts(&format!(" of {name}"), 0)));
     }
-    if entry.is_recipe() {
+    if entry.has_steps() {
         all.push(("start", "argument bits of no columns over 7".to_string()));
     }
     all.extend(shared.iter().map(|number| (SHARED, shared_starts("", *number))));
@@ -300,7 +301,7 @@ pub fn demanded_starts(entry: Entry, shared: &[u32]) -> Vec<(&'static str, Strin
 
 /// The lists that have no offsets, where the entry itself does not answer.
 fn without_offsets(case: &Case) -> Vec<Column> {
-    let offsets = |at: usize| &case.inputs[usize::from(case.entry.is_recipe()) + 4 * at];
+    let offsets = |at: usize| &case.inputs[usize::from(case.entry.has_steps()) + 4 * at];
     let none = (0..case.entry.lists()).filter(|at| offsets(*at).is_empty());
     none.map(Column::List).collect()
 }
@@ -338,7 +339,7 @@ pub fn demanded_no_offsets(entry: Entry) -> Vec<(&'static str, String)> {
     let mut numbers = vec![0, 2];
     numbers.extend((Column::all(entry).len() > 1).then_some(3));
     numbers.extend((entry.outputs()[0].content == Content::Offsets).then_some(9));
-    numbers.extend(entry.is_recipe().then_some(10));
+    numbers.extend(entry.has_steps().then_some(10));
     let mut all = Vec::new();
     for column in (0..entry.lists()).map(Column::List) {
         for number in &numbers {
@@ -438,7 +439,7 @@ fn not_served_met(typed: &Case) -> Vec<&'static str> {
     }
     let short_counts = typed.counts.len() < entry.count_bytes();
     let short_tally = entry.is_recipe() && typed.outputs[TALLY].len() < TALLY_BYTES;
-    let mut trays = typed.outputs.iter().take(if entry.is_recipe() { TRAYS.end } else { 0 });
+    let mut trays = typed.outputs.iter().take(if entry.has_steps() { TRAYS.end } else { 0 });
     let holds = [
         short_counts && !short_tally,
         short_tally && !short_counts,
@@ -449,7 +450,7 @@ fn not_served_met(typed: &Case) -> Vec<&'static str> {
 
 fn accepted_typed_met(case: &Case, typed: &Case) -> Vec<&'static str> {
     let entry = case.entry;
-    let first = usize::from(entry.is_recipe());
+    let first = usize::from(entry.has_steps());
     let values = case.inputs[first + 2].len() / 8;
     let offsets = match values {
         ..100_000 => Vec::new(),
@@ -1014,7 +1015,9 @@ fn unequal_columns(input: &Input) -> Vec<Column> {
         Column::Argument(at) => {
             let values = input.arguments[at].values.len();
             match input.entry.kind {
-                Kind::Recipe { columns, .. } => values as u128 != columns as u128 * rows as u128,
+                Kind::Recipe { columns, .. } | Kind::RecipeRows { columns, .. } => {
+                    values as u128 != columns as u128 * rows as u128
+                }
                 _ => !model::suits(input.entry.roles()[at], values, rows),
             }
         }
@@ -1054,7 +1057,7 @@ pub fn shared_met(case: &Case, number: u32) -> Vec<String> {
         }
     } else if case.entry.is_recipe() {
         met.extend(recipe_coverage::shared_met(case, &input, number));
-    } else if number == 9 {
+    } else if number == 9 && !case.entry.is_window() {
         if let [name] = short_outputs(case, &input)[..] {
             met.push(shared_9(name));
         }
@@ -1532,10 +1535,12 @@ impl Coverage {
     /// What a whole run must reach for the operations of the library and did not.
     pub fn missing(&self, library: &Library) -> Vec<String> {
         let mut missing = Vec::new();
-        let views = [Entry::IMPORT, Entry::EXPORT].into_iter().filter(|entry| library.has(*entry));
-        for entry in library.operations().chain(views) {
+        let others = [Entry::IMPORT, Entry::EXPORT, Entry::RECIPE_ROWS].into_iter();
+        let others = others.filter(|entry| library.has(*entry));
+        for entry in library.operations().chain(others) {
             let demanded = match entry {
                 Entry::IMPORT => view_coverage::demanded(),
+                Entry::RECIPE_ROWS => window_coverage::demanded(),
                 _ => demanded(entry),
             };
             for (kind, subject) in demanded {

@@ -18,6 +18,7 @@ pub const LIBRARY: Library = Library {
     typed: None,
     large: None,
     views: None,
+    windows: None,
 };
 
 fn decode_i32<'a>(bytes: &[u8], array: &'a mut [i32]) -> &'a [i32] {

@@ -1,8 +1,9 @@
 //! The names of the deliberately wrong versions of the library, which mock.rs, mock_rows.rs,
-//! mock_recipe.rs, mock_typed.rs, mock_lending.rs and mock_views.rs ask for.
+//! mock_recipe.rs, mock_typed.rs, mock_lending.rs, mock_views.rs and mock_windows.rs ask for.
 
 use crate::entry::{Content, Entry};
 use crate::mock_views::{EXPORT_DEFECTS, IMPORT_DEFECTS};
+use crate::mock_windows::WINDOW_DEFECTS;
 use crate::model::Width;
 use std::sync::OnceLock;
 
@@ -264,6 +265,7 @@ const TYPED_DEFECTS: &[(By, &str, &[&str])] = &[
     (By::Large, "large recipe", LARGE_RECIPE_DEFECTS),
     (By::Typed, "import view", IMPORT_DEFECTS),
     (By::Typed, "export view", EXPORT_DEFECTS),
+    (By::Typed, "recipe rows", WINDOW_DEFECTS),
 ];
 
 const LARGE_SLICE_DEFECTS: &[&str] = &[

@@ -1,7 +1,7 @@
 //! The C entries: which slices each takes, how columns lie in them, and the answers that an entry
 //! gives by itself: over bytes 100, 101 and 102, typed 100 alone. A case is one call, as bytes; the
-//! bytes of whole numbers are what a typed call is lent. Large lists and ListView columns have typed
-//! entries alone.
+//! bytes of whole numbers are what a typed call is lent. Large lists, ListView columns and a recipe
+//! over some of its rows have typed entries alone.
 //!
 //! An operation is added by its line in `OPERATIONS`, an entry by its arm in each function of
 //! `Entry`. The recipe's entry reaches no operation of its own; its trays and its tally, which go
@@ -12,6 +12,7 @@ use crate::model::{
     Shown, Slots, Tally, Width,
 };
 use crate::views::ViewColumn;
+use crate::windows::{self, Window};
 use std::ops::Range;
 
 pub const RAGGED: u32 = 100;
@@ -46,7 +47,7 @@ pub struct Entry {
 }
 
 /// Which entry it is, with the operation code that it is given; a recipe's with its station and the
-/// number of its argument columns.
+/// number of its argument columns, or with the rows that are looked at.
 #[derive(Clone, Copy, PartialEq, Eq, Debug)]
 pub enum Kind {
     List(u32),
@@ -56,6 +57,7 @@ pub enum Kind {
     ListWith(u32),
     ListRepeat,
     Recipe { station: u32, columns: usize },
+    RecipeRows { window: Window, columns: usize },
     ImportView,
     ExportView,
 }
@@ -287,6 +289,10 @@ impl Entry {
     pub const IMPORT: Entry = Kind::ImportView.at(Width::Narrow);
     pub const EXPORT: Entry = Kind::ExportView.at(Width::Narrow);
 
+    /// The entry of recipes over some of their rows, for none of them and without columns.
+    pub const RECIPE_ROWS: Entry =
+        Kind::RecipeRows { window: Window { begin: 0, end: 0 }, columns: 0 }.at(Width::Narrow);
+
     /// The entry for an operation.
     pub fn of(operation: Operation, width: Width) -> Entry {
         if operation == Operation::ExportView {
@@ -329,6 +335,16 @@ impl Entry {
         matches!(self.kind, Kind::Recipe { .. })
     }
 
+    /// Whether it is for a recipe over some of its rows, which has no station and no tally.
+    pub fn is_window(self) -> bool {
+        matches!(self.kind, Kind::RecipeRows { .. })
+    }
+
+    /// Whether it takes the numbers of a recipe and two trays.
+    pub fn has_steps(self) -> bool {
+        self.is_recipe() || self.is_window()
+    }
+
     pub fn is_wide(self) -> bool {
         self.width == Width::Wide
     }
@@ -340,12 +356,12 @@ impl Entry {
 
     /// Whether there is no such entry over bytes.
     pub fn is_typed_only(self) -> bool {
-        self.is_wide() || self.is_view()
+        self.is_wide() || self.is_view() || self.is_window()
     }
 
     /// Whether its typed entry serves it, by its code if it takes one.
     pub fn is_served(self) -> bool {
-        self.typed_operation().is_some() || self.is_recipe() || self.is_view()
+        self.typed_operation().is_some() || self.has_steps() || self.is_view()
     }
 
     /// The entry of recipes, for station 0 and without columns.
@@ -359,6 +375,20 @@ impl Entry {
         (station, columns)
     }
 
+    /// The number of columns of a recipe, over all its rows or some of them.
+    pub fn columns(self) -> usize {
+        match self.kind {
+            Kind::Recipe { columns, .. } | Kind::RecipeRows { columns, .. } => columns,
+            _ => panic!("an entry of recipes"),
+        }
+    }
+
+    /// The rows that a recipe is run over.
+    pub fn window(self) -> Window {
+        let Kind::RecipeRows { window, .. } = self.kind else { panic!("the entry of windows") };
+        window
+    }
+
     pub fn with_station(self, station: u32) -> Entry {
         Kind::Recipe { station, columns: self.recipe().1 }.at(self.width)
     }
@@ -370,6 +400,7 @@ impl Entry {
     pub fn name(self) -> &'static str {
         let names = match OPERATIONS.iter().find(|(kind, ..)| *kind == self.kind) {
             _ if self.is_recipe() => ["recipe", "large recipe"],
+            _ if self.is_window() => ["recipe rows", "large recipe rows"],
             _ if self.kind == Kind::ImportView => ["import view", "large import view"],
             _ if self.kind == Kind::ExportView => ["export view", "large export view"],
             Some((_, _, name, large)) => [*name, *large],
@@ -390,7 +421,8 @@ impl Entry {
             Kind::List(_) => Kind::List(code),
             Kind::Lists(_) => Kind::Lists(code),
             Kind::ListWith(_) => Kind::ListWith(code),
-            Kind::AnyValue | Kind::Element | Kind::ListRepeat | Kind::Recipe { .. } => return None,
+            Kind::AnyValue | Kind::Element | Kind::ListRepeat => return None,
+            Kind::Recipe { .. } | Kind::RecipeRows { .. } => return None,
             Kind::ImportView | Kind::ExportView => return None,
         };
         Some(kind.at(self.width))
@@ -399,7 +431,7 @@ impl Entry {
     /// How many list columns, or ListView columns, come first among the inputs.
     pub fn lists(self) -> usize {
         match self.kind {
-            Kind::Lists(_) | Kind::Recipe { .. } => 2,
+            Kind::Lists(_) | Kind::Recipe { .. } | Kind::RecipeRows { .. } => 2,
             _ => 1,
         }
     }
@@ -415,7 +447,7 @@ impl Entry {
             Kind::Element => &INDEXES,
             Kind::ListWith(_) => &ARGUMENTS,
             Kind::ListRepeat => &TIMES,
-            Kind::Recipe { .. } => &RECIPE_INPUTS[9..],
+            Kind::Recipe { .. } | Kind::RecipeRows { .. } => &RECIPE_INPUTS[9..],
             Kind::List(_) | Kind::AnyValue | Kind::Lists(_) => &[],
             Kind::ImportView | Kind::ExportView => &[],
         }
@@ -429,7 +461,7 @@ impl Entry {
 
     /// How many of them are looked at.
     pub fn taken(self) -> usize {
-        if self.is_recipe() {
+        if self.has_steps() {
             1
         } else {
             self.roles().len()
@@ -438,7 +470,7 @@ impl Entry {
 
     pub fn inputs(self) -> Vec<SliceKind> {
         let mut kinds = match self.kind {
-            Kind::Recipe { .. } => RECIPE_INPUTS.to_vec(),
+            Kind::Recipe { .. } | Kind::RecipeRows { .. } => RECIPE_INPUTS.to_vec(),
             Kind::ImportView => VIEW.to_vec(),
             _ => [&LISTS[..4 * self.lists()], self.argument_kinds()].concat(),
         };
@@ -468,6 +500,7 @@ impl Entry {
             (Kind::ListRepeat, Width::Wide) => &LARGE_LIST_OF_LISTS_ANSWER,
             (Kind::Recipe { .. }, Width::Narrow) => &RECIPE_OUTPUTS,
             (Kind::Recipe { .. }, Width::Wide) => &LARGE_RECIPE_OUTPUTS,
+            (Kind::RecipeRows { .. }, _) => &RECIPE_OUTPUTS[..TALLY],
             (Kind::ExportView, _) => &VIEW_ANSWER,
             (_, Width::Narrow) => &LIST_ANSWER,
             (_, Width::Wide) => &LARGE_LIST_ANSWER,
@@ -476,7 +509,7 @@ impl Entry {
 
     /// The outputs that hold the result.
     pub fn results(self) -> Range<usize> {
-        if self.is_recipe() {
+        if self.has_steps() {
             RECIPE_RESULT
         } else {
             0..self.outputs().len()
@@ -544,10 +577,20 @@ impl Input {
         Some(Recipe { width, station, numbers, columns, lists, arguments: &self.arguments[0] })
     }
 
+    /// The recipe that the call brings over some of its rows, if it is one, and these rows; it names
+    /// no station.
+    pub fn recipe_of_rows(&self) -> Option<(Recipe<'_>, Window)> {
+        let Entry { kind: Kind::RecipeRows { window, columns }, width } = self.entry else {
+            return None;
+        };
+        let (numbers, lists, arguments) = (&self.numbers, &self.lists, &self.arguments[0]);
+        Some((Recipe { width, station: 0, numbers, columns, lists, arguments }, window))
+    }
+
     /// The slices of all columns, in the order of the entry's inputs.
     pub fn encode(&self) -> Vec<Vec<u8>> {
         let mut slices = Vec::new();
-        if self.entry.is_recipe() {
+        if self.entry.has_steps() {
             slices.push(encode_u32(&self.numbers));
         }
         for list in &self.lists {
@@ -580,7 +623,7 @@ impl Input {
     }
 
     fn decode(entry: Entry, slices: &[Vec<u8>], starts: &[usize]) -> Input {
-        let (numbers, columns) = slices.split_at(usize::from(entry.is_recipe()));
+        let (numbers, columns) = slices.split_at(usize::from(entry.has_steps()));
         let (lists, arguments) = columns.split_at(4 * entry.lists());
         let mut starts = starts.iter().copied();
         let mut bitmap = |bytes: &Vec<u8>| {
@@ -668,7 +711,7 @@ impl Case {
 
     /// The rows of the first list, or of the views, counted by its offsets.
     pub fn row_count(&self) -> usize {
-        let offsets = self.inputs[usize::from(self.entry.is_recipe())].len();
+        let offsets = self.inputs[usize::from(self.entry.has_steps())].len();
         match self.entry.kind {
             Kind::ImportView => offsets / 4,
             _ => (offsets / self.entry.width.bytes()).max(1) - 1,
@@ -854,6 +897,9 @@ impl Case {
         if self.entry.is_recipe() {
             return self.expected_of_recipe(own);
         }
+        if self.entry.is_window() {
+            return self.expected_of_window(own);
+        }
         if let Some(number) = own {
             return Expected::refusal(number);
         }
@@ -875,10 +921,8 @@ impl Case {
     /// The trays are all zero after any call; the tally stays where the entry itself answers, and
     /// where there is no such station.
     fn expected_of_recipe(&self, own: Option<u32>) -> Expected {
-        let zeros = |tray: &Vec<u8>| vec![0; tray.len()];
-        let trays: Vec<Vec<u8>> = self.outputs[TRAYS].iter().map(zeros).collect();
         if let Some(number) = own {
-            return Expected { written: trays, ..Expected::refusal(number) };
+            return Expected { written: self.zeroed_trays(), ..Expected::refusal(number) };
         }
         let outcome = self.recipe_outcome();
         let tally = match outcome {
@@ -891,8 +935,30 @@ impl Case {
             Err(refusal) => Expected::refusal(refusal.number),
         };
         let no_result = vec![Vec::new(); RECIPE_RESULT.len() - result.written.len()];
-        let written = [trays, result.written, no_result, vec![tally]].concat();
+        let written = [self.zeroed_trays(), result.written, no_result, vec![tally]].concat();
         Expected { written, ..result }
+    }
+
+    fn zeroed_trays(&self) -> Vec<Vec<u8>> {
+        self.outputs[TRAYS].iter().map(|tray| vec![0; tray.len()]).collect()
+    }
+
+    /// The same over some rows, where there is no tally.
+    fn expected_of_window(&self, own: Option<u32>) -> Expected {
+        let result = match own.map_or_else(|| self.window_outcome(), Err) {
+            Ok(form) => Expected::accepted(&form, self.entry.width),
+            Err(number) => Expected::refusal(number),
+        };
+        Expected { written: [self.zeroed_trays(), result.written].concat(), ..result }
+    }
+
+    /// What a recipe over some of its rows comes to.
+    fn window_outcome(&self) -> Result<ResultForm, u32> {
+        let input = self.decode();
+        let (recipe, window) = input.recipe_of_rows().expect("the call of a window");
+        let room: Vec<u64> = self.lengths(0..TALLY).iter().map(|slots| *slots as u64).collect();
+        let outcome = windows::outcome(&recipe, window, [&room[..4], &room[4..8], &room[8..]]);
+        outcome.map_err(|refusal| refusal.number)
     }
 
     /// What a recipe that the entry takes comes to.

@@ -649,9 +649,9 @@ impl Column {
     pub fn name(self, entry: Entry) -> &'static str {
         match self {
             Column::List(0) => "list",
-            Column::List(_) if entry.is_recipe() => "second list",
+            Column::List(_) if entry.has_steps() => "second list",
             Column::List(_) => "right list",
-            Column::Argument(_) if entry.is_recipe() => "arguments",
+            Column::Argument(_) if entry.has_steps() => "arguments",
             Column::Argument(at) => entry.roles()[at].name(),
         }
     }
@@ -1010,7 +1010,7 @@ pub fn room_for(needed: usize, slice: usize, room: Room, rng: &mut Rng) -> usize
 /// The call on these columns, with outputs of the given room that hold random bytes; no output is
 /// larger than the byte entry takes.
 pub fn lend(input: &Input, room: Room, rng: &mut Rng) -> Case {
-    if input.entry.is_recipe() {
+    if input.entry.has_steps() {
         return lend_recipe(input, room, rng);
     }
     lend_within(input, room, |kind| kind.most.unwrap_or(MOST_BITMAP_BYTES), rng)
@@ -1018,7 +1018,7 @@ pub fn lend(input: &Input, room: Room, rng: &mut Rng) -> Case {
 
 /// The same with outputs as long as a typed call needs them.
 pub fn lend_typed(input: &Input, room: Room, rng: &mut Rng) -> Case {
-    if input.entry.is_recipe() {
+    if input.entry.has_steps() {
         return lend_recipe_within(input, room, |_| MOST_HELD, rng);
     }
     lend_within(input, room, |_| MOST_HELD, rng)

@@ -19,6 +19,7 @@ use crate::strides;
 use crate::typed_groups;
 use crate::view_groups;
 use crate::wide;
+use crate::window_groups;
 use crate::worked;
 
 type Applies = fn(Entry) -> bool;
@@ -170,6 +171,10 @@ pub fn all() -> Vec<Group> {
     }
     groups.extend(of_width(Width::Wide));
     groups.extend(of_views());
+    for (name, run, shares) in window_groups::ALL {
+        let name = format!("{}: {name}", Entry::RECIPE_ROWS.name());
+        groups.push(Group::new(Entry::RECIPE_ROWS, name, run, shares, true));
+    }
     groups
 }
 

@@ -1,5 +1,5 @@
 //! A library under test: the byte entries as safe functions on byte slices, and the typed entries,
-//! those of large lists and of ListView columns too.
+//! those of large lists, of ListView columns and of recipes over some of their rows too.
 //! The port, the plain Rust and the mock each give one of these. A function on bytes takes the code,
 //! if there is one, or the station and the number of columns of a recipe, then the input slices and
 //! the output slices in the order in which `entry.rs` lists them, then the counts; between them come
@@ -7,7 +7,7 @@
 
 use crate::entry::{Entry, Kind};
 use crate::model::Width;
-use crate::typed::{Typed, Views};
+use crate::typed::{Typed, Views, Windows};
 
 /// An entry of so many input slices, bitmaps among them, and output slices.
 type Plain<const I: usize, const S: usize, const O: usize> =
@@ -29,6 +29,7 @@ pub struct Library {
     pub typed: Option<Typed<i32>>,
     pub large: Option<Typed<i64>>,
     pub views: Option<Views>,
+    pub windows: Option<Windows>,
 }
 
 fn inputs<'a, const N: usize>(slices: &[&'a [u8]]) -> [&'a [u8]; N] {
@@ -71,6 +72,7 @@ impl Library {
         typed: None,
         large: None,
         views: None,
+        windows: None,
     };
 
     pub fn has(&self, entry: Entry) -> bool {
@@ -84,6 +86,7 @@ impl Library {
             Kind::ListRepeat => self.list_repeat.is_some(),
             Kind::Recipe { .. } => self.recipe.is_some(),
             Kind::ImportView | Kind::ExportView => self.views.is_some(),
+            Kind::RecipeRows { .. } => self.windows.is_some(),
         }
     }
 
@@ -92,12 +95,12 @@ impl Library {
         Width::ALL.into_iter().flat_map(Entry::all).filter(|entry| self.has(*entry))
     }
 
-    /// Names the operations that the library has no entry for, if there are any, or recipes, or
-    /// ListView columns.
+    /// Names the operations that the library has no entry for, if there are any, or recipes, over
+    /// all their rows or some, or ListView columns.
     pub fn print_absent(&self) {
         let of_width = |width: Width| Entry::all(width).chain([Entry::recipes(width)]);
         let entries = Width::ALL.into_iter().flat_map(of_width);
-        let entries = entries.chain([Entry::IMPORT, Entry::EXPORT]);
+        let entries = entries.chain([Entry::IMPORT, Entry::EXPORT, Entry::RECIPE_ROWS]);
         let absent = entries.filter(|entry| !self.has(*entry)).map(Entry::name);
         let absent: Vec<&str> = absent.collect();
         if !absent.is_empty() {
@@ -138,6 +141,7 @@ impl Library {
                 present(self.recipe)(station, columns, lent, bits, outputs(results), counts)
             }
             Kind::ImportView | Kind::ExportView => panic!("views have no entry over bytes"),
+            Kind::RecipeRows { .. } => panic!("windows have no entry over bytes"),
         }
     }
 }

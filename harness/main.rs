@@ -49,6 +49,10 @@
 //! in view_groups.rs and what these must reach in view_coverage.rs, export those of an operation on
 //! one list; the wrong versions of both are in mock_views.rs. `--operation 'import view'` and
 //! `--operation 'export view'` run their groups.
+//!
+//! A recipe over some of its rows has a typed entry alone, too. It is read in windows.rs, has its groups
+//! in window_groups.rs and what these must reach in window_coverage.rs; its wrong versions are in
+//! mock_windows.rs. `--operation 'recipe rows'` runs its groups.
 
 mod bench;
 mod compare;
@@ -77,6 +81,8 @@ mod mock_rows;
 mod mock_typed;
 #[cfg(mock)]
 mod mock_views;
+#[cfg(mock)]
+mod mock_windows;
 mod model;
 mod no_offsets;
 mod numbers;
@@ -99,6 +105,9 @@ mod view_coverage;
 mod view_groups;
 mod views;
 mod wide;
+mod window_coverage;
+mod window_groups;
+mod windows;
 mod worked;
 
 use compare::{Checker, Manner};

@@ -11,6 +11,7 @@ use crate::mock_rows::{
 };
 use crate::mock_typed::typed;
 use crate::mock_views::VIEWS;
+use crate::mock_windows::WINDOWS;
 use crate::model::Width;
 use crate::plain;
 use std::ops::Range;
@@ -28,6 +29,7 @@ pub const LIBRARY: Library = Library {
     typed: Some(typed()),
     large: Some(typed()),
     views: Some(VIEWS),
+    windows: Some(WINDOWS),
 };
 
 /// How many lists an entry takes, with argument columns behind them, the kind of its answer, and the

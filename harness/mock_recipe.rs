@@ -74,6 +74,16 @@ pub fn recipe_after(
     number
 }
 
+/// The refusal that comes before the steps of a recipe for station 0.
+pub fn refusal_before_steps(
+    width: Width,
+    columns: usize,
+    inputs: &[&[u8]; 11],
+    starts: [usize; 5],
+) -> Option<u32> {
+    Run::new(width, columns, inputs, starts).check().err()
+}
+
 // Answers of the entry.
 
 fn own_answer(inputs: &[&[u8]], outputs: &[&mut [u8]], counts: usize) -> Option<u32> {

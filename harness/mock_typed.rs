@@ -32,7 +32,7 @@ fn shape<O>(lists: usize, answer: Answer) -> Shape {
     Shape { lists, answer, width: width_of::<O>() }
 }
 
-fn list_bytes<'a, O: Number>(list: &List<'a, O>) -> [&'a [u8]; 4] {
+pub fn list_bytes<'a, O: Number>(list: &List<'a, O>) -> [&'a [u8]; 4] {
     [bytes_of(list.offsets), list.rows, bytes_of(list.values), list.elements]
 }
 

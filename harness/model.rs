@@ -1010,10 +1010,15 @@ pub fn recipe_outcome(recipe: &Recipe, room: [&[u64]; 3]) -> Result<ResultForm, 
     if let Some(number) = refusal_before_steps(recipe) {
         return Err(RecipeRefusal { number, step: 0, place: None });
     }
+    steps_outcome(&recipe_shown(recipe), room)
+}
+
+/// What the steps come to over what a recipe shows.
+pub fn steps_outcome(shown: &RecipeShown, room: [&[u64]; 3]) -> Result<ResultForm, RecipeRefusal> {
     let fits = |place: Place, needed: &[u64]| {
         needed.iter().zip(room[place as usize]).all(|(needed, lent)| needed <= lent)
     };
-    carry(&recipe_shown(recipe), fits).map(|rows| list_form(&rows))
+    carry(shown, fits).map(|rows| list_form(&rows))
 }
 
 /// The stations that a recipe may be run for.

@@ -7,7 +7,8 @@
 use crate::library::Library;
 use crate::numbers::{bytes_of, Number};
 use crate::typed::{Lending, List, OuterRoom, Recipe, Room, Typed, Values};
-use crate::typed::{View, ViewRoom, Views};
+use crate::typed::{RowsOfRecipe, View, ViewRoom, Views, Windows};
+use crate::windows::Window;
 use std::collections::HashSet;
 use std::hash::Hash;
 use std::ops::Range;
@@ -23,6 +24,7 @@ pub const LIBRARY: Library = Library {
     typed: Some(typed()),
     large: Some(typed()),
     views: Some(VIEWS),
+    windows: Some(WINDOWS),
 };
 
 type Bytes4 = [u8; 4];
@@ -1706,13 +1708,17 @@ fn typed_recipe<O: Offset>(
             result
         })
     };
-    for Lists { offsets, rows, values, elements } in [one, two] {
+    clear([one, two]);
+    result
+}
+
+fn clear<O: Offset>(trays: [Room<O>; 2]) {
+    for Lists { offsets, rows, values, elements } in trays {
         offsets.fill(O::of(0));
         rows.fill(0);
         values.fill(0);
         elements.fill(0);
     }
-    result
 }
 
 // How much to lend.
@@ -1909,4 +1915,56 @@ fn export_view(list: List<i32>, room: ViewRoom, counts: &mut [u64]) -> u32 {
         let (null_rows, null_elements) = (bits.finish(), element_writer.bits.finish());
         Ok([rows as u64, elements as u64, null_rows, null_elements])
     })
+}
+
+// Recipes over some of their rows.
+
+pub const WINDOWS: Windows = Windows { recipe_rows };
+
+/// Some rows of a column, which has them; its starting bit may then be any.
+fn rows_between<'a>(list: List<'a, i32>, Window { begin, end }: Window) -> List<'a, i32> {
+    let offsets = list.offsets.get(begin..=end).unwrap_or(&[]);
+    Column { offsets, rows_start: list.rows_start + begin, ..list }
+}
+
+/// The same rows of each argument column, copied: their values, and their bits from bit 0.
+fn arguments_between(columns: &RecipeColumns<i32, i64>, window: Window) -> (Vec<i64>, Vec<u8>) {
+    let Argument { values, bits, start } = columns.arguments;
+    let rows = columns.list.row_count().max(1);
+    let (mut copied, mut copied_bits) = (Vec::new(), Vec::new());
+    for column in 0..values.len() / rows {
+        for row in window.begin..window.end {
+            let (to, from) = (copied.len(), column * rows + row);
+            if to % 8 == 0 {
+                copied_bits.push(0);
+            }
+            copied.push(values[from]);
+            copied_bits[to / 8] |= u8::from(bit(bits, start + from)) << (to % 8);
+        }
+    }
+    (copied, copied_bits)
+}
+
+fn recipe_rows(
+    RowsOfRecipe { window, recipe }: RowsOfRecipe,
+    [mut one, mut two, output]: [Room<i32>; 3],
+    counts: &mut [u64],
+) -> u32 {
+    let Recipe { numbers, columns, lists: [list, second], arguments, .. } = recipe;
+    let number = tell(counts, || {
+        let lent = RecipeColumns { list, second, arguments };
+        let steps = check_steps(columns, bytes_of(numbers), &lent)?;
+        if window.begin > window.end || window.end > list.row_count() {
+            return Err(16);
+        }
+        let (values, bits) = arguments_between(&lent, window);
+        let part = RecipeColumns {
+            list: rows_between(list, window),
+            second: rows_between(second, window),
+            arguments: Argument { values: &values, bits: &bits, start: 0 },
+        };
+        run_steps(&part, steps, [reborrow(&mut one), reborrow(&mut two)], output)
+    });
+    clear([one, two]);
+    number
 }

@@ -11,7 +11,7 @@ pub use crate::mock::LIBRARY;
 #[cfg(not(mock))]
 use crate::library::Library;
 #[cfg(not(mock))]
-use crate::typed_port::{large, narrow, VIEWS};
+use crate::typed_port::{large, narrow, VIEWS, WINDOWS};
 
 /// The safe function of an entry: the code, if it takes one, or the station and the number of
 /// columns, then the names of its input slices, those of bitmaps with that of their starting bit,
@@ -115,6 +115,7 @@ macro_rules! archive {
             typed: Some(narrow::TYPED),
             large: Some(large::TYPED),
             views: Some(VIEWS),
+            windows: Some(WINDOWS),
             ..Library::EMPTY
         };
     };

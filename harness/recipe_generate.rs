@@ -8,6 +8,7 @@ use crate::generate::{Layout, Left, Room, RowShape, MOST_BITMAP_BYTES};
 use crate::model::{self, Element, Made, Operation, RecipeShown, Row, Shown, Tally};
 use crate::model::{Width, CODES, STATIONS};
 use crate::rng::Rng;
+use crate::windows::{self, Window};
 
 // Steps.
 
@@ -336,6 +337,25 @@ pub fn recipe_input(shown: &RecipeShown, layouts: &[Layout], rng: &mut Rng) -> I
     RecipeCall::new(shown, rng).laid_out(layouts, rng)
 }
 
+/// Rows of so many: all, none, the first, the last, or any.
+pub fn random_window(rows: usize, rng: &mut Rng) -> Window {
+    let (one, other) = (rng.below(rows + 1), rng.below(rows + 1));
+    let (begin, end) = match rng.below(8) {
+        0 => (0, rows),
+        1 => (one, one),
+        2 => (0, one),
+        3 => (one, rows),
+        _ => (one.min(other), one.max(other)),
+    };
+    Window { begin, end }
+}
+
+/// The same call over some of its rows.
+pub fn over_rows(input: &Input, window: Window) -> Input {
+    let entry = Kind::RecipeRows { window, columns: input.entry.columns() }.at(Width::Narrow);
+    Input { entry, ..input.clone() }
+}
+
 /// The slots that the steps take in tray one, tray two and the output, up to one that is refused;
 /// where the steps are not reached, slots that would be enough for a copy.
 pub fn recipe_slots(input: &Input) -> Vec<usize> {
@@ -344,16 +364,15 @@ pub fn recipe_slots(input: &Input) -> Vec<usize> {
 
 /// The same, with no more than this many values in any place.
 fn recipe_slots_within(input: &Input, most: usize) -> Vec<usize> {
-    let recipe = input.recipe().expect("the call of a recipe");
-    if model::refusal_before_steps(&recipe).is_some() {
+    let Some(shown) = shown_to_steps(input) else {
         let list = &input.lists[0];
         let rows = list.row_count() as u64;
         let copy = input.entry.written_slots(&[rows, list.values.len() as u64, 0, 0]);
         return [copy.clone(), copy.clone(), copy].concat();
-    }
+    };
     let mut needed = [[0; 4]; 3];
     // A refusal leaves what the steps before it took.
-    let _ = model::carry(&model::recipe_shown(&recipe), |place, slots| {
+    let _ = model::carry(&shown, |place, slots| {
         let fits = slots[2] <= most as u64;
         if fits {
             let before = needed[place as usize].iter_mut();
@@ -362,6 +381,17 @@ fn recipe_slots_within(input: &Input, most: usize) -> Vec<usize> {
         fits
     });
     needed.concat()
+}
+
+/// What the steps see, if they are reached.
+fn shown_to_steps(input: &Input) -> Option<RecipeShown> {
+    if let Some((recipe, window)) = input.recipe_of_rows() {
+        let refused = windows::refusal_before_steps(&recipe, window).is_some();
+        return (!refused).then(|| windows::shown(&recipe, window));
+    }
+    let recipe = input.recipe().expect("the call of a recipe");
+    let refused = model::refusal_before_steps(&recipe).is_some();
+    (!refused).then(|| model::recipe_shown(&recipe))
 }
 
 /// Counts at, near and far from the places where one more carries, or cannot be.
@@ -386,8 +416,8 @@ fn random_tally(rng: &mut Rng) -> Vec<u8> {
     tally
 }
 
-/// The call of a recipe, with trays and outputs of the given room that hold random bytes, or now
-/// and then only zeros. Of any room, one slice is short in an eighth of the calls.
+/// The call of a recipe, over all its rows or some, with trays and outputs of the given room that
+/// hold random bytes, or now and then only zeros. Of any room, one slice is short in an eighth of the calls.
 pub fn lend_recipe(input: &Input, room: Room, rng: &mut Rng) -> Case {
     lend_recipe_within(input, room, |kind| kind.most.unwrap_or(MOST_BITMAP_BYTES), rng)
 }
@@ -415,7 +445,9 @@ pub fn lend_recipe_within(
         let bytes = slots.min(most(kind)) * kind.width;
         outputs.push(if clean { vec![0; bytes] } else { rng.bytes(bytes) });
     }
-    outputs.push(random_tally(rng));
+    if input.entry.is_recipe() {
+        outputs.push(random_tally(rng));
+    }
     let more_counts = rng.pick(&[0, 0, 1, 8, 9]);
     let counts = rng.bytes(input.entry.count_bytes() + more_counts);
     Case::new(input, outputs, counts)

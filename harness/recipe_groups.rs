@@ -174,7 +174,7 @@ fn spoil_column_count(input: &mut Input, rng: &mut Rng) {
 }
 
 /// Lends values for all columns, unless these are too many.
-fn suit_arguments(input: &mut Input) {
+pub fn suit_arguments(input: &mut Input) {
     let rows = input.lists[0].row_count();
     let values = columns_of(input) * rows;
     let arguments = &mut input.arguments[0];
@@ -186,7 +186,7 @@ fn suit_arguments(input: &mut Input) {
 }
 
 pub fn columns_of(input: &Input) -> usize {
-    input.entry.recipe().1
+    input.entry.columns()
 }
 
 fn spoil_used_number(input: &mut Input, rng: &mut Rng) {
@@ -228,7 +228,7 @@ fn malformed_recipes(checker: &mut Checker, entry: Entry, rng: &mut Rng, calls: 
 // Damage, and the order of refusals.
 
 /// Lists that every damage can be done to.
-fn damageable_lists(width: Width, rng: &mut Rng) -> [Vec<Row>; 2] {
+pub fn damageable_lists(width: Width, rng: &mut Rng) -> [Vec<Row>; 2] {
     let shown = damageable_shown(Entry::of(model::Operation::Union, width), rng);
     let [first, second] = &shown.lists[..] else { panic!("two lists of a union") };
     [first.clone(), second.clone()]
@@ -335,7 +335,7 @@ impl Refused {
 }
 
 /// Cuts a slice of a tray or of the output, which were lent exactly, by one slot or to nothing.
-fn shorten_some_slice(case: &mut Case, rng: &mut Rng) {
+pub fn shorten_some_slice(case: &mut Case, rng: &mut Rng) {
     let mut slices: Vec<usize> = (0..TALLY).collect();
     slices.retain(|slice| !case.outputs[*slice].is_empty());
     let slice = rng.pick(&slices);
@@ -506,7 +506,7 @@ fn random_bytes(checker: &mut Checker, entry: Entry, rng: &mut Rng, calls: u64) 
     }
 }
 
-fn random_case(width: Width, rng: &mut Rng) -> Case {
+pub fn random_case(width: Width, rng: &mut Rng) -> Case {
     let (rows, columns) = (rng.below(4), rng.pick(&[0, 2, 4, 4, 4, 8, 9]));
     let station = if rng.chance(1, 16) { no_station(rng) } else { random_station(rng) };
     let entry = Kind::Recipe { station, columns }.at(width);
@@ -673,18 +673,23 @@ fn every_pair(checker: &mut Checker, entry: Entry, rng: &mut Rng, _calls: u64) {
 }
 
 fn check_codes(checker: &mut Checker, width: Width, codes: &[u32], rng: &mut Rng) {
+    let rows = 1 + rng.below(3);
+    let shown = shown_by_codes(width, codes, rows, rng);
+    checker.check(&lend_recipe(&laid_out(&shown, rng), Room::Any, rng));
+}
+
+/// A recipe of these codes over so many short rows.
+pub fn shown_by_codes(width: Width, codes: &[u32], rows: usize, rng: &mut Rng) -> RecipeShown {
     let step = |code: &u32| {
         let [first, second, third] = COLUMNS_OF[*code as usize];
         [*code, first, second, third]
     };
-    let rows = 1 + rng.below(3);
     let column = |choices: &&[Element]| (0..rows).map(|_| rng.pick(choices)).collect();
     let columns = CHOICES.iter().map(column).collect();
-    let shown = RecipeShown {
+    RecipeShown {
         width,
         steps: codes.iter().map(step).collect(),
         columns,
         lists: [short_list(rows, rng), short_list(rows, rng)],
-    };
-    checker.check(&lend_recipe(&laid_out(&shown, rng), Room::Any, rng));
+    }
 }

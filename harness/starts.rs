@@ -8,8 +8,9 @@ use crate::generate::{input_of, lend, random_layout, random_shown, small_shape};
 use crate::generate::{Layout, Room, RowShape};
 use crate::groups::check_answer;
 use crate::model::{Bitmap, Shown};
-use crate::recipe_generate::{accepted_recipe, RecipeCall};
+use crate::recipe_generate::{accepted_recipe, over_rows, random_window, RecipeCall};
 use crate::rng::Rng;
+use crate::windows::Window;
 
 /// Starting bits that there are not: the next ones, and such as are 0 to 7 in a part of their bits.
 pub const OVER: [usize; 12] =
@@ -37,14 +38,19 @@ pub fn every_start(checker: &mut Checker, entry: Entry, rng: &mut Rng, _calls: u
 enum Shows {
     Operation(Entry, Shown),
     Recipe(RecipeCall),
+    RecipeRows(RecipeCall, Window),
 }
 
 impl Shows {
     fn random(entry: Entry, rng: &mut Rng) -> Shows {
         let shape = RowShape { count: 1 + rng.below(20), longest: 3, ..small_shape(rng) };
-        if entry.is_recipe() {
+        if entry.has_steps() {
             let shown = accepted_recipe(entry.width, shape, rng.below(4), rng);
-            Shows::Recipe(RecipeCall::new(&shown, rng))
+            let call = RecipeCall::new(&shown, rng);
+            match entry.is_recipe() {
+                true => Shows::Recipe(call),
+                false => Shows::RecipeRows(call, random_window(shape.count, rng)),
+            }
         } else {
             Shows::Operation(entry, random_shown(entry, shape, rng))
         }
@@ -55,6 +61,7 @@ impl Shows {
         let (entry, lists) = match self {
             Shows::Operation(entry, _) => (*entry, entry.lists()),
             Shows::Recipe(call) => (Entry::recipes(call.width), 2),
+            Shows::RecipeRows(..) => (Entry::RECIPE_ROWS, 2),
         };
         let layout =
             |rng: &mut Rng| Layout { absent_bitmaps, more_bitmap_bytes: 0, ..random_layout(rng) };
@@ -68,6 +75,7 @@ impl Shows {
         match self {
             Shows::Operation(entry, shown) => input_of(*entry, shown, &layouts, rng),
             Shows::Recipe(call) => call.laid_out(&layouts, rng),
+            Shows::RecipeRows(call, window) => over_rows(&call.laid_out(&layouts, rng), *window),
         }
     }
 }

@@ -7,6 +7,7 @@ use crate::entry::{Entry, Kind};
 use crate::library::outputs;
 use crate::numbers::{of_bytes, of_bytes_mut, Number};
 use crate::plain::{Argument, Column, Lists, Outer};
+use crate::windows::Window;
 
 /// A list column, an argument column, and the room for a list answer and for the outer rows of
 /// list-repeat's, all of them numbers.
@@ -40,6 +41,20 @@ pub struct ViewRoom<'a> {
 pub struct Views {
     pub import: fn(View, Room<i32>, &mut [u64]) -> u32,
     pub export: fn(List<i32>, ViewRoom, &mut [u64]) -> u32,
+}
+
+/// A recipe that is run over some of its rows; its station is not looked at.
+#[derive(Clone, Copy)]
+pub struct RowsOfRecipe<'a> {
+    pub window: Window,
+    pub recipe: Recipe<'a, i32>,
+}
+
+/// The entry for a recipe over some of its rows, whose lists have offsets of 32 bits. The rooms are
+/// tray one, tray two and the output.
+#[derive(Clone, Copy)]
+pub struct Windows {
+    pub recipe_rows: fn(RowsOfRecipe, [Room<i32>; 3], &mut [u64]) -> u32,
 }
 
 /// A recipe as it is lent: its station, its numbers, how many argument columns it has, its lists,
@@ -137,6 +152,7 @@ impl<O: Number> Lending<O> {
                 (self.limits)(recipe(station, columns, lent, starts), lengths)
             }
             Kind::ImportView | Kind::ExportView => panic!("nothing is asked of views"),
+            Kind::RecipeRows { .. } => panic!("nothing is asked of windows"),
         }
     }
 }
@@ -185,7 +201,26 @@ impl<O: Number> Typed<O> {
                 (self.recipe)(recipe, rooms, counts, of_bytes_mut(tally))
             }
             Kind::ImportView | Kind::ExportView => panic!("views have entries of their own"),
+            Kind::RecipeRows { .. } => panic!("windows have an entry of their own"),
         }
+    }
+}
+
+impl Windows {
+    /// Calls the entry in the same way.
+    pub fn call(
+        &self,
+        entry: Entry,
+        lent: &[&[u8]],
+        starts: &[usize],
+        results: &mut [&mut [u8]],
+        counts: &mut [u8],
+    ) -> u32 {
+        let recipe = recipe(0, entry.columns(), lent, starts);
+        let [a, b, c, d, e, f, g, h, i, j, k, l] = outputs(results);
+        let rooms = [[a, b, c, d], [e, f, g, h], [i, j, k, l]].map(room);
+        let rows = RowsOfRecipe { window: entry.window(), recipe };
+        (self.recipe_rows)(rows, rooms, of_bytes_mut(counts))
     }
 }
 

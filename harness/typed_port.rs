@@ -1,10 +1,12 @@
-//! The port's typed C entries behind safe functions, those of large lists and of ListView columns too.
+//! The port's typed C entries behind safe functions, those of large lists, of ListView columns and of
+//! recipes over some of their rows too.
 //!
 //! A slice passes as a pointer and a length in numbers, a bitmap of a column with its starting bit
 //! behind them. The entries demand of their caller what the byte entries do, and that each pointer is
 //! aligned for its numbers; Rust's slices give all of it, empty ones too.
 
-use crate::typed::{List, Room, View, ViewRoom, Views};
+use crate::typed::{List, Recipe, Room, RowsOfRecipe, View, ViewRoom, Views, Windows};
+use crate::windows::Window;
 
 #[link(name = "duthlan", kind = "static")]
 extern "C" {}
@@ -12,21 +14,21 @@ extern "C" {}
 #[link(name = "duthlan_large", kind = "static")]
 extern "C" {}
 
-/// The safe function of an entry: the number that it takes first, if it takes one, then its input
+/// The safe function of an entry: the numbers that it takes first, if it takes any, then its input
 /// slices, those of bitmaps with their starting bit (a recipe's numbers with how many columns it
 /// has), then its output slices.
 macro_rules! entry {
-    ($symbol:ident ($($code:ident)?)
+    ($symbol:ident ($($code:ident: $number:ty),*)
         [$($input:ident: $of:ty $(, $start:ident)?);+] [$($output:ident: $to:ty),+]) => {
         #[allow(clippy::too_many_arguments)]
         fn $symbol(
-            $($code: u32,)?
+            $($code: $number,)*
             $($input: &[$of], $($start: usize,)?)+
             $($output: &mut [$to],)+
         ) -> u32 {
             extern "C" {
                 fn $symbol(
-                    $($code: u32,)?
+                    $($code: $number,)*
                     $($input: *const $of, _: usize, $($start: usize,)?)+
                     $($output: *mut $to, _: usize,)+
                 ) -> u32;
@@ -35,7 +37,7 @@ macro_rules! entry {
             // another.
             unsafe {
                 $symbol(
-                    $($code,)?
+                    $($code,)*
                     $($input.as_ptr(), $input.len(), $($start,)?)+
                     $($output.as_mut_ptr(), $output.len(),)+
                 )
@@ -71,7 +73,7 @@ macro_rules! entries {
             };
 
             entry!(
-                $list (op)
+                $list (op: u32)
                 [offsets: $offset; rows: u8, rows_start; values: i64; elements: u8, elements_start;
                  first: i64; first_bits: u8, first_start; second: i64; second_bits: u8, second_start;
                  third: i64; third_bits: u8, third_start]
@@ -79,7 +81,7 @@ macro_rules! entries {
             );
 
             entry!(
-                $lists (op)
+                $lists (op: u32)
                 [l_offsets: $offset; l_rows: u8, l_rows_start;
                  l_values: i64; l_elements: u8, l_elements_start;
                  r_offsets: $offset; r_rows: u8, r_rows_start;
@@ -109,7 +111,7 @@ macro_rules! entries {
             );
 
             entry!(
-                $recipe (station)
+                $recipe (station: u32)
                 [numbers: u32, columns;
                  offsets: $offset; rows: u8, rows_start; values: i64; elements: u8, elements_start;
                  second_offsets: $offset; second_rows: u8, second_rows_start;
@@ -199,7 +201,7 @@ macro_rules! entries {
             // How much to lend.
 
             entry!(
-                $list_lengths (op)
+                $list_lengths (op: u32)
                 [offsets: $offset; rows: u8, rows_start; values: i64; elements: u8, elements_start;
                  first: i64; first_bits: u8, first_start; second: i64; second_bits: u8, second_start;
                  third: i64; third_bits: u8, third_start]
@@ -207,7 +209,7 @@ macro_rules! entries {
             );
 
             entry!(
-                $lists_lengths (op)
+                $lists_lengths (op: u32)
                 [l_offsets: $offset; l_rows: u8, l_rows_start;
                  l_values: i64; l_elements: u8, l_elements_start;
                  r_offsets: $offset; r_rows: u8, r_rows_start;
@@ -346,5 +348,37 @@ fn export_view(l: List<i32>, out: ViewRoom, counts: &mut [u64]) -> u32 {
     duthlan_typed_export_view(
         l.offsets, l.rows, l.rows_start, l.values, l.elements, l.elements_start,
         out.offsets, out.sizes, out.rows, out.values, out.elements, counts,
+    )
+}
+
+// Recipes over some of their rows.
+
+pub const WINDOWS: Windows = Windows { recipe_rows };
+
+entry!(
+    duthlan_typed_recipe_rows (begin: usize, end: usize)
+    [numbers: u32, columns;
+     offsets: i32; rows: u8, rows_start; values: i64; elements: u8, elements_start;
+     second_offsets: i32; second_rows: u8, second_rows_start;
+     second_values: i64; second_elements: u8, second_elements_start;
+     arguments: i64; argument_bits: u8, argument_start]
+    [one_offsets: i32, one_rows: u8, one_values: i64, one_elements: u8,
+     two_offsets: i32, two_rows: u8, two_values: i64, two_elements: u8,
+     out_offsets: i32, out_rows: u8, out_values: i64, out_elements: u8, counts: u64]
+);
+
+#[rustfmt::skip]
+fn recipe_rows(of: RowsOfRecipe, rooms: [Room<i32>; 3], counts: &mut [u64]) -> u32 {
+    let RowsOfRecipe { window: Window { begin, end }, recipe } = of;
+    let Recipe { numbers, columns, lists: [l, r], arguments: x, .. } = recipe;
+    let [one, two, out] = rooms;
+    duthlan_typed_recipe_rows(
+        begin, end, numbers, columns,
+        l.offsets, l.rows, l.rows_start, l.values, l.elements, l.elements_start,
+        r.offsets, r.rows, r.rows_start, r.values, r.elements, r.elements_start,
+        x.values, x.bits, x.start,
+        one.offsets, one.rows, one.values, one.elements,
+        two.offsets, two.rows, two.values, two.elements,
+        out.offsets, out.rows, out.values, out.elements, counts,
     )
 }

@@ -155,7 +155,7 @@ typedef struct duthlan_tally {
     uint64_t refused[16];
 } duthlan_tally;
 
-/* The numbers that a call returns. They are tested in the order 15, 10, 13, 1, 2, 3, then those of the rows, and 9 last. */
+/* The numbers that a call returns. They are tested in the order 15, 10, 13, 1, 2, 3, 16, then those of the rows, and 9 last. */
 enum duthlan_number {
     DUTHLAN_ACCEPTED = 0,
     DUTHLAN_BAD_OFFSETS = 1,        /* The first offset is negative, one falls, or the last lies past the values. */
@@ -172,6 +172,7 @@ enum duthlan_number {
     DUTHLAN_VIEW_OUTSIDE = 11,      /* The offset of a view, its size or their sum is below 0 or over the number of values. */
     DUTHLAN_BAD_STARTING_BIT = 13,  /* A starting bit is over 7, also beside a bitmap of no bytes. */
     DUTHLAN_NO_SUCH_STATION = 15,   /* The station is over 15. */
+    DUTHLAN_ROWS_OUTSIDE = 16,      /* The rows to be looked at begin behind their end, or end behind the last row. */
     DUTHLAN_BAD_CALL = 100          /* A raw entry got a code that it does not serve, or too few places for what it tells. */
 };
 
@@ -246,6 +247,15 @@ static inline uint32_t duthlan_recipe(
     uint32_t station, const uint32_t *numbers, size_t number_count,
     const duthlan_list *list, const duthlan_list *second, const duthlan_values *arguments, size_t columns,
     const duthlan_out *one, const duthlan_out *two, const duthlan_out *out, duthlan_counts *counts, duthlan_tally *tally);
+
+/* Runs a recipe for the rows from `begin` up to, not including, `end`: the answer and the output are those of the recipe on a copy
+ * that holds just these rows of both lists and of every argument column, so a row outside gives no refusal. The columns are lent
+ * whole, with the same pitch, and are refused as a whole, by 10, 13, 1, 2 and 3, and then by 16. No station is named and no tally
+ * moves; both trays are zero afterwards. NULL may stand where it may for duthlan_recipe. */
+static inline uint32_t duthlan_recipe_rows(
+    size_t begin, size_t end, const uint32_t *numbers, size_t number_count,
+    const duthlan_list *list, const duthlan_list *second, const duthlan_values *arguments, size_t columns,
+    const duthlan_out *one, const duthlan_out *two, const duthlan_out *out, duthlan_counts *counts);
 
 /* A recipe's steps, 0 to 32, four numbers each; what stands in brackets is the number of an argument column, from 0 to 7:
  *     static const uint32_t numbers[] = {DUTHLAN_STEP_SLICE(0, 1, 2), DUTHLAN_STEP_REVERSE}; */
@@ -471,6 +481,25 @@ uint32_t duthlan_typed_recipe(
     int32_t *out_offsets, size_t out_offset_count, uint8_t *out_rows, size_t out_row_bytes,
     int64_t *out_values, size_t out_value_count, uint8_t *out_elements, size_t out_element_bytes,
     uint64_t *counts, size_t count_places, uint64_t *tally, size_t tally_places);
+
+/* Runs a recipe for some of its rows. */
+uint32_t duthlan_typed_recipe_rows(
+    size_t begin, size_t end, const uint32_t *numbers, size_t number_count, size_t columns,
+    const int32_t *offsets, size_t offset_count, const uint8_t *rows, size_t row_bytes, size_t rows_start,
+    const int64_t *values, size_t value_count, const uint8_t *elements, size_t element_bytes, size_t elements_start,
+    const int32_t *second_offsets, size_t second_offset_count,
+    const uint8_t *second_rows, size_t second_row_bytes, size_t second_rows_start,
+    const int64_t *second_values, size_t second_value_count,
+    const uint8_t *second_elements, size_t second_element_bytes, size_t second_elements_start,
+    const int64_t *arguments, size_t argument_count,
+    const uint8_t *argument_bits, size_t argument_bytes, size_t argument_start,
+    int32_t *one_offsets, size_t one_offset_count, uint8_t *one_rows, size_t one_row_bytes,
+    int64_t *one_values, size_t one_value_count, uint8_t *one_elements, size_t one_element_bytes,
+    int32_t *two_offsets, size_t two_offset_count, uint8_t *two_rows, size_t two_row_bytes,
+    int64_t *two_values, size_t two_value_count, uint8_t *two_elements, size_t two_element_bytes,
+    int32_t *out_offsets, size_t out_offset_count, uint8_t *out_rows, size_t out_row_bytes,
+    int64_t *out_values, size_t out_value_count, uint8_t *out_elements, size_t out_element_bytes,
+    uint64_t *counts, size_t count_places);
 
 /* Tells the lengths for duthlan_typed_list, four: offsets, row bytes, values, element bytes. */
 uint32_t duthlan_typed_list_lengths(
@@ -756,6 +785,26 @@ static inline uint32_t duthlan_recipe(
     return duthlan_told_(number, told, counts);
 }
 
+static inline uint32_t duthlan_recipe_rows(
+    size_t begin, size_t end, const uint32_t *numbers, size_t number_count,
+    const duthlan_list *list, const duthlan_list *second, const duthlan_values *arguments, size_t columns,
+    const duthlan_out *one, const duthlan_out *two, const duthlan_out *out, duthlan_counts *counts) {
+    const duthlan_values none = {0, 0, {0, 0, 0}};
+    const duthlan_out no_tray = {0, 0, 0, 0, 0, 0, 0, 0};
+    uint64_t told[4] = {0, 0, 0, 0};
+    if (!second) second = list;
+    if (!arguments) arguments = &none;
+    if (!one) one = &no_tray;
+    if (!two) two = &no_tray;
+    return duthlan_told_(
+        duthlan_typed_recipe_rows(
+            begin, end, DUTHLAN_INPUT_(u32, numbers, number_count), columns,
+            DUTHLAN_LIST_(list), DUTHLAN_LIST_(second), DUTHLAN_VALUES_(arguments),
+            DUTHLAN_ROWS_(one), DUTHLAN_ELEMENTS_(one), DUTHLAN_ROWS_(two), DUTHLAN_ELEMENTS_(two),
+            DUTHLAN_ROWS_(out), DUTHLAN_ELEMENTS_(out), told, 4),
+        told, counts);
+}
+
 static inline uint32_t duthlan_told_lengths_(uint32_t number, const uint64_t told[4], duthlan_lengths *lengths) {
     if (number == 0 && lengths) {
         lengths->offsets = told[0];
@@ -912,6 +961,7 @@ static inline const char *duthlan_refusal(uint32_t number) {
     case DUTHLAN_VIEW_OUTSIDE: return "a view that lies outside the values";
     case DUTHLAN_BAD_STARTING_BIT: return "a starting bit over 7";
     case DUTHLAN_NO_SUCH_STATION: return "a station over 15";
+    case DUTHLAN_ROWS_OUTSIDE: return "rows to be looked at that begin behind their end, or end behind the last row";
     case DUTHLAN_BAD_CALL: return "an unknown code, or too few places for what is told";
     default: return "a number that has no name here";
     }

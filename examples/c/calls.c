@@ -545,7 +545,7 @@ static void asked_recipes(void) {
 }
 
 static void sentences(void) {
-    static const uint32_t named[] = {0, 1, 2, 3, 4, 5, 6, 7, 8, 9, 10, 11, 13, 15, 100};
+    static const uint32_t named[] = {0, 1, 2, 3, 4, 5, 6, 7, 8, 9, 10, 11, 13, 15, 16, 100};
     const char *unnamed = duthlan_refusal(99);
     size_t i;
     int have_words = 1;
@@ -787,6 +787,100 @@ static void raw_views(void) {
                                                        rows, 0, values, 0, elements, 0, told, 5) == DUTHLAN_ACCEPTED &&
                                  told[0] == 0 && told[3] == 0 && told[4] == 5);
 }
+
+/* Recipes over some of their rows. */
+
+static int32_t tray_offsets[ROOM];
+static uint8_t tray_rows[ROOM], tray_elements[ROOM];
+static int64_t tray_values[ROOM];
+
+/* Whether a tray that was filled with 85 is all zero now, and filled again. */
+static int zeroed(void) {
+    static const int32_t no_offsets[ROOM] = {0};
+    static const uint8_t no_bits[ROOM] = {0};
+    static const int64_t no_values[ROOM] = {0};
+    const int is_zero = memcmp(tray_offsets, no_offsets, sizeof no_offsets) == 0 && memcmp(tray_rows, no_bits, sizeof no_bits) == 0 &&
+                        memcmp(tray_values, no_values, sizeof no_values) == 0 && memcmp(tray_elements, no_bits, sizeof no_bits) == 0;
+    memset(tray_offsets, 85, sizeof tray_offsets);
+    memset(tray_rows, 85, sizeof tray_rows);
+    memset(tray_values, 85, sizeof tray_values);
+    memset(tray_elements, 85, sizeof tray_elements);
+    return is_zero;
+}
+
+static void windows(void) {
+    static const uint32_t two_steps[] = {DUTHLAN_STEP_SLICE_WITHOUT_STRIDE(0, 1), DUTHLAN_STEP_REVERSE};
+    static const uint32_t union_step[] = {DUTHLAN_STEP_UNION}, resize_step[] = {DUTHLAN_STEP_RESIZE(0, 0)};
+    static const int64_t bounds[] = {2, 1, 1, 2, -1, -1, -1, 3}, counted[] = {-1, 3, 2, 1};
+    const duthlan_values arguments = {bounds, 8, {0, 0, 0}}, resized = {counted, 4, {0, 0, 0}};
+    const duthlan_list no_rows = {0, 0, {0, 0, 0}, 0, 0, {0, 0, 0}};
+    const duthlan_out tray = {tray_offsets, ROOM, tray_rows, ROOM, tray_values, ROOM, tray_elements, ROOM};
+    const duthlan_out one_slot = {offsets, 1, 0, 0, 0, 0, 0, 0}, no_slot = {0, 0, 0, 0, 0, 0, 0, 0};
+    size_t begin, end;
+    uint32_t number;
+    zeroed();
+    number = duthlan_recipe_rows(0, 4, two_steps, 8, &shifted, 0, &arguments, 2, &tray, 0, &out, &counts);
+    check("all rows", made(number, "[null,-3] null [] [9,7]") && zeroed());
+    number = duthlan_recipe_rows(1, 4, two_steps, 8, &shifted, 0, &arguments, 2, &tray, 0, &out, &counts);
+    check("rows 1 to 3", made(number, "null [] [9,7]") && counts.rows == 3 && counts.null_rows == 1 && zeroed());
+    number = duthlan_recipe_rows(3, 4, union_step, 4, &shifted, &other, 0, 0, 0, 0, &out, &counts);
+    check("the last row", made(number, "[7,9]"));
+    number = duthlan_recipe_rows(0, 1, union_step, 4, &shifted, &other, 0, 0, 0, 0, &out, &counts);
+    check("the first row", made(number, "[12,-3,null,9]"));
+    number = duthlan_recipe_rows(1, 3, 0, 0, &shifted, 0, 0, 0, 0, 0, &out, 0);
+    check("no steps, counts not wanted", number == DUTHLAN_ACCEPTED && offsets[2] == 0);
+    check("a negative count", duthlan_recipe_rows(0, 4, resize_step, 4, &list, 0, &resized, 1, 0, 0, &out, &counts) == DUTHLAN_NEGATIVE_COUNT);
+    number = duthlan_recipe_rows(1, 4, resize_step, 4, &list, 0, &resized, 1, 0, 0, &out, &counts);
+    check("outside the rows", made(number, "null [2,2] [7]"));
+    for (begin = 0; begin < 6; begin++) {
+        for (end = 0; end < 6; end++) {
+            memset(offsets, 85, sizeof offsets);
+            memset(&counts, 85, sizeof counts);
+            number = duthlan_recipe_rows(begin, end, two_steps, 8, &list, 0, &arguments, 2, &tray, 0, &out, &counts);
+            check("every window", zeroed() && number == (begin > end || end > 4 ? DUTHLAN_ROWS_OUTSIDE : DUTHLAN_ACCEPTED));
+            check("its rows", number == DUTHLAN_ACCEPTED ? counts.rows == end - begin && offsets[end - begin + 1] == kept_offset
+                                                         : kept(offsets, sizeof offsets) && kept(&counts, sizeof counts));
+        }
+    }
+    check("16, far ends", duthlan_recipe_rows(0, SIZE_MAX, 0, 0, &list, 0, 0, 0, 0, 0, &out, 0) == DUTHLAN_ROWS_OUTSIDE &&
+                              duthlan_recipe_rows(SIZE_MAX, SIZE_MAX, 0, 0, &list, 0, 0, 0, 0, 0, &out, 0) == DUTHLAN_ROWS_OUTSIDE &&
+                              duthlan_recipe_rows(SIZE_MAX, 0, 0, 0, &list, 0, 0, 0, 0, 0, &out, 0) == DUTHLAN_ROWS_OUTSIDE);
+    check("10 before 16", duthlan_recipe_rows(2, 1, two_steps, 7, &list, 0, &arguments, 2, &tray, 0, &out, 0) == DUTHLAN_MALFORMED_RECIPE);
+    check("13 before 16", duthlan_recipe_rows(2, 1, 0, 0, &bad_start, 0, 0, 0, 0, 0, &out, 0) == DUTHLAN_BAD_STARTING_BIT);
+    check("1 before 16", duthlan_recipe_rows(2, 1, 0, 0, &bad_offsets, 0, 0, 0, 0, 0, &out, 0) == DUTHLAN_BAD_OFFSETS);
+    check("2 before 16", duthlan_recipe_rows(2, 1, 0, 0, &short_bitmap, 0, 0, 0, 0, 0, &out, 0) == DUTHLAN_SHORT_BITMAP);
+    check("3 before 16", duthlan_recipe_rows(2, 1, 0, 0, &list, 0, &arguments, 3, 0, 0, &out, 0) == DUTHLAN_ROW_COUNTS_DIFFER);
+    check("1 outside", duthlan_recipe_rows(0, 1, 0, 0, &bad_offsets, 0, 0, 0, 0, 0, &out, 0) == DUTHLAN_BAD_OFFSETS);
+    check("9", duthlan_recipe_rows(0, 4, two_steps, 8, &list, 0, &arguments, 2, 0, 0, &out, 0) == DUTHLAN_SHORT_OUTPUT);
+    check("none of the rows", duthlan_recipe_rows(2, 2, 0, 0, &list, 0, 0, 0, 0, 0, &one_slot, 0) == DUTHLAN_ACCEPTED && offsets[0] == 0);
+    check("none, no slot", duthlan_recipe_rows(2, 2, 0, 0, &list, 0, 0, 0, 0, 0, &no_slot, 0) == DUTHLAN_SHORT_OUTPUT);
+    check("none of no rows", duthlan_recipe_rows(0, 0, 0, 0, &no_rows, 0, 0, 0, 0, 0, &one_slot, 0) == DUTHLAN_ACCEPTED);
+    for (end = 0; end < 5; end++) {
+        const duthlan_out tight = {offsets, end == 1 ? 2u : 3u, rows, end == 2 ? 0u : 1u,
+                                   values, end == 3 ? 2u : 3u, elements, end == 4 ? 0u : 1u};
+        number = duthlan_recipe_rows(0, 2, 0, 0, &list, 0, 0, 0, 0, 0, &tight, 0);
+        check("room for the rows", number == (end == 0 ? DUTHLAN_ACCEPTED : DUTHLAN_SHORT_OUTPUT));
+    }
+}
+
+/* What only the raw entry can say of them. */
+static void raw_windows(void) {
+    uint64_t told[5] = {5, 5, 5, 5, 5};
+    const int32_t zero = 0;
+    const int64_t none = 0;
+    const uint8_t bits = 0;
+    const uint32_t reverse[] = {DUTHLAN_STEP_REVERSE};
+    size_t places;
+    for (places = 3; places < 6; places++) {
+        const uint32_t number = duthlan_typed_recipe_rows(
+            0, 0, reverse, 4, 0, &zero, 1, &bits, 0, 0, &none, 0, &bits, 0, 0, &zero, 1, &bits, 0, 0, &none, 0, &bits, 0, 0,
+            &none, 0, &bits, 0, 0, tray_offsets, ROOM, tray_rows, ROOM, tray_values, ROOM, tray_elements, ROOM,
+            inner_offsets, 0, inner_rows, 0, values, 0, elements, 0, offsets, ROOM, rows, ROOM, values + 1, 1, elements + 1, 1,
+            told, places);
+        check("counts of some rows", zeroed() && number == (places < 4 ? DUTHLAN_BAD_CALL : DUTHLAN_ACCEPTED));
+        check("past them", told[4] == 5 && told[0] == (places < 4 ? 5u : 0u));
+    }
+}
 #endif
 
 int main(void) {
@@ -806,6 +900,8 @@ int main(void) {
 #ifndef CALLS_LARGE
     views();
     raw_views();
+    windows();
+    raw_windows();
 #endif
     printf("%d passed, %d failed\n", passed, failed);
     return failed != 0;

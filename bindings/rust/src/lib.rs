@@ -33,14 +33,15 @@
 //!   other slice of the call. `written` reads it back, and gives a column to lend on.
 //! - How long those slices must be can be asked first: [`reverse_lengths`] for [`reverse`], and so for
 //!   every operation. Slices of the lengths told are never refused by 9.
-//! - A [`Recipe`] chains list operations through two trays; [`run_recipe`] runs it, and
-//!   [`recipe_limits`] tells how many elements the trays and the output must hold.
+//! - A [`Recipe`] chains list operations through two trays; [`run_recipe`] runs it, [`run_recipe_rows`]
+//!   runs it for some rows, and [`recipe_limits`] tells how many elements the trays and the output must
+//!   hold.
 //! - A ListView column is a [`View`]; [`import_view`] reads it into a list column, and [`export_view`]
 //!   writes a list column to a [`ViewOut`].
 //! - With the feature `std`, which is on by default, [`owned`] has columns in vectors, built from rows
 //!   and read back as rows. Without it the crate is `no_std` and has no heap.
-//! - With the feature `large`, also on by default, [`large`] has all of this but ListView columns for
-//!   columns with 64-bit offsets.
+//! - With the feature `large`, also on by default, [`large`] has all of this but ListView columns and
+//!   recipes for some rows, for columns with 64-bit offsets.
 //!
 //! The crate links `libduthlan.a`, and for large lists `libduthlan_large.a`, from the folder that
 //! `DUTHLAN_LIB_DIR` names, by an absolute path, when the crate is built; or from `target/staticlib` of
@@ -84,7 +85,7 @@ pub use outputs::{
     bitmap_bytes, ListCounts, ListOut, RepeatCounts, RepeatOut, ValueCounts, ValueOut,
 };
 pub use outputs::{ListOutOf, RepeatOutOf};
-pub use recipe::{run_recipe, Recipe, RecipeInputs, Tally, Trays};
+pub use recipe::{run_recipe, run_recipe_rows, Recipe, RecipeInputs, Tally, Trays};
 pub use recipe::{RecipeInputsOf, TraysOf};
 pub use refusal::Refusal;
 pub use views::{export_view, import_view, View, ViewOut};

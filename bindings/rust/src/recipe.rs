@@ -1,6 +1,7 @@
 use crate::operations as code;
-use crate::{ListCounts, ListOf, ListOutOf, Offset, Refusal, Values};
+use crate::{raw, ListCounts, ListOf, ListOut, ListOutOf, Offset, Refusal, Values};
 use core::fmt;
+use core::ops::Range;
 
 /// A chain of up to 32 list operations, built step by step without a heap.
 ///
@@ -220,4 +221,46 @@ pub fn run_recipe<O: Offset>(
     tally.finished.copy_from_slice(&counts[..16]);
     tally.refused.copy_from_slice(&counts[16..]);
     answer
+}
+
+/// Runs a recipe for some of its rows: from `rows.start` up to, not including, `rows.end`.
+///
+/// The counts and the output are those of the recipe on a copy that holds just these rows of both lists
+/// and of every argument column, so a row outside gives no refusal. The columns are lent whole, and
+/// refused as a whole, by 10, 13, 1, 2 and 3; then comes 16 for rows that are not there. No station is
+/// named and no tally moves. Trays and output need room for these rows only.
+///
+/// ```
+/// use duthlan::{run_recipe_rows, List, ListOut, Recipe, RecipeInputs, Refusal, Trays, Values};
+/// let list = List::new(&[0, 4, 6, 7], &[10, 20, 30, 40, 7, 9, 5]);      // [10, 20, 30, 40] [7, 9] [5]
+/// let recipe = Recipe::new().resize(0, 1);
+/// let inputs = RecipeInputs {
+///     list,
+///     second: list,
+///     columns: 2,
+///     arguments: Values::from(&[-1, 3, 2, 0, 0, 8]),      // counts -1, 3, 2; fills 0, 0, 8
+/// };
+/// let mut out = ListOut {
+///     offsets: &mut [0; 3],
+///     rows: &mut [0; 1],
+///     values: &mut [0; 5],
+///     elements: &mut [0; 1],
+/// };
+/// let counts = run_recipe_rows(1..3, &recipe, inputs, &mut Trays::default(), &mut out)?;
+/// assert_eq!(out.written(&counts).values, [7, 9, 0, 5, 8]);
+///
+/// let all = run_recipe_rows(0..3, &recipe, inputs, &mut Trays::default(), &mut out);
+/// assert_eq!(all, Err(Refusal::NegativeCount));
+/// let more = run_recipe_rows(1..4, &recipe, inputs, &mut Trays::default(), &mut out);
+/// assert_eq!(more, Err(Refusal::RowsOutside));
+/// # Ok::<(), Refusal>(())
+/// ```
+pub fn run_recipe_rows(
+    rows: Range<usize>,
+    recipe: impl AsRef<[u32]>,
+    inputs: RecipeInputs<'_>,
+    trays: &mut Trays<'_>,
+    out: &mut ListOut<'_>,
+) -> Result<ListCounts, Refusal> {
+    raw::recipe_rows(rows, recipe.as_ref(), inputs, trays, out)
 }

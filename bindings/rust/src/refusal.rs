@@ -2,8 +2,8 @@ use core::fmt;
 
 /// Why a call was refused. A refused call changes no output.
 ///
-/// They are tested in the order 15, 10, 13, 1, 2, 3, then those of the rows, where the first bad row
-/// decides, and 9 last.
+/// They are tested in the order 15, 10, 13, 1, 2, 3, 16, then those of the rows, where the first bad
+/// row decides, and 9 last.
 #[derive(Clone, Copy, Debug, PartialEq, Eq, Hash)]
 #[non_exhaustive]
 pub enum Refusal {
@@ -37,6 +37,8 @@ pub enum Refusal {
     BadStartingBit,
     /// 15: the station is over 15; the call counts for nobody.
     NoSuchStation,
+    /// 16: the rows to be looked at begin behind their end, or end behind the last row.
+    RowsOutside,
     /// A number that this version of the crate has no name for.
     Other(u32),
 }
@@ -58,6 +60,7 @@ impl Refusal {
             11 => Refusal::ViewOutside,
             13 => Refusal::BadStartingBit,
             15 => Refusal::NoSuchStation,
+            16 => Refusal::RowsOutside,
             // 100, a fault of the call itself, cannot come from here: the crate passes only codes
             // that the entries serve, and all places for counts, lengths and tally. An archive that
             // gives it all the same is another version's, and the call has changed no output.
@@ -85,6 +88,7 @@ impl Refusal {
             Refusal::ViewOutside => 11,
             Refusal::BadStartingBit => 13,
             Refusal::NoSuchStation => 15,
+            Refusal::RowsOutside => 16,
             Refusal::Other(number) => number,
         }
     }
@@ -106,6 +110,9 @@ impl fmt::Display for Refusal {
             Refusal::ViewOutside => "a view that lies outside the values",
             Refusal::BadStartingBit => "a starting bit over 7",
             Refusal::NoSuchStation => "a station over 15",
+            Refusal::RowsOutside => {
+                "rows to be looked at that begin behind their end, or end behind the last row"
+            }
             Refusal::Other(_) => "a number that has no name here",
         })
     }

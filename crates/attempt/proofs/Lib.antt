@@ -1,2 +1,3 @@
-pub mod CallLaws
 pub mod FitLaws
+pub mod CallLaws
+pub mod ArgumentLaws

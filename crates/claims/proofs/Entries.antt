@@ -20,7 +20,7 @@ use Rattle.model.specs.Rows.{unary, setOp, onLent}
 use Rattle.model.specs.Outcome.{Outcome, refused, made, listOutcome, anyValueOutcome, elementOutcome, repeatOutcome}
 use Rattle.model.specs.Recipe.{recipeOutcome, stationed}
 use Rattle.model.specs.Tally.{Tally, moved}
-use Rattle.model.specs.Call.{Call, End, Formed, Alike, shown, endShown, list, anyValue, element, listRepeat, recipe, end, listEnd, valueEnd, repeatEnd, recipeEnd, listNumbers, listBitmaps, answerOf, written, tallyTaken, moveIn}
+use Rattle.model.specs.Call.{Call, End, Formed, Alike, shown, endShown, list, anyValue, element, listRepeat, recipe, end, listEnd, valueEnd, repeatEnd, traysEnd, recipeEnd, listNumbers, listBitmaps, answerOf, written, tallyTaken, moveIn}
 use Rattle.model.specs.Contract.{Slice}
 use Rattle.model.specs.declared.Unary.{Unary}
 use Rattle.model.specs.declared.SetOp.{SetOp}
@@ -274,7 +274,7 @@ pub recipes : (κs : Lfts 25) (s s′ k k′ : ℕ) (ns : Slice ℕ) (c d : List
     → Recipe.Post κs (s, (k, (ns .entry, enter6 c (enter6 d (enter3 x (enter4 l (enter4 m (enter4 o (cs .entry, (t .entry, tt))))))))))
     n (s′, (k′, (ns .exit, leave6 c (leave6 d (leave3 x (leave4 l (leave4 m (leave4 o (cs .exit, (t .exit, tt))))))))))
     → n < 100 → RecipeBytes (end narrow (recipe s (recipeOf (nats 4 (now (ns .entry))) k) (listIn c) (listIn d) (argumentsIn x) (roomIn l) (roomIn m) (roomIn o) (tallyIn (now (t .entry))))) n l m o cs t
-unfolding end recipeEnd listEnd overTally tallyAfter
+unfolding end recipeEnd traysEnd listEnd overTally tallyAfter
 recipes κs s s′ k k′ ns c d x l m o cs t n h b =
     let f : Room → Outcome (List Row) = λ r. stationed s (recipeOutcome narrow (recipeOf (nats 4 (now (ns .entry))) k) (listIn c) (listIn d) (argumentsIn x) (roomIn l) (roomIn m) r) in
     let a = list-taken b _ (recipe-far _ _ _) o cs f refl (h .0) in

@@ -19,7 +19,7 @@ use Rattle.model.specs.Rows.{setOp, onLent}
 use Rattle.model.specs.Outcome.{Outcome, refused, made, gate, listOutcome, anyValueOutcome, elementOutcome, repeatOutcome}
 use Rattle.model.specs.Recipe.{Recipe, recipeOutcome, stationed}
 use Rattle.model.specs.Tally.{Tally, moved}
-use Rattle.model.specs.Call.{Call, End, tallyTaken, moveIn, list, anyValue, element, listRepeat, recipe, end, listEnd, valueEnd, repeatEnd, recipeEnd, listNumbers, listBitmaps, answerOf, written}
+use Rattle.model.specs.Call.{Call, End, tallyTaken, moveIn, list, anyValue, element, listRepeat, recipe, end, listEnd, valueEnd, repeatEnd, traysEnd, recipeEnd, listNumbers, listBitmaps, answerOf, written}
 use Rattle.model.specs.Contract.{Slice, Clears, repeatRoomOf}
 use Rattle.model.specs.declared.SetOp.{SetOp}
 use Rattle.model.proofs.Stations.{end-moves}
@@ -154,7 +154,7 @@ module _ (L : Limits) {n : ℕ} (s : n ≡ 100 → ⊥) (c : LentList) (cs : Sli
       → RecipeServed t (λ r. stationed t (recipeOutcome L p (listLent c) (listLent d) (valuesLent x) (slicesRoom l) (slicesRoom m) r)) n (o .offsets) (o .rows) (o .values) (o .elements) cs u
       → Clears (l .offsets) (l .rows) (l .values) (l .elements) → Clears (m .offsets) (m .rows) (m .values) (m .elements)
       → RecipeTyped (end L (recipe t p (listLent c) (listLent d) (valuesLent x) (slicesRoom l) (slicesRoom m) (slicesRoom o) (tallyAt (now (u .entry))))) n l m o cs u
-  unfolding end recipeEnd listEnd tallyOver tallyAfter
+  unfolding end recipeEnd traysEnd listEnd tallyOver tallyAfter
   recipe-typed t p d x l m o u h y z =
       let f : Room → Outcome (List Row) = λ r. stationed t (recipeOutcome L p (listLent c) (listLent d) (valuesLent x) (slicesRoom l) (slicesRoom m) r) in
       let a = list-served s _ o cs f refl (h .list) in

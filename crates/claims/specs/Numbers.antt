@@ -63,6 +63,12 @@ pub record RepeatTyped (x : End) (n : ℕ) (b : Pair) (o : Slices) (c : Slice �
   pub values : Holds (numbersIn x 2) (o .values)
   pub elements : Holds (bitmapIn x 2) (o .elements)
 
+-- of a recipe looked at for a few rows, through the trays l and m
+pub record WindowTyped (x : End) (n : ℕ) (l m o : Slices) (c : Slice ℕ) : Type 0 where
+  pub answer : ListTyped x n o c
+  pub one : Clears (l .offsets) (l .rows) (l .values) (l .elements)
+  pub two : Clears (m .offsets) (m .rows) (m .values) (m .elements)
+
 -- a tally over the first places of a slice
 unfoldable pub tallyOver : Lent Tally → List ℕ → List ℕ
 tallyOver absent s = s

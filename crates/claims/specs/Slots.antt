@@ -5,13 +5,14 @@ use lib.IntN.{ℤ}
 use lib.ListN.{length}
 use denote.Ref.{RefT, now}
 use denote.Triple.Both.{Both}
+use Rattle.model.specs.Basics.{absent, given}
 use Rattle.model.specs.Limits.{Limits, narrow}
 use Rattle.model.specs.Form.{Room, ValueRoom, RepeatRoom}
 use Rattle.model.specs.Rows.{ListCall}
 use Rattle.model.specs.Column.{Column, Arguments}
 use Rattle.model.specs.View.{View, ViewRoom}
 use Rattle.view_checks.specs.Views.{lentView}
-use Rattle.model.specs.Call.{Call, list, recipe, importView, exportView}
+use Rattle.model.specs.Call.{Call, list, recipe, window, importView, exportView}
 use Rattle.model.specs.Contract.{Slice, roomOf, valueRoom, repeatRoomOf, viewRoom}
 use Rattle.model.specs.Inner.{lentFrom, lentArgumentsFrom}
 use Rattle.model.specs.Recipe.{Recipe}
@@ -162,7 +163,17 @@ RecipeRuns L s p c d x l m o t a =
     (now (o .offsets .exit)) (now (o .rows .exit)) (now (o .values .exit)) (now (o .elements .exit))
     (now (l .offsets .exit)) (now (l .rows .exit)) (now (l .values .exit)) (now (l .elements .exit))
     (now (m .offsets .exit)) (now (m .rows .exit)) (now (m .values .exit)) (now (m .elements .exit))
-    (tallyOf (a .tally)))
+    (given (tallyOf (a .tally))))
+
+-- a recipe looked at for rows a up to b, which names no station and takes no tally
+abbrev pub WindowRuns : Recipe → ℕ → ℕ → LentList → LentList → LentValues → Slices → Slices → Slices → ListAnswer → Type 0
+WindowRuns p a b c d x l m o w =
+    Run narrow (window p a b (listLent c) (listLent d) (valuesLent x) (slicesRoom l) (slicesRoom m) (slicesRoom o))
+    (recipeRunEnd w
+    (now (o .offsets .exit)) (now (o .rows .exit)) (now (o .values .exit)) (now (o .elements .exit))
+    (now (l .offsets .exit)) (now (l .rows .exit)) (now (l .values .exit)) (now (l .elements .exit))
+    (now (m .offsets .exit)) (now (m .rows .exit)) (now (m .values .exit)) (now (m .elements .exit))
+    absent)
 
 -- an import, and an export, that answered a
 abbrev pub ImportRuns : View → ListAnswer → Slices → Type 0

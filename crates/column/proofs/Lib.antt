@@ -1,4 +1,5 @@
 pub mod OffsetLaws
+pub mod CutLaws
 pub mod RowLaws
 pub mod PutLaws
 pub mod WriteLaws

@@ -6,6 +6,7 @@
 // the lengths of its output slices, in their order, at the front of `lengths`; nothing else is written.
 pub mod lengths;
 pub mod view;
+pub mod window;
 
 use codes::Operation;
 use codes::operation_of;

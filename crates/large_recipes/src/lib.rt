@@ -1,4 +1,5 @@
 // Recipes on large lists: chains of list operations through two lent trays, with a tally. A recipe, a tray and a tally are document 01's own terms.
+use column::large;
 use model::Width;
 use tally::RecipeAnswer;
 use tally::Tally;
@@ -31,7 +32,7 @@ pub fn run_recipe<'a>(
     let mut two_none = [0i32; 0];
     let mut out_none = [0i32; 0];
     let answer = attempt::attempt(
-        station, numbers, columns,
+        station, 0, large::row_count(offsets), numbers, columns,
         &none, rows, rows_start, values, elements, elements_start,
         &none, second_rows, second_rows_start, second_values, second_elements, second_elements_start,
         arguments, argument_bits, argument_start,

@@ -10,8 +10,9 @@ use Rattle.model.specs.View.{View, importOutcome, exportOutcome}
 use Rattle.model.specs.Rows.{ListCall, onLent, onCall}
 use Rattle.model.specs.Outcome.{listOutcome, anyValueOutcome, elementOutcome, repeatOutcome}
 use Rattle.model.specs.Recipe.{recipeShown, recipeOutcome}
+use Rattle.model.specs.Window.{windowShown, windowOutcome}
 use Rattle.model.specs.Lengths.{listLengths, anyValueLengths, elementLengths, repeatLengths, recipeLimits, recipeLimitsShown}
-use Rattle.model.specs.Call.{Call, list, anyValue, element, listRepeat, recipe, measureList, measureAnyValue, measureElement, measureRepeat, limitRecipe, importView, exportView, End, shown, listsOf, argumentsOf, viewsOf, end, endShown, Formed, SameLent, sameAbsent, sameGiven, SameCall, sameUnary, sameSetOp, sameSlice, sameResize, sameReplace, sameRemove, Alike, alikeList, alikeAnyValue, alikeElement, alikeListRepeat, alikeRecipe, alikeMeasureList, alikeMeasureAnyValue, alikeMeasureElement, alikeMeasureRepeat, alikeLimitRecipe, alikeImport, alikeExport}
+use Rattle.model.specs.Call.{Call, list, anyValue, element, listRepeat, recipe, measureList, measureAnyValue, measureElement, measureRepeat, limitRecipe, window, importView, exportView, End, shown, listsOf, argumentsOf, viewsOf, end, endShown, Formed, SameLent, sameAbsent, sameGiven, SameCall, sameUnary, sameSetOp, sameSlice, sameResize, sameReplace, sameRemove, Alike, alikeList, alikeAnyValue, alikeElement, alikeListRepeat, alikeRecipe, alikeMeasureList, alikeMeasureAnyValue, alikeMeasureElement, alikeMeasureRepeat, alikeLimitRecipe, alikeWindow, alikeImport, alikeExport}
 use Rattle.model.specs.Run.{Run}
 use Rattle.model.proofs.ColumnLaws.{same-rows, same-arguments, no-units}
 use Rattle.model.proofs.OutcomeLaws.{formed-columns, gate-open}
@@ -45,12 +46,13 @@ same-shown (alikeMeasureAnyValue e) = cc (same-rows e)
 same-shown (alikeMeasureElement e f) = cc (same-rows e, same-arguments f)
 same-shown (alikeMeasureRepeat e f) = cc (same-rows e, same-arguments f)
 same-shown (alikeLimitRecipe p e f g) = cc (same-rows e, same-rows f, same-arguments g)
+same-shown (alikeWindow p x y a b o e f g) = cc (same-rows e, same-rows f, same-arguments g)
 same-shown (alikeImport l e) = cc (same-views e)
 same-shown (alikeExport l e) = cc (same-rows e)
 
 -- a call on well-formed columns ends in what they show
 from-shown : (L : Limits) (q : Call Column Arguments View) → Formed q → end L q ≡ endShown L (shown q)
-unfolding end endShown shown listsOf argumentsOf viewsOf importOutcome exportOutcome listOutcome anyValueOutcome elementOutcome repeatOutcome recipeOutcome recipeShown listLengths anyValueLengths elementLengths repeatLengths recipeLimits recipeLimitsShown
+unfolding end endShown shown listsOf argumentsOf viewsOf importOutcome exportOutcome listOutcome anyValueOutcome elementOutcome repeatOutcome recipeOutcome recipeShown listLengths anyValueLengths elementLengths repeatLengths recipeLimits recipeLimitsShown windowOutcome windowShown
 from-shown L (list q l) f = rw (gate-open _ _ (formed-columns (f .lists) (f .arguments)))
 from-shown L (anyValue c l) f = rw (gate-open _ _ (formed-columns (f .lists) (f .arguments)))
 from-shown L (element c a l) f = rw (gate-open _ _ (formed-columns (f .lists) (f .arguments)))
@@ -61,6 +63,7 @@ from-shown L (measureAnyValue c) f = rw (gate-open _ _ (formed-columns (f .lists
 from-shown L (measureElement c a) f = rw (gate-open _ _ (formed-columns (f .lists) (f .arguments)))
 from-shown L (measureRepeat c a) f = rw (gate-open _ _ (formed-columns (f .lists) (f .arguments)))
 from-shown L (limitRecipe p c d e) f = rw (gate-open _ _ (formed-columns (f .lists) (f .arguments)))
+from-shown L (window p x y c d e a b o) f = rw (gate-open _ _ (formed-columns (f .lists) (f .arguments)))
 from-shown L (importView v l) f = rw (gate-open _ _ (formed-view (f .views)))
 from-shown L (exportView c l) f = rw (gate-open _ _ (formed-columns (f .lists) (f .arguments)))
 

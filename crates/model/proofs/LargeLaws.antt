@@ -17,8 +17,9 @@ use Rattle.model.specs.Rows.{ListCall, unary, setOp, slice, resize, repl
 use Rattle.model.specs.Refusals.{differs, unequal, firstOf, refusalOf, RowCount, uncounted, counted, Sum, stopped, sum, plus, andThen, sumOf, sumRefusal, resizeRefusal, unionRefusal, sumsRefusal, rowsRefusal, elementRefusal, total, timesOf, repeatedBy, repeatRefusal}
 use Rattle.model.specs.Outcome.{Outcome, refused, made, gate, columnsRefusal, fitted, fittedValues, fittedRepeat, afterThree, listShown, anyValueShown, elementsMade, elementsRefusal, elementShown, repeatsMade, repeatShown, listOutcome, anyValueOutcome, elementOutcome, repeatOutcome}
 use Rattle.model.specs.Lengths.{roomOfRows, roomOfValues, roomOfOuter, listLengthsShown, anyValueLengthsShown, elementLengthsShown, repeatLengthsShown, listLengths, anyValueLengths, elementLengths, repeatLengths, formedLimits, recipeLimits}
-use Rattle.model.specs.Recipe.{Step, Recipe, malformed, recipeUnequal, stepCall, thenOn, carried, stepped, formedRecipe, recipeOutcome, stationed, stepsOf}
-use Rattle.model.specs.Call.{Call, list, anyValue, element, listRepeat, recipe, measureList, measureAnyValue, measureElement, measureRepeat, limitRecipe, importView, exportView, Answer, refusal, counts, answerOf, end, listEnd, valueEnd, repeatEnd, recipeEnd, viewEnd}
+use Rattle.model.specs.Recipe.{Step, Recipe, columnOf, malformed, recipeUnequal, stepCall, thenOn, carried, stepped, formedRecipe, recipeShown, recipeOutcome, stationed, stepsOf}
+use Rattle.model.specs.Window.{noWindow, formedWindow, windowOutcome}
+use Rattle.model.specs.Call.{Call, list, anyValue, element, listRepeat, recipe, measureList, measureAnyValue, measureElement, measureRepeat, limitRecipe, window, importView, exportView, Answer, refusal, counts, answerOf, end, listEnd, valueEnd, repeatEnd, traysEnd, recipeEnd, windowEnd, viewEnd}
 use Rattle.model.specs.declared.SetOp.the-variants.{Union, Intersect}
 use Rattle.model.proofs.BoolLaws.{never}
 use Rattle.model.proofs.TabLaws.{map-tab}
@@ -207,30 +208,42 @@ repeat-spared c a l =
     spared-gate _ _ (columns-neither _ _)
     (spared-gate _ _ (three-or (differs (length (rowsOf c)) (shownBy a))) (spared-gate _ _ (repeat-neither (rowsOf c) (shownBy a)) (outers-spared (repeatsMade (rowsOf c) (shownBy a)) l)))
 
-carried-spared : (s : Step) (ss : List Step) (ws rs : List Row) (es : List Elem) (a b o : Room) → Spared (carried wide s ss ws rs es a b o)
+carried-spared : (s : Step) (ss : List Step) (ws rs : List Row) (col : ℕ → List Elem) (a b o : Room) → Spared (carried wide s ss ws rs col a b o)
 unfolding carried thenOn
-carried-spared s [] ws rs es a b o = three-spared _ o
-carried-spared s (t ∷ ts) ws rs es a b o = on (afterThree wide (stepCall s ws rs es) a) (three-spared (stepCall s ws rs es) a) (λ ws′. carried-spared t ts ws′ rs es b a o)
+carried-spared s [] ws rs col a b o = three-spared _ o
+carried-spared s (t ∷ ts) ws rs col a b o = on (afterThree wide (stepCall s ws rs col) a) (three-spared (stepCall s ws rs col) a) (λ ws′. carried-spared t ts ws′ rs col b a o)
   where
-    on : (x : Outcome (List Row)) → Spared x → ((ws′ : List Row) → Spared (carried wide t ts ws′ rs es b a o)) → Spared (thenOn x (λ ws′. carried wide t ts ws′ rs es b a o))
+    on : (x : Outcome (List Row)) → Spared x → ((ws′ : List Row) → Spared (carried wide t ts ws′ rs col b a o)) → Spared (thenOn x (λ ws′. carried wide t ts ws′ rs col b a o))
     on (refused k) h g = spared-refused k (h .neither k refl)
     on (made ws′) h g = g ws′
 
-stepped-spared : (ss : List Step) (ws rs : List Row) (es : List Elem) (a b o : Room) → Spared (stepped wide ss ws rs es a b o)
+stepped-spared : (ss : List Step) (ws rs : List Row) (col : ℕ → List Elem) (a b o : Room) → Spared (stepped wide ss ws rs col a b o)
 unfolding stepped
-stepped-spared [] ws rs es a b o = fitted-spared ws o
-stepped-spared (s ∷ ss) ws rs es a b o = carried-spared s ss ws rs es a b o
+stepped-spared [] ws rs col a b o = fitted-spared ws o
+stepped-spared (s ∷ ss) ws rs col a b o = carried-spared s ss ws rs col a b o
 
 ten-or : (b : Bool) → Neither (pick b 10 0)
 ten-or b = zero-or b 10 (λ h. omega arith, λ h. omega arith)
 
 formed-spared : (p : Recipe) (ws rs : List Row) (es : List Elem) (a b o : Room) → Spared (formedRecipe wide p ws rs es a b o)
 unfolding formedRecipe
-formed-spared p ws rs es a b o = spared-gate _ _ (three-or (recipeUnequal (p .columns) ws rs es)) (stepped-spared (stepsOf (p .numbers)) ws rs es a b o)
+formed-spared p ws rs es a b o = spared-gate _ _ (three-or (recipeUnequal (p .columns) ws rs es)) (stepped-spared (stepsOf (p .numbers)) ws rs (columnOf es (length rs)) a b o)
 
 recipe-spared : (p : Recipe) (c d : Column) (e : Arguments) (a b o : Room) → Spared (recipeOutcome wide p c d e a b o)
 unfolding recipeOutcome
 recipe-spared p c d e a b o = spared-gate _ _ (ten-or (malformed p)) (spared-gate _ _ (columns-neither _ _) (formed-spared p (rowsOf c) (rowsOf d) (shownBy e) a b o))
+
+recipe-shown-spared : (p : Recipe) (ws rs : List Row) (es : List Elem) (a b o : Room) → Spared (recipeShown wide p ws rs es a b o)
+unfolding recipeShown
+recipe-shown-spared p ws rs es a b o = spared-gate _ _ (ten-or (malformed p)) (formed-spared p ws rs es a b o)
+
+window-spared : (p : Recipe) (x y : ℕ) (c d : Column) (e : Arguments) (a b o : Room) → Spared (windowOutcome wide p x y c d e a b o)
+unfolding windowOutcome formedWindow
+window-spared p x y c d e a b o =
+    spared-gate _ _ (ten-or (malformed p))
+    (spared-gate _ _ (columns-neither _ _)
+    (spared-gate _ _ (three-or (recipeUnequal (p .columns) (rowsOf c) (rowsOf d) (shownBy e)))
+    (spared-gate _ _ (zero-or (noWindow x y (length (rowsOf c))) 16 (λ h. omega arith, λ h. omega arith)) (recipe-shown-spared p _ _ _ a b o))))
 
 stationed-spared : (s : ℕ) (x : Outcome (List Row)) → Spared x → Spared (stationed s x)
 unfolding stationed
@@ -284,7 +297,7 @@ answered f (refused j) k h e = let q : j ≡ k = cc in rw (← q) (h .neither j 
 answered f (made a) k h e = never cc
 
 pub no-four-or-six : (q : Call Column Arguments View) (k : ℕ) → end wide q .answer ≡ refusal k → Neither k
-unfolding end listEnd valueEnd repeatEnd recipeEnd viewEnd
+unfolding end listEnd valueEnd repeatEnd traysEnd recipeEnd windowEnd viewEnd
 no-four-or-six (list q l) k e = answered _ _ k (list-spared q l) e
 no-four-or-six (anyValue c l) k e = answered _ _ k (any-spared c l) e
 no-four-or-six (element c a l) k e = answered _ _ k (element-spared c a l) e
@@ -295,5 +308,6 @@ no-four-or-six (measureAnyValue c) k e = answered _ _ k (any-lengths-spared c) e
 no-four-or-six (measureElement c a) k e = answered _ _ k (element-lengths-spared c a) e
 no-four-or-six (measureRepeat c a) k e = answered _ _ k (repeat-lengths-spared c a) e
 no-four-or-six (limitRecipe p c d x) k e = answered _ _ k (limits-spared p c d x) e
+no-four-or-six (window p x y c d z a b o) k e = answered _ _ k (window-spared p x y c d z a b o) e
 no-four-or-six (importView v l) k e = answered _ _ k (import-spared v l) e
 no-four-or-six (exportView c l) k e = answered _ _ k (export-spared c l) e

@@ -21,7 +21,7 @@ use Rattle.model.specs.Refusals.{orElse, firstOf, RowCount, uncounted, c
 use Rattle.model.specs.Outcome.{Outcome, refused, made, gate, columnsRefusal, fitted, afterThree}
 use Rattle.model.specs.Recipe.{Step, Recipe, stepsOf, columnOf, codeCall, stepCall, malformed, thenOn, carried, stepped, recipeUnequal, formedRecipe, recipeOutcome, stationed}
 use Rattle.model.specs.Tally.{Tally}
-use Rattle.model.specs.Call.{recipe, limitRecipe, refusal, counts, listCounts, limitCounts, answerOf, recipeEnd, end}
+use Rattle.model.specs.Call.{recipe, limitRecipe, refusal, counts, listCounts, limitCounts, answerOf, recipeEnd, traysEnd, end}
 use Rattle.model.specs.Lengths.{roomFor, roomOfRows, holds, lengthIf, shownIn, countOver, countsOver, callLimit, capped, stepLimit, TrayLimits, trayLimits, stepsLimits, limitsOf, formedLimits, recipeLimits, LentEnough, EightsWithin, OffsetsFit}
 use Rattle.model.specs.declared.Unary.{Unary}
 use Rattle.model.specs.declared.Unary.the-variants.{Reverse, Distinct, PopFront, PopBack}
@@ -268,10 +268,10 @@ module _ (L : Limits) (w : EightsWithin L) (ws ws′ rs : List Row) (n : ℕ) (c
       by-carried r = omega (arith, resize-length (rowOf ws′ r) (argumentOf c r) (fillOf (onLent (λ es. argumentOf es r) v)))
 
   -- a step carries on: as many rows, null where the first list's are, and within the step's limit
-  step-carries : (es : List Elem) (s : Step) → rowsRefusal L (stepCall s ws′ rs es) ≡ 0 → Carries ws (rowsMade L (stepCall s ws′ rs es)) (stepLimit L (map lengthIf ws) (map lengthIf rs) es s n)
+  step-carries : (es : List Elem) (s : Step) → rowsRefusal L (stepCall s ws′ rs (columnOf es (length rs))) ≡ 0 → Carries ws (rowsMade L (stepCall s ws′ rs (columnOf es (length rs)))) (stepLimit L (map lengthIf ws) (map lengthIf rs) es s n)
   unfolding Within stepLimit
   step-carries es s h =
-      let q = stepCall s ws′ rs es in
+      let q = stepCall s ws′ rs (columnOf es (length rs)) in
       let l : leftOf q ≡ ws′ = code-left (s .code) ws′ rs _ _ _ in
       record {
         many = rows-kept L q ∙ (ap length l ∙ cs .many);
@@ -282,7 +282,7 @@ module _ (L : Limits) (w : EightsWithin L) (ws ws′ rs : List Row) (n : ℕ) (c
       col : ℕ → List Elem
       col k = columnOf es (length rs) k
 
-      within : Within (stepCall s ws′ rs es)
+      within : Within (stepCall s ws′ rs (columnOf es (length rs)))
       within = by-code Within ws′ rs (col (s .first)) (col (s .second)) (col (s .third)) unary-within set-within (slice-within _ _) (resize-within _ _) (replace-within _ _ _) (remove-within _ _) (s .code)
 
 -- ---- what is lent
@@ -312,12 +312,12 @@ holds-fewer rows m n l h g =
 module _ (L : Limits) (w : EightsWithin L) (ws rs : List Row) (es : List Elem) where
   -- a step that is lent its limit does not come to 9
   step-enough : (s : Step) (ws′ : List Row) (n m : ℕ) (l : Room) → Carries ws ws′ n → n ≤ L .offset → stepLimit L (map lengthIf ws) (map lengthIf rs) es s n ≤ m → holds (roomFor (length ws) m) l ≡ true
-      → afterThree L (stepCall s ws′ rs es) l ≡ refused 9 → ⊥
+      → afterThree L (stepCall s ws′ rs (columnOf es (length rs))) l ≡ refused 9 → ⊥
   unfolding afterThree gate fitted
   step-enough s ws′ n m l cs hn hm hl h = go (eqb (rowsRefusal L q) 0) refl h
     where
       q : ListCall (List Row) (List Elem)
-      q = stepCall s ws′ rs es
+      q = stepCall s ws′ rs (columnOf es (length rs))
 
       room : rowsRefusal L q ≡ 0 → holds (roomOfRows (rowsMade L q)) l ≡ true
       room e =
@@ -340,19 +340,19 @@ module _ (L : Limits) (w : EightsWithin L) (ws rs : List Row) (es : List Elem) w
       go false e c p = never cc
 
   steps-enough : (s : Step) (ss : List Step) (ws′ : List Row) (n : ℕ) (a b o : Room) → Carries ws ws′ n → n ≤ L .offset
-      → LentEnough (length (s ∷ ss)) (length ws) (stepsLimits L (map lengthIf ws) (map lengthIf rs) es s ss n) a b o → carried L s ss ws′ rs es a b o ≡ refused 9 → ⊥
+      → LentEnough (length (s ∷ ss)) (length ws) (stepsLimits L (map lengthIf ws) (map lengthIf rs) es s ss n) a b o → carried L s ss ws′ rs (columnOf es (length rs)) a b o ≡ refused 9 → ⊥
   unfolding carried stepsLimits thenOn
   steps-enough s [] ws′ n a b o cs hn e h = step-enough s ws′ n _ o cs hn (omega arith) (e .output) h
-  steps-enough s (t ∷ ts) ws′ n a b o cs hn e h = go (afterThree L (stepCall s ws′ rs es) a) refl h (λ ws″. steps-enough t ts ws″ m b a o)
+  steps-enough s (t ∷ ts) ws′ n a b o cs hn e h = go (afterThree L (stepCall s ws′ rs (columnOf es (length rs))) a) refl h (λ ws″. steps-enough t ts ws″ m b a o)
     where
       m : ℕ
       m = stepLimit L (map lengthIf ws) (map lengthIf rs) es s n
 
-      go : (x : Outcome (List Row)) → afterThree L (stepCall s ws′ rs es) a ≡ x → thenOn x (λ ws″. carried L t ts ws″ rs es b a o) ≡ refused 9
-          → ((ws″ : List Row) → Carries ws ws″ m → m ≤ L .offset → LentEnough (length (t ∷ ts)) (length ws) (stepsLimits L (map lengthIf ws) (map lengthIf rs) es t ts m) b a o → carried L t ts ws″ rs es b a o ≡ refused 9 → ⊥) → ⊥
+      go : (x : Outcome (List Row)) → afterThree L (stepCall s ws′ rs (columnOf es (length rs))) a ≡ x → thenOn x (λ ws″. carried L t ts ws″ rs (columnOf es (length rs)) b a o) ≡ refused 9
+          → ((ws″ : List Row) → Carries ws ws″ m → m ≤ L .offset → LentEnough (length (t ∷ ts)) (length ws) (stepsLimits L (map lengthIf ws) (map lengthIf rs) es t ts m) b a o → carried L t ts ws″ rs (columnOf es (length rs)) b a o ≡ refused 9 → ⊥) → ⊥
       go (refused k) f p later = let j : k ≡ 9 = cc in step-enough s ws′ n _ a cs hn (omega arith) (e .one (omega arith)) (f ∙ ap refused j)
       go (made ws″) f p later =
-          let d = step-made (stepCall s ws′ rs es) a ws″ f in
+          let d = step-made (stepCall s ws′ rs (columnOf es (length rs))) a ws″ f in
           later ws″ (rw (d .1) (step-carries L w ws ws′ rs n cs hn es s (d .0))) (step-stops L _ _ es s n)
           (record { one = λ k. e .two (omega arith); two = λ k. holds-fewer (length ws) _ _ a (omega arith) (e .one (omega arith)); output = e .output }) p
 
@@ -361,7 +361,7 @@ module _ (L : Limits) (w : EightsWithin L) (ws rs : List Row) (es : List Elem) w
   start-carries h = record { many = refl; nulls = λ r z. z; few = rw (shown-elements ws) (capped-within L (length (flat ws)) (length (flat ws)) (omega arith) h) }
 
   -- a recipe of any steps, on the first list's rows
-  stepped-enough : (ss : List Step) (a b o : Room) → length (flat ws) ≤ L .offset → LentEnough (length ss) (length ws) (limitsOf L (map lengthIf ws) (map lengthIf rs) es ss) a b o → stepped L ss ws rs es a b o ≡ refused 9 → ⊥
+  stepped-enough : (ss : List Step) (a b o : Room) → length (flat ws) ≤ L .offset → LentEnough (length ss) (length ws) (limitsOf L (map lengthIf ws) (map lengthIf rs) es ss) a b o → stepped L ss ws rs (columnOf es (length rs)) a b o ≡ refused 9 → ⊥
   unfolding stepped limitsOf fitted
   stepped-enough [] a b o hw e h = let z = rw (holds-fewer (length ws) (length (flat ws)) _ o (start-carries hw .few) (e .output)) at h in never cc
   stepped-enough (s ∷ ss) a b o hw e h = steps-enough s ss ws (capped L (shownIn (map lengthIf ws))) a b o (start-carries hw) (capped-le L _) e h
@@ -393,24 +393,24 @@ step-late L q l k h = go (eqb (rowsRefusal L q) 0) refl (holds (roomOfRows (rows
         let high = r .1 in
         omega arith
 
-steps-late : (L : Limits) (s : Step) (ss : List Step) (ws rs : List Row) (es : List Elem) (a b o : Room) (k : ℕ) → carried L s ss ws rs es a b o ≡ refused k → (3 < k) × (k < 10)
+steps-late : (L : Limits) (s : Step) (ss : List Step) (ws rs : List Row) (col : ℕ → List Elem) (a b o : Room) (k : ℕ) → carried L s ss ws rs col a b o ≡ refused k → (3 < k) × (k < 10)
 unfolding carried thenOn
-steps-late L s [] ws rs es a b o k h = step-late L _ o k h
-steps-late L s (t ∷ ts) ws rs es a b o k h = go (afterThree L (stepCall s ws rs es) a) refl h (λ ws′. steps-late L t ts ws′ rs es b a o k)
+steps-late L s [] ws rs col a b o k h = step-late L _ o k h
+steps-late L s (t ∷ ts) ws rs col a b o k h = go (afterThree L (stepCall s ws rs col) a) refl h (λ ws′. steps-late L t ts ws′ rs col b a o k)
   where
-    go : (x : Outcome (List Row)) → afterThree L (stepCall s ws rs es) a ≡ x → thenOn x (λ ws′. carried L t ts ws′ rs es b a o) ≡ refused k
-        → ((ws′ : List Row) → carried L t ts ws′ rs es b a o ≡ refused k → (3 < k) × (k < 10)) → (3 < k) × (k < 10)
+    go : (x : Outcome (List Row)) → afterThree L (stepCall s ws rs col) a ≡ x → thenOn x (λ ws′. carried L t ts ws′ rs col b a o) ≡ refused k
+        → ((ws′ : List Row) → carried L t ts ws′ rs col b a o ≡ refused k → (3 < k) × (k < 10)) → (3 < k) × (k < 10)
     go (refused j) f p later = let q : j ≡ k = cc in step-late L _ a k (f ∙ ap refused q)
     go (made ws′) f p later = later ws′ p
 
-stepped-late : (L : Limits) (ss : List Step) (ws rs : List Row) (es : List Elem) (a b o : Room) (k : ℕ) → stepped L ss ws rs es a b o ≡ refused k → (3 < k) × (k < 10)
+stepped-late : (L : Limits) (ss : List Step) (ws rs : List Row) (col : ℕ → List Elem) (a b o : Room) (k : ℕ) → stepped L ss ws rs col a b o ≡ refused k → (3 < k) × (k < 10)
 unfolding stepped fitted
-stepped-late L [] ws rs es a b o k h = go (holds (roomOfRows ws) o) h
+stepped-late L [] ws rs col a b o k h = go (holds (roomOfRows ws) o) h
   where
     go : (c : Bool) → pick c (made ws) (refused 9) ≡ refused k → (3 < k) × (k < 10)
     go true p = never cc
     go false p = let j : 9 ≡ k = cc in omega arith
-stepped-late L (s ∷ ss) ws rs es a b o k h = steps-late L s ss ws rs es a b o k h
+stepped-late L (s ∷ ss) ws rs col a b o k h = steps-late L s ss ws rs col a b o k h
 
 -- the limits and the run refuse alike before the first step
 refused-alike : {A B : Type 0} (k j : ℕ) (x : Outcome A) (y : Outcome B) → (x ≡ refused j → y ≡ refused j) → gate k x ≡ refused j → gate k y ≡ refused j
@@ -434,7 +434,7 @@ module _ (L : Limits) (p : Recipe) where
 
   -- where limits are given, the run comes to what its steps do
   formed-past : (ws rs : List Row) (es : List Elem) (a b o : Room) (m : TrayLimits) → formedLimits L p ws rs es ≡ made m
-      → (formedRecipe L p ws rs es a b o ≡ stepped L (stepsOf (p .numbers)) ws rs es a b o) × (limitsOf L (map lengthIf ws) (map lengthIf rs) es (stepsOf (p .numbers)) ≡ m)
+      → (formedRecipe L p ws rs es a b o ≡ stepped L (stepsOf (p .numbers)) ws rs (columnOf es (length rs)) a b o) × (limitsOf L (map lengthIf ws) (map lengthIf rs) es (stepsOf (p .numbers)) ≡ m)
   unfolding formedLimits formedRecipe
   formed-past ws rs es a b o m h = let g = gate-made _ _ m h in let e = g .1 in (gate-open _ _ (g .0), cc)
 
@@ -443,7 +443,7 @@ module _ (L : Limits) (p : Recipe) where
     unfolding recipeLimits
     unrefused = gate-made _ _ m (gate-made _ _ m h .1) .0
 
-    past : (recipeOutcome L p c d e a b o ≡ stepped L (stepsOf (p .numbers)) (rowsOf c) (rowsOf d) (shownBy e) a b o) × (limitsOf L (map lengthIf (rowsOf c)) (map lengthIf (rowsOf d)) (shownBy e) (stepsOf (p .numbers)) ≡ m)
+    past : (recipeOutcome L p c d e a b o ≡ stepped L (stepsOf (p .numbers)) (rowsOf c) (rowsOf d) (columnOf (shownBy e) (length (rowsOf d))) a b o) × (limitsOf L (map lengthIf (rowsOf c)) (map lengthIf (rowsOf d)) (shownBy e) (stepsOf (p .numbers)) ≡ m)
     unfolding recipeLimits recipeOutcome
     past =
         let g = gate-made _ _ m h in
@@ -453,7 +453,7 @@ module _ (L : Limits) (p : Recipe) where
 
     -- and refuses with none of 10, 13, 1, 2 and 3
     pub limits-given : (k : ℕ) → recipeOutcome L p c d e a b o ≡ refused k → (3 < k) × (k < 10)
-    limits-given k z = stepped-late L (stepsOf (p .numbers)) (rowsOf c) (rowsOf d) (shownBy e) a b o k (sym (past .0) ∙ z)
+    limits-given k z = stepped-late L (stepsOf (p .numbers)) (rowsOf c) (rowsOf d) (columnOf (shownBy e) (length (rowsOf d))) a b o k (sym (past .0) ∙ z)
 
     -- "Lending that much, with offsets and bitmaps to match, rules out 9.", whatever the columns hold: the first list's offsets fit the width, as
     -- those of every slice lent do
@@ -475,7 +475,7 @@ module _ (L : Limits) (p : Recipe) where
 pub rules-out-nine : (L : Limits) (s : ℕ) (p : Recipe) (c d : Column) (e : Arguments) (a b o : Room) (t : Tally) (m : TrayLimits)
     → EightsWithin L → OffsetsFit L c → end L (limitRecipe p c d e) .answer ≡ counts (limitCounts m)
     → LentEnough (length (stepsOf (p .numbers))) (rowCount (c .offsets)) m a b o → end L (recipe s p c d e a b o t) .answer ≡ refusal 9 → ⊥
-unfolding end recipeEnd answerOf stationed gate
+unfolding end recipeEnd traysEnd answerOf stationed gate
 rules-out-nine L s p c d e a b o t m w hc h l z =
     lent-enough L p c d e a b o m (given-limits (recipeLimits L p c d e) h) w hc l (passed (ltb 15 s) (answered _ z))
   where

@@ -17,3 +17,4 @@ pub mod EarlyLaws
 pub mod AskedLaws
 pub mod WidthLaws
 pub mod LargeLaws
+pub mod WindowLaws

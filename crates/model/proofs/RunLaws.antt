@@ -1,11 +1,12 @@
 -- A run that meets its contract ends in what the definitions say of its call.
-use mathlib.Core.Path.{_≡_, sym, ap}
+use mathlib.Core.Path.{_≡_, refl, sym, ap}
 use mathlib.Core.List.{List, map}
 use Prim.Native.Nat.{ℕ, _+_}
 use native.Mathlib.Omega.{arith}
 use lib.ListN.{length, take, drop}
 use lib.Seq.{take-at}
 use lib.IntN.{ℤ, pos}
+use Rattle.model.specs.Basics.{Lent, given}
 use Rattle.model.specs.Bitmap.{bytesFor, pack}
 use Rattle.model.specs.Limits.{Limits}
 use Rattle.model.specs.Column.{Elem, Row, Column, Arguments}
@@ -13,9 +14,9 @@ use Rattle.model.specs.View.{View, viewOffsets, viewSizes}
 use Rattle.model.specs.Tally.{Tally, tallied}
 use Rattle.model.specs.Form.{Room, isVal, isRow, valueOf, Outer, isOuter, outerLength, inner, flat, lengthOf, over, offsetsFrom, formOffsets, formRows, formValues, formElements}
 use Rattle.model.specs.Outcome.{Outcome, refused, made}
-use Rattle.model.specs.Call.{Call, answerOf, written, End, listNumbers, listBitmaps, listEnd, valueEnd, repeatEnd, recipeEnd, viewEnd, measureEnd, end}
+use Rattle.model.specs.Call.{Call, answerOf, written, End, listNumbers, listBitmaps, listEnd, valueEnd, repeatEnd, traysEnd, recipeEnd, windowEnd, viewEnd, measureEnd, end}
 use Rattle.model.specs.Contract.{told, toldValue, toldRepeat, ListMeets, ViewMeets, ValueMeets, RepeatMeets, Zeroed}
-use Rattle.model.specs.Run.{listRunEnd, valueRunEnd, repeatRunEnd, recipeRunEnd, Run, listRun, anyValueRun, elementRun, repeatRun, recipeRun, measureListRun, measureAnyValueRun, measureElementRun, measureRepeatRun, limitRecipeRun, viewRunEnd, importRun, exportRun}
+use Rattle.model.specs.Run.{listRunEnd, valueRunEnd, repeatRunEnd, recipeRunEnd, Run, listRun, anyValueRun, elementRun, repeatRun, recipeRun, measureListRun, measureAnyValueRun, measureElementRun, measureRepeatRun, limitRecipeRun, windowRun, viewRunEnd, importRun, exportRun}
 use Rattle.model.specs.declared.ListAnswer.{ListAnswer}
 use Rattle.model.specs.declared.ListAnswer.the-variants as L
 use Rattle.model.specs.declared.RepeatAnswer.{RepeatAnswer}
@@ -107,22 +108,23 @@ module _ {o o′ s s′ : List ℤ} {r r′ : List ℕ} {v v′ : List ℤ} {e e
 -- ---- a recipe's answer, trays and tally
 
 module _ {o o′ : List ℤ} {r r′ : List ℕ} {v v′ : List ℤ} {e e′ : List ℕ} {ao : List ℤ} {ar : List ℕ} {av : List ℤ} {ae : List ℕ} {bo : List ℤ} {br : List ℕ} {bv : List ℤ} {be : List ℕ} where
-  recipe-run : (s : ℕ) (x : Outcome (List Row)) (a : ListAnswer) (l m : Room) (t t′ : Tally) → ListMeets x a o o′ r r′ v v′ e e′ → Zeroed l ao ar av ae → Zeroed m bo br bv be → t′ ≡ tallied s x t
-      → recipeRunEnd a o′ r′ v′ e′ ao ar av ae bo br bv be t′ ≡ recipeEnd s x l m t
-  unfolding recipeRunEnd recipeEnd listEnd
-  recipe-run s x a l m t t′ h y z q = rw (list-run x a h, y .offsets, y .rows, y .values, y .elements, z .offsets, z .rows, z .values, z .elements, q)
+  trays-run : (x : Outcome (List Row)) (a : ListAnswer) (l m : Room) (t t′ : Lent Tally) → ListMeets x a o o′ r r′ v v′ e e′ → Zeroed l ao ar av ae → Zeroed m bo br bv be → t′ ≡ t
+      → recipeRunEnd a o′ r′ v′ e′ ao ar av ae bo br bv be t′ ≡ traysEnd x l m t
+  unfolding recipeRunEnd traysEnd listEnd
+  trays-run x a l m t t′ h y z q = rw (list-run x a h, y .offsets, y .rows, y .values, y .elements, z .offsets, z .rows, z .values, z .elements, q)
 
 pub run-ends : (L : Limits) {q : Call Column Arguments View} {e : End} → Run L q e → e ≡ end L q
-unfolding end
+unfolding end recipeEnd windowEnd
 run-ends L (listRun h) = list-run _ _ h
 run-ends L (anyValueRun h) = value-run _ _ h
 run-ends L (elementRun h) = value-run _ _ h
 run-ends L (repeatRun h) = repeat-run _ _ h
-run-ends L (recipeRun h y z q) = recipe-run _ _ _ _ _ _ _ h y z q
+run-ends L (recipeRun h y z q) = trays-run _ _ _ _ _ _ h y z (ap given q)
 run-ends L (measureListRun h) = ap measureEnd (h .answer)
 run-ends L (measureAnyValueRun h) = ap measureEnd (h .answer)
 run-ends L (measureElementRun h) = ap measureEnd (h .answer)
 run-ends L (measureRepeatRun h) = ap measureEnd (h .answer)
 run-ends L (limitRecipeRun h) = ap measureEnd (h .answer)
+run-ends L (windowRun h y z) = trays-run _ _ _ _ _ _ h y z refl
 run-ends L (importRun h) = list-run _ _ h
 run-ends L (exportRun h) = view-run _ _ h

@@ -20,7 +20,7 @@ use Rattle.model.specs.Form.{Room}
 use Rattle.model.specs.Outcome.{Outcome, refused, made, gate}
 use Rattle.model.specs.Recipe.{Recipe, recipeOutcome, stationed}
 use Rattle.model.specs.Tally.{Tally, Sixteen, oneMore, countedAt, Move, finishedAt, refusedAt, nobody, moved, named, outcomeAt, moveOf, tallied, Names, movedAll, Below, While, noMore, still, total, asFinished, asRefused, Grown}
-use Rattle.model.specs.Call.{Call, list, anyValue, element, listRepeat, recipe, measureList, measureAnyValue, measureElement, measureRepeat, limitRecipe, importView, exportView, End, refusal, answerOf, written, listNumbers, listBitmaps, recipeEnd, end, tallyTaken, moveIn, Chain, listCounts, namesStation, accepted, finishedBy, refusedBy}
+use Rattle.model.specs.Call.{Call, list, anyValue, element, listRepeat, recipe, measureList, measureAnyValue, measureElement, measureRepeat, limitRecipe, window, importView, exportView, End, refusal, answerOf, written, listNumbers, listBitmaps, traysEnd, recipeEnd, end, tallyTaken, moveIn, Chain, listCounts, namesStation, accepted, finishedBy, refusedBy}
 use Rattle.model.specs.Call as C
 use Rattle.model.specs.Run.{Run}
 use Rattle.model.proofs.BoolLaws.{never}
@@ -46,7 +46,7 @@ pub fifteen : (L : Limits) (s : ℕ) (p : Recipe) (c d : Column) (e : Arguments)
       tray-bitmaps = replicate (a .rows) 0 ∷ replicate (a .elements) 0 ∷ replicate (b .rows) 0 ∷ replicate (b .elements) 0 ∷ [];
       tally = given t;
     }
-unfolding end recipeEnd stationed gate answerOf listNumbers listBitmaps written moveOf named moved
+unfolding end recipeEnd traysEnd stationed gate answerOf listNumbers listBitmaps written moveOf named moved
 fifteen L s p c d e a b o t h = rw (lt-ltb 15 s h)
 
 -- the count at a station's place
@@ -184,6 +184,7 @@ names-in L (measureAnyValue c) = tt
 names-in L (measureElement c a) = tt
 names-in L (measureRepeat c a) = tt
 names-in L (limitRecipe p c d e) = tt
+names-in L (window p x y c d e a b o) = tt
 names-in L (importView v l) = tt
 names-in L (exportView c l) = tt
 
@@ -193,7 +194,7 @@ all-name L (q ∷ qs) = more (names-in L q) (all-name L qs)
 
 -- a call that takes a tally gives the one that its move leaves
 pub end-moves : (L : Limits) (q : Call Column Arguments View) (t : Tally) → tallyTaken q ≡ given t → end L q .tally ≡ given (moved (moveIn L q) t)
-unfolding tallyTaken end recipeEnd moveIn
+unfolding tallyTaken end recipeEnd traysEnd moveIn
 end-moves L (list q l) t h = never cc
 end-moves L (anyValue c l) t h = never cc
 end-moves L (element c a l) t h = never cc
@@ -204,6 +205,7 @@ end-moves L (measureAnyValue c) t h = never cc
 end-moves L (measureElement c a) t h = never cc
 end-moves L (measureRepeat c a) t h = never cc
 end-moves L (limitRecipe p c d e) t h = never cc
+end-moves L (window p x y c d e a b o) t h = never cc
 end-moves L (importView v l) t h = never cc
 end-moves L (exportView c l) t h = never cc
 
@@ -222,7 +224,7 @@ recipes-grow L {t} qs c z w = rw (chain-moves L c) (sums-grow (map (moveIn L) qs
 -- what counts as finished is a call for a station that was accepted, and what counts as refused one that was not
 module _ (L : Limits) where
   split-finished : (q : Call Column Arguments View) → asFinished (moveIn L q) ≡ finishedBy L q
-  unfolding moveIn moveOf named outcomeAt asFinished namesStation accepted end recipeEnd answerOf
+  unfolding moveIn moveOf named outcomeAt asFinished namesStation accepted end recipeEnd traysEnd answerOf
   split-finished (list q l) = refl
   split-finished (anyValue c l) = refl
   split-finished (element c a l) = refl
@@ -232,6 +234,7 @@ module _ (L : Limits) where
   split-finished (measureElement c a) = refl
   split-finished (measureRepeat c a) = refl
   split-finished (limitRecipe p c d e) = refl
+  split-finished (window p x y c d e a b o) = refl
   split-finished (importView v l) = refl
   split-finished (exportView c l) = refl
   split-finished (recipe s p c d e a b o t) = go (ltb 15 s) (stationed s (recipeOutcome L p c d e a b o))
@@ -242,7 +245,7 @@ module _ (L : Limits) where
       go false (made ws) = refl
 
   split-refused : (q : Call Column Arguments View) → asRefused (moveIn L q) ≡ refusedBy L q
-  unfolding moveIn moveOf named outcomeAt asRefused namesStation accepted end recipeEnd answerOf
+  unfolding moveIn moveOf named outcomeAt asRefused namesStation accepted end recipeEnd traysEnd answerOf
   split-refused (list q l) = refl
   split-refused (anyValue c l) = refl
   split-refused (element c a l) = refl
@@ -252,6 +255,7 @@ module _ (L : Limits) where
   split-refused (measureElement c a) = refl
   split-refused (measureRepeat c a) = refl
   split-refused (limitRecipe p c d e) = refl
+  split-refused (window p x y c d e a b o) = refl
   split-refused (importView v l) = refl
   split-refused (exportView c l) = refl
   split-refused (recipe s p c d e a b o t) = go (ltb 15 s) (stationed s (recipeOutcome L p c d e a b o))

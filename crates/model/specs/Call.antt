@@ -15,6 +15,7 @@ use Rattle.model.specs.Bitmap.{bit, pack, nulls}
 use Rattle.model.specs.Rows.{ListCall, unary, setOp, slice, resize, replace, remove, onCall, listsIn, argumentsIn}
 use Rattle.model.specs.Outcome.{Outcome, refused, made, listOutcome, listShown, anyValueOutcome, anyValueShown, elementOutcome, elementShown, repeatOutcome, repeatShown}
 use Rattle.model.specs.Recipe.{Recipe, recipeOutcome, recipeShown, stationed}
+use Rattle.model.specs.Window.{windowOutcome, windowShown}
 use Rattle.model.specs.Tally.{Tally, Move, nobody, moveOf, tallied}
 use Rattle.model.specs.Lengths.{TrayLimits, listLengths, listLengthsShown, anyValueLengths, anyValueLengthsShown, elementLengths, elementLengthsShown, repeatLengths, repeatLengthsShown, recipeLimits, recipeLimitsShown}
 use Rattle.model.specs.declared.Unary.{Unary}
@@ -35,6 +36,8 @@ pub data Call (C A W : Type 0) : Type 0 where
   measureElement : C → A → Call C A W
   measureRepeat : C → A → Call C A W
   limitRecipe : Recipe → C → C → A → Call C A W
+  -- Note 12 of document 02, a recipe looked at for rows a up to b: the recipe, a, b, then as a recipe without station and tally
+  window : Recipe → ℕ → ℕ → C → C → A → Room → Room → Room → Call C A W
   -- Note 3 of document 02: a ListView column read into a list column, and a list column written as one
   importView : W → Room → Call C A W
   exportView : C → ViewRoom → Call C A W
@@ -51,6 +54,7 @@ shown (measureAnyValue c) = measureAnyValue (rowsOf c)
 shown (measureElement c a) = measureElement (rowsOf c) (shownBy a)
 shown (measureRepeat c a) = measureRepeat (rowsOf c) (shownBy a)
 shown (limitRecipe p c d e) = limitRecipe p (rowsOf c) (rowsOf d) (shownBy e)
+shown (window p x y c d e a b o) = window p x y (rowsOf c) (rowsOf d) (shownBy e) a b o
 shown (importView v l) = importView (viewRows v) l
 shown (exportView c l) = exportView (rowsOf c) l
 
@@ -65,6 +69,7 @@ listsOf (measureAnyValue c) = c ∷ []
 listsOf (measureElement c a) = c ∷ []
 listsOf (measureRepeat c a) = c ∷ []
 listsOf (limitRecipe p c d e) = c ∷ d ∷ []
+listsOf (window p x y c d e a b o) = c ∷ d ∷ []
 listsOf (importView v l) = []
 listsOf (exportView c l) = c ∷ []
 
@@ -79,6 +84,7 @@ argumentsOf (measureAnyValue c) = []
 argumentsOf (measureElement c a) = a ∷ []
 argumentsOf (measureRepeat c a) = a ∷ []
 argumentsOf (limitRecipe p c d e) = e ∷ []
+argumentsOf (window p x y c d e a b o) = e ∷ []
 argumentsOf (importView v l) = []
 argumentsOf (exportView c l) = []
 
@@ -93,6 +99,7 @@ viewsOf (measureAnyValue c) = []
 viewsOf (measureElement c a) = []
 viewsOf (measureRepeat c a) = []
 viewsOf (limitRecipe p c d e) = []
+viewsOf (window p x y c d e a b o) = []
 viewsOf (importView v l) = v ∷ []
 viewsOf (exportView c l) = []
 
@@ -169,17 +176,25 @@ repeatEnd x =
     (written (λ os. offsetsFrom 0 (map outerLength os)) x ∷ written (λ os. formOffsets (inner os)) x ∷ written (λ os. formValues (flat (inner os))) x ∷ [])
     (written (λ os. pack (map isOuter os)) x ∷ written (λ os. formRows (inner os)) x ∷ written (λ os. formElements (flat (inner os))) x ∷ [])
 
--- "Trays are all zero after any call.": of a call that names station s and comes to x
-unfoldable pub recipeEnd : ℕ → Outcome (List Row) → Room → Room → Tally → End
-recipeEnd s x a b t =
+-- "Trays are all zero after any call.": of a call that comes to x, and t is the tally after it
+unfoldable pub traysEnd : Outcome (List Row) → Room → Room → Lent Tally → End
+traysEnd x a b t =
     record {
       answer = answerOf listCounts x;
       numbers = listNumbers x;
       bitmaps = listBitmaps x;
       tray-numbers = replicate (a .offsets) (pos 0) ∷ replicate (a .values) (pos 0) ∷ replicate (b .offsets) (pos 0) ∷ replicate (b .values) (pos 0) ∷ [];
       tray-bitmaps = replicate (a .rows) 0 ∷ replicate (a .elements) 0 ∷ replicate (b .rows) 0 ∷ replicate (b .elements) 0 ∷ [];
-      tally = given (tallied s x t);
+      tally = t;
     }
+
+-- of a call that names station s
+unfoldable pub recipeEnd : ℕ → Outcome (List Row) → Room → Room → Tally → End
+recipeEnd s x a b t = traysEnd x a b (given (tallied s x t))
+
+-- "It names no station, moves no tally, and trays end as zeros."
+unfoldable pub windowEnd : Outcome (List Row) → Room → Room → End
+windowEnd x a b = traysEnd x a b absent
 
 -- "without writing a result", and limits "move no tally"
 abbrev pub measureEnd : Answer → End
@@ -203,6 +218,7 @@ end L (measureAnyValue c) = measureEnd (answerOf valueRoomCounts (anyValueLength
 end L (measureElement c a) = measureEnd (answerOf valueRoomCounts (elementLengths L c a))
 end L (measureRepeat c a) = measureEnd (answerOf repeatRoomCounts (repeatLengths L c a))
 end L (limitRecipe p c d e) = measureEnd (answerOf limitCounts (recipeLimits L p c d e))
+end L (window p x y c d e a b o) = windowEnd (windowOutcome L p x y c d e a b o) a b
 end L (importView v l) = listEnd (importOutcome L v l)
 end L (exportView c l) = viewEnd (exportOutcome c l)
 
@@ -218,6 +234,7 @@ endShown L (measureAnyValue ws) = measureEnd (answerOf valueRoomCounts (anyValue
 endShown L (measureElement ws is) = measureEnd (answerOf valueRoomCounts (elementLengthsShown L ws is))
 endShown L (measureRepeat ws ns) = measureEnd (answerOf repeatRoomCounts (repeatLengthsShown L ws ns))
 endShown L (limitRecipe p ws rs es) = measureEnd (answerOf limitCounts (recipeLimitsShown L p ws rs es))
+endShown L (window p x y ws rs es a b o) = windowEnd (windowShown L p x y ws rs es a b o) a b
 endShown L (importView ws l) = listEnd (importShown L ws l)
 endShown L (exportView ws l) = viewEnd (exportShown ws l)
 
@@ -254,6 +271,7 @@ pub data Alike : Call Column Arguments View → Call Column Arguments View → T
   alikeMeasureElement : {c d : Column} {a b : Arguments} → EqualRows c d → EqualArguments a b → Alike (measureElement c a) (measureElement d b)
   alikeMeasureRepeat : {c d : Column} {a b : Arguments} → EqualRows c d → EqualArguments a b → Alike (measureRepeat c a) (measureRepeat d b)
   alikeLimitRecipe : {c c′ d d′ : Column} {e e′ : Arguments} (p : Recipe) → EqualRows c c′ → EqualRows d d′ → EqualArguments e e′ → Alike (limitRecipe p c d e) (limitRecipe p c′ d′ e′)
+  alikeWindow : {c c′ d d′ : Column} {e e′ : Arguments} (p : Recipe) (x y : ℕ) (a b o : Room) → EqualRows c c′ → EqualRows d d′ → EqualArguments e e′ → Alike (window p x y c d e a b o) (window p x y c′ d′ e′ a b o)
   alikeImport : {v w : View} (l : Room) → EqualViews v w → Alike (importView v l) (importView w l)
   alikeExport : {c d : Column} (l : ViewRoom) → EqualRows c d → Alike (exportView c l) (exportView d l)
 
@@ -269,6 +287,7 @@ tallyTaken (measureAnyValue c) = absent
 tallyTaken (measureElement c a) = absent
 tallyTaken (measureRepeat c a) = absent
 tallyTaken (limitRecipe p c d e) = absent
+tallyTaken (window p x y c d e a b o) = absent
 tallyTaken (importView v l) = absent
 tallyTaken (exportView c l) = absent
 
@@ -284,6 +303,7 @@ moveIn L (measureAnyValue c) = nobody
 moveIn L (measureElement c a) = nobody
 moveIn L (measureRepeat c a) = nobody
 moveIn L (limitRecipe p c d e) = nobody
+moveIn L (window p x y c d e a b o) = nobody
 moveIn L (importView v l) = nobody
 moveIn L (exportView c l) = nobody
 
@@ -299,6 +319,7 @@ namesStation (measureAnyValue c) = false
 namesStation (measureElement c a) = false
 namesStation (measureRepeat c a) = false
 namesStation (limitRecipe p c d e) = false
+namesStation (window p x y c d e a b o) = false
 namesStation (importView v l) = false
 namesStation (exportView c l) = false
 

@@ -10,6 +10,7 @@ pub mod Refusals
 pub mod Outcome
 pub mod View
 pub mod Recipe
+pub mod Window
 pub mod Tally
 pub mod Lengths
 pub mod Call

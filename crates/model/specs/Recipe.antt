@@ -77,11 +77,9 @@ codeCall code ws rs a b c =
     ∷ [])
     code (unary Reverse ws)
 
--- "Each step takes the carried rows, its argument columns and, for codes 9 and 10, the second list's rows." Columns have as many rows as
--- the second list rs, which 3 has made as many as the first list's.
-abbrev pub stepCall : Step → List Row → List Row → List Elem → ListCall (List Row) (List Elem)
-stepCall s ws rs es =
-    codeCall (s .code) ws rs (columnOf es (length rs) (s .first)) (columnOf es (length rs) (s .second)) (columnOf es (length rs) (s .third))
+-- "Each step takes the carried rows, its argument columns and, for codes 9 and 10, the second list's rows.": col gives an argument column by its number
+abbrev pub stepCall : Step → List Row → List Row → (ℕ → List Elem) → ListCall (List Row) (List Elem)
+stepCall s ws rs col = codeCall (s .code) ws rs (col (s .first)) (col (s .second)) (col (s .third))
 
 unfoldable pub thenOn : {A B : Type 0} → Outcome A → (A → Outcome B) → Outcome B
 thenOn (refused k) f = refused k
@@ -89,22 +87,22 @@ thenOn (made a) f = f a
 
 -- "Steps 1, 3, 5.. write tray one, 2, 4, 6.. tray two, the last the output": the steps from s on, on the carried rows ws; s
 -- writes tray a unless it is the last, and the step after it tray b
-unfoldable pub carried : Limits → Step → List Step → List Row → List Row → List Elem → Room → Room → Room → Outcome (List Row)
-carried L s [] ws rs es a b o = afterThree L (stepCall s ws rs es) o
-carried L s (t ∷ ts) ws rs es a b o = thenOn (afterThree L (stepCall s ws rs es) a) (λ ws′. carried L t ts ws′ rs es b a o)
+unfoldable pub carried : Limits → Step → List Step → List Row → List Row → (ℕ → List Elem) → Room → Room → Room → Outcome (List Row)
+carried L s [] ws rs col a b o = afterThree L (stepCall s ws rs col) o
+carried L s (t ∷ ts) ws rs col a b o = thenOn (afterThree L (stepCall s ws rs col) a) (λ ws′. carried L t ts ws′ rs col b a o)
 
 -- "no steps copies the column into result form, or gives 9 for the output"
-unfoldable pub stepped : Limits → List Step → List Row → List Row → List Elem → Room → Room → Room → Outcome (List Row)
-stepped L [] ws rs es a b o = fitted ws o
-stepped L (s ∷ ss) ws rs es a b o = carried L s ss ws rs es a b o
+unfoldable pub stepped : Limits → List Step → List Row → List Row → (ℕ → List Elem) → Room → Room → Room → Outcome (List Row)
+stepped L [] ws rs col a b o = fitted ws o
+stepped L (s ∷ ss) ws rs col a b o = carried L s ss ws rs col a b o
 
 -- "unequal row counts, or a wrong argument length, give 3"
 unfoldable pub recipeUnequal : ℕ → List Row → List Row → List Elem → Bool
 recipeUnequal columns ws rs es = not (eqb (length ws) (length rs)) || not (eqb (length es) (columns * length ws))
 
--- a recipe that is not malformed, on what is shown
+-- a recipe that is not malformed, on what is shown: columns have as many rows as the second list rs, which 3 has made as many as the first list's
 unfoldable pub formedRecipe : Limits → Recipe → List Row → List Row → List Elem → Room → Room → Room → Outcome (List Row)
-formedRecipe L p ws rs es a b o = gate (pick (recipeUnequal (p .columns) ws rs es) 3 0) (stepped L (stepsOf (p .numbers)) ws rs es a b o)
+formedRecipe L p ws rs es a b o = gate (pick (recipeUnequal (p .columns) ws rs es) 3 0) (stepped L (stepsOf (p .numbers)) ws rs (columnOf es (length rs)) a b o)
 
 -- "The same as a definition, on well-formed columns."
 unfoldable pub recipeShown : Limits → Recipe → List Row → List Row → List Elem → Room → Room → Room → Outcome (List Row)

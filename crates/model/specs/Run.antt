@@ -5,7 +5,7 @@ use mathlib.Core.List.{List, [], _∷_}
 use lib.ListN.{take}
 use lib.IntN.{ℤ}
 use mathlib.Core.Path.{_≡_}
-use Rattle.model.specs.Basics.{given}
+use Rattle.model.specs.Basics.{Lent, absent, given}
 use Rattle.model.specs.Bitmap.{bytesFor}
 use Rattle.model.specs.Limits.{Limits}
 use Rattle.model.specs.Column.{Column, Arguments}
@@ -13,10 +13,11 @@ use Rattle.model.specs.View.{View, ViewRoom, importOutcome, exportOutcom
 use Rattle.model.specs.Form.{Room, ValueRoom, RepeatRoom}
 use Rattle.model.specs.Rows.{ListCall}
 use Rattle.model.specs.Outcome.{listOutcome, anyValueOutcome, elementOutcome, repeatOutcome}
-use Rattle.model.specs.Call.{Call, list, anyValue, element, listRepeat, recipe, measureList, measureAnyValue, measureElement, measureRepeat, limitRecipe, importView, exportView, End, refusal, counts, operationEnd, measureEnd}
+use Rattle.model.specs.Call.{Call, list, anyValue, element, listRepeat, recipe, measureList, measureAnyValue, measureElement, measureRepeat, limitRecipe, window, importView, exportView, End, refusal, counts, operationEnd, measureEnd}
 use Rattle.model.specs.Contract.{ListMeets, ViewMeets, ValueMeets, RepeatMeets, Zeroed, toldLengths, toldValueLengths, toldRepeatLengths, toldLimits, ListMeasures, ValueMeasures, RepeatMeasures, RecipeLimited}
 use Rattle.model.specs.Lengths.{listLengths, anyValueLengths, elementLengths, repeatLengths, recipeLimits}
 use Rattle.model.specs.Recipe.{Recipe, recipeOutcome, stationed}
+use Rattle.model.specs.Window.{windowOutcome}
 use Rattle.model.specs.Tally.{Tally, tallied}
 use Rattle.model.specs.declared.ListAnswer.{ListAnswer}
 use Rattle.model.specs.declared.ListAnswer.the-variants as L
@@ -51,8 +52,8 @@ viewRunEnd (L.Refused k) o s r v e = operationEnd (refusal k) ([] ∷ [] ∷ [] 
 viewRunEnd (L.Counts n m p q) o s r v e =
     operationEnd (counts (n ∷ m ∷ p ∷ q ∷ [])) (take n o ∷ take n s ∷ take m v ∷ []) (take (bytesFor n) r ∷ take (bytesFor m) e ∷ [])
 
--- a recipe's: the list answer and output, then the trays, all their slots, and the tally that came back
-unfoldable pub recipeRunEnd : ListAnswer → List ℤ → List ℕ → List ℤ → List ℕ → List ℤ → List ℕ → List ℤ → List ℕ → List ℤ → List ℕ → List ℤ → List ℕ → Tally → End
+-- a recipe's: the list answer and output, then the trays, all their slots, and the tally that came back, if one did
+unfoldable pub recipeRunEnd : ListAnswer → List ℤ → List ℕ → List ℤ → List ℕ → List ℤ → List ℕ → List ℤ → List ℕ → List ℤ → List ℕ → List ℤ → List ℕ → Lent Tally → End
 recipeRunEnd a o r v e ao ar av ae bo br bv be t =
     let l = listRunEnd a o r v e in
     record {
@@ -61,7 +62,7 @@ recipeRunEnd a o r v e ao ar av ae bo br bv be t =
       bitmaps = l .bitmaps;
       tray-numbers = ao ∷ av ∷ bo ∷ bv ∷ [];
       tray-bitmaps = ar ∷ ae ∷ br ∷ be ∷ [];
-      tally = given t;
+      tally = t;
     }
 
 -- a run of a call that ended so: the contract of its function holds of it
@@ -76,13 +77,16 @@ pub data Run (L : Limits) : Call Column Arguments View → End → Type 0 where
       → RepeatMeets (repeatOutcome L c x l) a o o′ r r′ io io′ ir ir′ v v′ e e′ → Run L (listRepeat c x l) (repeatRunEnd a o′ r′ io′ ir′ v′ e′)
   recipeRun : {s : ℕ} {p : Recipe} {c d : Column} {x : Arguments} {l m n : Room} {t t′ : Tally} {a : ListAnswer} {o o′ : List ℤ} {r r′ : List ℕ} {v v′ : List ℤ} {e e′ : List ℕ} {ao : List ℤ} {ar : List ℕ} {av : List ℤ} {ae : List ℕ} {bo : List ℤ} {br : List ℕ} {bv : List ℤ} {be : List ℕ}
       → ListMeets (stationed s (recipeOutcome L p c d x l m n)) a o o′ r r′ v v′ e e′ → Zeroed l ao ar av ae → Zeroed m bo br bv be → t′ ≡ tallied s (stationed s (recipeOutcome L p c d x l m n)) t
-      → Run L (recipe s p c d x l m n t) (recipeRunEnd a o′ r′ v′ e′ ao ar av ae bo br bv be t′)
+      → Run L (recipe s p c d x l m n t) (recipeRunEnd a o′ r′ v′ e′ ao ar av ae bo br bv be (given t′))
   -- a measure writes nothing: its answer is all that its run ends in
   measureListRun : {q : ListCall Column Arguments} {a : ListLengths} → ListMeasures (listLengths L q) a → Run L (measureList q) (measureEnd (toldLengths a))
   measureAnyValueRun : {c : Column} {a : ValueLengths} → ValueMeasures (anyValueLengths c) a → Run L (measureAnyValue c) (measureEnd (toldValueLengths a))
   measureElementRun : {c : Column} {x : Arguments} {a : ValueLengths} → ValueMeasures (elementLengths L c x) a → Run L (measureElement c x) (measureEnd (toldValueLengths a))
   measureRepeatRun : {c : Column} {x : Arguments} {a : RepeatLengths} → RepeatMeasures (repeatLengths L c x) a → Run L (measureRepeat c x) (measureEnd (toldRepeatLengths a))
   limitRecipeRun : {p : Recipe} {c d : Column} {x : Arguments} {a : RecipeLimits} → RecipeLimited (recipeLimits L p c d x) a → Run L (limitRecipe p c d x) (measureEnd (toldLimits a))
+  windowRun : {p : Recipe} {x y : ℕ} {c d : Column} {z : Arguments} {l m n : Room} {a : ListAnswer} {o o′ : List ℤ} {r r′ : List ℕ} {v v′ : List ℤ} {e e′ : List ℕ} {ao : List ℤ} {ar : List ℕ} {av : List ℤ} {ae : List ℕ} {bo : List ℤ} {br : List ℕ} {bv : List ℤ} {be : List ℕ}
+      → ListMeets (windowOutcome L p x y c d z l m n) a o o′ r r′ v v′ e e′ → Zeroed l ao ar av ae → Zeroed m bo br bv be
+      → Run L (window p x y c d z l m n) (recipeRunEnd a o′ r′ v′ e′ ao ar av ae bo br bv be absent)
   importRun : {c : View} {l : Room} {a : ListAnswer} {o o′ : List ℤ} {r r′ : List ℕ} {v v′ : List ℤ} {e e′ : List ℕ}
       → ListMeets (importOutcome L c l) a o o′ r r′ v v′ e e′ → Run L (importView c l) (listRunEnd a o′ r′ v′ e′)
   exportRun : {c : Column} {l : ViewRoom} {a : ListAnswer} {o o′ s s′ : List ℤ} {r r′ : List ℕ} {v v′ : List ℤ} {e e′ : List ℕ}

@@ -11,7 +11,6 @@ use lib.ListN.{length, take, drop}
 use Rattle.model.specs.Basics.{pick, tab}
 use Rattle.model.specs.Bitmap.{from}
 use Rattle.model.specs.Column.{Arguments, arguments, elemAt, shownBy}
-use Rattle.model.specs.Recipe.{columnOf}
 use Rattle.model.specs.Rows.{argumentOf}
 use Rattle.model.proofs.ColumnLaws.{argument-at}
 use Rattle.model.proofs.TabLaws.{tab-ext}
@@ -23,7 +22,7 @@ use Rattle.ops.specs.Ops.{callOf, takesOf, table}
 use Rattle.ops.specs.declared.ListOp.{ListOp}
 use Rattle.ops.specs.declared.ListOp.the-variants as L
 use Rattle.arguments.specs.Taken.{placeIn, Serves}
-use Rattle.one_list.specs.Uses.{LiesIn}
+use Rattle.one_list.specs.Uses.{LiesIn, columnAt}
 
 place-cases : (t : Bool) (n r : ℕ) → r < n → pick t 0 r < n
 place-cases true n r h = omega arith
@@ -33,38 +32,38 @@ place-lt : (limit : Bool) (n r : ℕ) → r < n → placeIn limit n r < n
 unfolding placeIn
 place-lt limit n r h = place-cases (limit && eqb n 1) n r h
 
-module _ (e : Arguments) (g : Covers (e .bits) (length (e .values))) (k n : ℕ) (used : Bool) (w : LiesIn used k n (length (e .values)))
-    {lent : Bool} {vs : List ℤ} {x : ℕ} {bs : List ℕ} (l : lent ≡ used) (v : vs ≡ take (pick lent n 0) (drop (k * n) (e .values))) (q : bs ≡ bitsFrom (e .bits) (k * n) .bytes) (p : x ≡ (e .bits .start + k * n) % 8) (u : used ≡ true) where
-  inside : k * n + n ≤ length (e .values)
+module _ (e : Arguments) (g : Covers (e .bits) (length (e .values))) (k p n : ℕ) (used : Bool) (w : LiesIn used k p n (length (e .values)))
+    {lent : Bool} {vs : List ℤ} {x : ℕ} {bs : List ℕ} (l : lent ≡ used) (v : vs ≡ take (pick lent n 0) (drop (k * p) (e .values))) (q : bs ≡ bitsFrom (e .bits) (k * p) .bytes) (z : x ≡ (e .bits .start + k * p) % 8) (u : used ≡ true) where
+  inside : k * p + n ≤ length (e .values)
   unfolding LiesIn
   inside = rw u at w
 
-  source : ReadableElemsˡ (e .values) (e .bits) (k * n) n
+  source : ReadableElemsˡ (e .values) (e .bits) (k * p) n
   source = record { inside = inside; bits = g }
 
-  column-is : arguments vs (from x bs) ≡ arguments (take n (drop (k * n) (e .values))) (bitsFrom (e .bits) (k * n))
+  column-is : arguments vs (from x bs) ≡ arguments (take n (drop (k * p) (e .values))) (bitsFrom (e .bits) (k * p))
   unfolding bitsFrom
-  column-is = rw (v, l, u, q, p)
+  column-is = rw (v, l, u, q, z)
 
   pub column-serves : (limit : Bool) → Serves limit n (arguments vs (from x bs))
   column-serves limit =
-      let len = length-part (e .values) (e .bits) (k * n) n source in
+      let len = length-part (e .values) (e .bits) (k * p) n source in
       rw column-is (record {
-        bits = rw len (covers-from (e .bits) (k * n) n (length (e .values)) g inside);
+        bits = rw len (covers-from (e .bits) (k * p) n (length (e .values)) g inside);
         there = λ r h. rw len (place-lt limit n r h);
       })
 
-  shown-there : (i : ℕ) → i < n → elemAt (e .values) (e .bits) (k * n + i) ≡ argumentOf (shownBy e) (k * n + (0 + i))
-  shown-there i h = let z = zero-add i in rw z (sym (argument-at e (k * n + i) (omega (arith, inside))))
+  shown-there : (i : ℕ) → i < n → elemAt (e .values) (e .bits) (k * p + i) ≡ argumentOf (shownBy e) (k * p + (0 + i))
+  shown-there i h = let y = zero-add i in rw y (sym (argument-at e (k * p + i) (omega (arith, inside))))
 
-  cut-shown : shownBy (arguments (take n (drop (k * n) (e .values))) (bitsFrom (e .bits) (k * n))) ≡ columnOf (shownBy e) n k
+  cut-shown : shownBy (arguments (take n (drop (k * p) (e .values))) (bitsFrom (e .bits) (k * p))) ≡ columnAt (shownBy e) p n k
   unfolding shownBy
   cut-shown =
-      ap (tab (elemAt (take n (drop (k * n) (e .values))) (bitsFrom (e .bits) (k * n))) 0) (length-part (e .values) (e .bits) (k * n) n source)
-      ∙ sym (row-from (e .values) (e .bits) (k * n) n source)
-      ∙ tab-ext (elemAt (e .values) (e .bits)) (λ r. argumentOf (shownBy e) (k * n + r)) (k * n) 0 n shown-there
+      ap (tab (elemAt (take n (drop (k * p) (e .values))) (bitsFrom (e .bits) (k * p))) 0) (length-part (e .values) (e .bits) (k * p) n source)
+      ∙ sym (row-from (e .values) (e .bits) (k * p) n source)
+      ∙ tab-ext (elemAt (e .values) (e .bits)) (λ r. argumentOf (shownBy e) (k * p + r)) (k * p) 0 n shown-there
 
-  pub column-shown : shownBy (arguments vs (from x bs)) ≡ columnOf (shownBy e) n k
+  pub column-shown : shownBy (arguments vs (from x bs)) ≡ columnAt (shownBy e) p n k
   column-shown = ap shownBy column-is ∙ cut-shown
 
 -- a call sees the columns that it takes alone

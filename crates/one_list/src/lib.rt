@@ -9,9 +9,8 @@ ghost use Rattle.model.specs.Basics.{pick};
 ghost use Rattle.model.specs.Column.{rowCount, rowsOf, shownBy};
 ghost use Rattle.model.specs.Inner.{lentArgumentsFrom, lentAt, nowBits, nowColumnAt};
 ghost use Rattle.model.specs.Outcome.{afterThree};
-ghost use Rattle.model.specs.Recipe.{columnOf};
 ghost use Rattle.model.specs.Widths.{ListAnswersAt, limitsAt, used};
-ghost use Rattle.one_list.specs.Uses.{Uses};
+ghost use Rattle.one_list.specs.Uses.{Uses, columnAt};
 ghost use Rattle.ops.specs.Ops.{callOf};
 ghost use lib.ListN.{drop, length, take};
 ghost use mathlib.Core.Path.{_≡_};
@@ -27,12 +26,12 @@ fn column_values(used: bool, args: &[i64], a: usize, n: usize) -> &[i64]
     &args[a..a]
 }
 
-// An operation on the carried list of n rows, its argument columns cut out of the one slice that they lie in.
+// An operation on the carried list of n rows, its argument columns cut out of the one slice that they lie in, pitch values apart.
 #[rattlefmt::skip]
 pub fn one_list(
     op: ListOp,
     offsets: &[i32], rows: &[u8], rstart: usize, values: &[i64], elements: &[u8], estart: usize,
-    n: usize, first: usize, second: usize, third: usize,
+    n: usize, pitch: usize, first: usize, second: usize, third: usize,
     args: &[i64], bits: &[u8], start: usize,
     out_offsets: &mut [i32], out_rows: &mut [u8], out_values: &mut [i64], out_elements: &mut [u8],
     width: Width, large: &[i64], out_large: &mut [i64],
@@ -40,14 +39,14 @@ pub fn one_list(
     requires column { ⌜ Readable (nowColumnAt width offsets large rows rstart values elements estart) ⌝ }
     requires rows { ⌜ rowCount (used width (now offsets) (now large)) ≡ n ⌝ }
     requires bits { ⌜ Covers (nowBits bits start) (length (now args)) ⌝ }
-    requires uses { ⌜ Uses op n first second third (length (now args)) ⌝ }
-    ensures { λ k. ⌜ ListAnswersAt width (afterThree (limitsAt width) (callOf op (rowsOf (lentAt width offsets large rows rstart values elements estart)) (columnOf (shownBy (lentArgumentsFrom args bits start)) n first) (columnOf (shownBy (lentArgumentsFrom args bits start)) n second) (columnOf (shownBy (lentArgumentsFrom args bits start)) n third))) k «out_offsets» «out_large» «out_rows» «out_values» «out_elements» ⌝ }
+    requires uses { ⌜ Uses op pitch n first second third (length (now args)) ⌝ }
+    ensures { λ k. ⌜ ListAnswersAt width (afterThree (limitsAt width) (callOf op (rowsOf (lentAt width offsets large rows rstart values elements estart)) (columnAt (shownBy (lentArgumentsFrom args bits start)) pitch n first) (columnAt (shownBy (lentArgumentsFrom args bits start)) pitch n second) (columnAt (shownBy (lentArgumentsFrom args bits start)) pitch n third))) k «out_offsets» «out_large» «out_rows» «out_values» «out_elements» ⌝ }
 {
     let t = ops::takes(op);
     let k = t.columns;
-    let a = first * n;
-    let b = second * n;
-    let c = third * n;
+    let a = first * pitch;
+    let b = second * pitch;
+    let c = third * pitch;
     let x = column_values(0 < k, args, a, n);
     let xbits = bitmap::bits_from(bits, start, a, args.len());
     let xstart = bitmap::start_from(start, a);

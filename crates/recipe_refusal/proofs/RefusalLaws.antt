@@ -8,11 +8,12 @@ use borrow.Author.Tests.{eq-eqb, ne-eqb, eqb-true, eqb-false, ltb-false}
 use lib.Dec.{eqb, ltb}
 use lib.ListN.{length}
 use Rattle.model.specs.Basics.{pick, any}
-use Rattle.model.specs.Column.{Column, Arguments, rowsOf, shownBy, rowCount, refusal13, refusal13ᵃ, refusal1, refusal2, refusal2ᵃ}
+use Rattle.model.specs.Column.{Row, Column, Arguments, rowsOf, shownBy, rowCount, refusal13, refusal13ᵃ, refusal1, refusal2, refusal2ᵃ}
 use Rattle.model.specs.Form.{Room}
 use Rattle.model.specs.Limits.{Limits}
 use Rattle.model.specs.Outcome.{Outcome, refused, gate, columnsRefusal}
-use Rattle.model.specs.Recipe.{Recipe, malformed, stepsOf, wrongStep, stepped, recipeUnequal, formedRecipe, recipeOutcome}
+use Rattle.model.specs.Recipe.{Recipe, malformed, stepsOf, wrongStep, recipeUnequal}
+use Rattle.model.specs.Window.{noWindow, onCopy, formedWindow, windowOutcome}
 use Rattle.model.specs.Refusals.{orElse}
 use Rattle.model.proofs.BoolLaws.{never-true, or-none, same-number}
 use Rattle.model.proofs.ColumnLaws.{length-rows, length-shown}
@@ -37,13 +38,15 @@ none : {A : Type 0} (x : Outcome A) → gate 0 x ≡ x
 unfolding gate
 none x = refl
 
-pub outcome-is : (L : Limits) (p : Recipe) (c d : Column) (e : Arguments) (a b o : Room) → recipeOutcome L p c d e a b o ≡ gate (recipeRefusal p c d e) (stepped L (stepsOf (p .numbers)) (rowsOf c) (rowsOf d) (shownBy e) a b o)
-unfolding recipeOutcome formedRecipe recipeRefusal
-outcome-is L p c d e a b o = cases (malformed p)
+-- what refuses a recipe that is looked at for rows x up to y, and else what it comes to on the copy of these rows
+pub window-is : (L : Limits) (p : Recipe) (x y : ℕ) (c d : Column) (e : Arguments) (a b o : Room)
+    → windowOutcome L p x y c d e a b o ≡ gate (orElse (recipeRefusal p c d e) (pick (noWindow x y (length (rowsOf c))) 16 0)) (onCopy L p x y (rowsOf c) (rowsOf d) (shownBy e) a b o)
+unfolding windowOutcome formedWindow recipeRefusal
+window-is L p x y c d e a b o = cases (malformed p) (columnsRefusal (c ∷ d ∷ []) (e ∷ [])) (pick (recipeUnequal (p .columns) (rowsOf c) (rowsOf d) (shownBy e)) 3 0) (pick (noWindow x y (length (rowsOf c))) 16 0) (onCopy L p x y (rowsOf c) (rowsOf d) (shownBy e) a b o)
   where
-    cases : (t : Bool) → gate (pick t 10 0) (gate (columnsRefusal (c ∷ d ∷ []) (e ∷ [])) (gate (pick (recipeUnequal (p .columns) (rowsOf c) (rowsOf d) (shownBy e)) 3 0) (stepped L (stepsOf (p .numbers)) (rowsOf c) (rowsOf d) (shownBy e) a b o))) ≡ gate (pick t 10 (orElse (columnsRefusal (c ∷ d ∷ []) (e ∷ [])) (pick (recipeUnequal (p .columns) (rowsOf c) (rowsOf d) (shownBy e)) 3 0))) (stepped L (stepsOf (p .numbers)) (rowsOf c) (rowsOf d) (shownBy e) a b o)
-    cases true = ten _ _
-    cases false = none _ ∙ before (columnsRefusal (c ∷ d ∷ []) (e ∷ [])) (pick (recipeUnequal (p .columns) (rowsOf c) (rowsOf d) (shownBy e)) 3 0) _
+    cases : (t : Bool) (k u w : ℕ) (q : Outcome (List Row)) → gate (pick t 10 0) (gate k (gate u (gate w q))) ≡ gate (orElse (pick t 10 (orElse k u)) w) q
+    cases true k u w q = ten _ _
+    cases false k u w q = none _ ∙ before k u _ ∙ before (orElse k u) w q
 
 -- a number before another
 or-this : (k j : ℕ) → (k ≡ 0 → ⊥) → orElse k j ≡ k
@@ -112,12 +115,13 @@ pub record Passed (ns : List ℕ) (k : ℕ) (c d : Column) (e : Arguments) : Typ
   pub long : refusal2ᵃ e ≡ false
   pub equal : rowCount (d .offsets) ≡ rowCount (c .offsets)
   pub many : length (e .values) ≡ k * rowCount (c .offsets)
+  pub same : recipeUnequal k (rowsOf c) (rowsOf d) (shownBy e) ≡ false
 
 pick-none : (b : Bool) (k n : ℕ) → 0 < k → pick b k n ≡ 0 → (b ≡ false) × (n ≡ 0)
 pick-none true k n l h = let z : ⊥ = omega arith in absurd z
 pick-none false k n l h = (refl, h)
 
-or-else-none : (k j : ℕ) → orElse k j ≡ 0 → (k ≡ 0) × (j ≡ 0)
+pub or-else-none : (k j : ℕ) → orElse k j ≡ 0 → (k ≡ 0) × (j ≡ 0)
 or-else-none k j h = cases (eqb k 0) refl h
   where
     cases : (t : Bool) → eqb k 0 ≡ t → pick t j k ≡ 0 → (k ≡ 0) × (j ≡ 0)
@@ -153,4 +157,4 @@ module _ (ns : List ℕ) (k : ℕ) (c d : Column) (e : Arguments) where
       let u = pick-none (recipeUnequal k (rowsOf c) (rowsOf d) (shownBy e)) 3 0 (omega arith) (b .1) in
       let l = both-none (b .0) in
       let q = equal-none (u .0) in
-      record { formed = a .0; lists = l .0; small = omega (arith, ltb-false 7 (e .bits .start) (l .1)); long = l .2; equal = sym (q .0); many = q .1 }
+      record { formed = a .0; lists = l .0; small = omega (arith, ltb-false 7 (e .bits .start) (l .1)); long = l .2; equal = sym (q .0); many = q .1; same = u .0 }

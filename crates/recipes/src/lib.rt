@@ -1,4 +1,5 @@
 // Recipes: chains of list operations through two lent trays, with a tally. A recipe, a tray and a tally are document 01's own terms.
+use column::offsets;
 use model::Width;
 use tally::RecipeAnswer;
 use tally::Tally;
@@ -30,7 +31,7 @@ pub fn run_recipe<'a>(
     let mut two_large = [0i64; 0];
     let mut out_large = [0i64; 0];
     let answer = attempt::attempt(
-        station, numbers, columns,
+        station, 0, offsets::row_count(offsets), numbers, columns,
         offsets, rows, rows_start, values, elements, elements_start,
         second_offsets, second_rows, second_rows_start, second_values, second_elements, second_elements_start,
         arguments, argument_bits, argument_start,

@@ -8,7 +8,7 @@ use lib.IntN.{ℤ}
 use lib.ListN.{length, take}
 use Rattle.model.specs.Bitmap.{from, bytesFor}
 use Rattle.model.specs.Column.{Elem, Row, Column, column, rowsOf}
-use Rattle.model.specs.Recipe.{Step, columnOf, stepCall}
+use Rattle.model.specs.Recipe.{Step, stepCall}
 use Rattle.model.specs.Recipe as recipe
 use Rattle.model.specs.Rows.{setOp}
 use Rattle.model.specs.Widths.{used}
@@ -30,23 +30,23 @@ pub call-is : (code : ℕ) (ws rs : List Row) (a b c : List Elem) → recipe.cod
 unfolding recipe.codeCall operationOf opCall callOf
 call-is code ws rs a b c = getD-map (λ o. opCall o ws rs a b c) operations code S.None
 
-module _ (s : Step) (ws rs : List Row) (es : List Elem) where
-  pub step-one : (op : ListOp) (n : ℕ) → operationOf (s .code) ≡ S.One op → length rs ≡ n → stepCall s ws rs es ≡ callOf op ws (columnOf es n (s .first)) (columnOf es n (s .second)) (columnOf es n (s .third))
+module _ (s : Step) (ws rs : List Row) (col : ℕ → List Elem) where
+  pub step-one : (op : ListOp) → operationOf (s .code) ≡ S.One op → stepCall s ws rs col ≡ callOf op ws (col (s .first)) (col (s .second)) (col (s .third))
   unfolding opCall
-  step-one op n h e = call-is (s .code) ws rs _ _ _ ∙ rw (h, e)
+  step-one op h = call-is (s .code) ws rs _ _ _ ∙ rw h
 
-  pub step-two : (op : SetOp) → operationOf (s .code) ≡ S.Two op → stepCall s ws rs es ≡ setOp op ws rs
+  pub step-two : (op : SetOp) → operationOf (s .code) ≡ S.Two op → stepCall s ws rs col ≡ setOp op ws rs
   unfolding opCall
   step-two op h = call-is (s .code) ws rs _ _ _ ∙ rw h
 
 -- the columns that a step uses, by what it does
-pub uses-one : (s : Step) (n len : ℕ) (o : Operation) (op : ListOp) → o ≡ operationOf (s .code) → o ≡ S.One op → opUses (operationOf (s .code)) s n len → Uses op n (s .first) (s .second) (s .third) len
+pub uses-one : (s : Step) (p n len : ℕ) (o : Operation) (op : ListOp) → o ≡ operationOf (s .code) → o ≡ S.One op → opUses (operationOf (s .code)) s p n len → Uses op p n (s .first) (s .second) (s .third) len
 unfolding opUses
-uses-one s n len o op e q h = rw (← e, q) at h
+uses-one s p n len o op e q h = rw (← e, q) at h
 
-pub uses-none : (s : Step) (n len : ℕ) (o : Operation) → o ≡ operationOf (s .code) → o ≡ S.None → opUses (operationOf (s .code)) s n len → ⊥
+pub uses-none : (s : Step) (p n len : ℕ) (o : Operation) → o ≡ operationOf (s .code) → o ≡ S.None → opUses (operationOf (s .code)) s p n len → ⊥
 unfolding opUses
-uses-none s n len o e q h = rw (← e, q) at h
+uses-none s p n len o e q h = rw (← e, q) at h
 
 -- ---- the rows that a step takes
 

@@ -45,13 +45,13 @@ pub record AtFront (n m : ℕ) (o : List ℤ) (r : List ℕ) (v : List ℤ) (e :
   pub formed : Readable (front o r v e n m)
 
 -- a step has an operation, and the columns that it uses are there
-unfoldable pub opUses : Operation → Step → ℕ → ℕ → Type 0
-opUses (S.One op) s n len = Uses op n (s .first) (s .second) (s .third) len
-opUses (S.Two op) s n len = Unit
-opUses S.None s n len = ⊥
+unfoldable pub opUses : Operation → Step → ℕ → ℕ → ℕ → Type 0
+opUses (S.One op) s pitch n len = Uses op pitch n (s .first) (s .second) (s .third) len
+opUses (S.Two op) s pitch n len = Unit
+opUses S.None s pitch n len = ⊥
 
-pub record StepFits (s : Step) (n len : ℕ) : Type 0 where
-  pub uses : opUses (operationOf (s .code)) s n len
+pub record StepFits (s : Step) (pitch n len : ℕ) : Type 0 where
+  pub uses : opUses (operationOf (s .code)) s pitch n len
 
 -- what a call brings beside the carried rows: a second list of n rows, and arguments
 pub record Beside (n : ℕ) (d : Column) (a : Arguments) : Type 0 where

@@ -10,15 +10,16 @@ ghost use Rattle.model.specs.Column.{rowCount, rowsOf, shownBy};
 ghost use Rattle.model.specs.Inner.{lentArgumentsFrom, lentAt, nowArguments, nowColumnAt};
 ghost use Rattle.model.specs.Outcome.{afterThree};
 ghost use Rattle.model.specs.Recipe.{stepAt, stepCall};
+ghost use Rattle.one_list.specs.Uses.{columnAt};
 ghost use Rattle.model.specs.Widths.{ListAnswersAt, limitsAt, used};
 ghost use Rattle.step.specs.Step.{AtFront, Beside, StepFits, Taken, lentFront, rowsTaken};
 ghost use lib.ListN.{length};
 ghost use mathlib.Core.Path.{_≡_};
 
-// One step on the carried list of n rows: what its operation does after 3.
+// One step on the carried list of n rows, its argument columns `pitch` values apart: what its operation does after 3.
 #[rattlefmt::skip]
 fn step<'a>(
-    code: u32, first: u32, second: u32, third: u32, n: usize,
+    code: u32, first: u32, second: u32, third: u32, n: usize, pitch: usize,
     offsets: &[i32], rows: &[u8], rstart: usize, values: &'a [i64], elements: &[u8], estart: usize,
     roffsets: &[i32], rrows: &[u8], r_rstart: usize, rvalues: &'a [i64], relements: &[u8], r_estart: usize,
     args: &[i64], bits: &[u8], start: usize,
@@ -28,14 +29,14 @@ fn step<'a>(
     requires column { ⌜ Readable (nowColumnAt width offsets large rows rstart values elements estart) ⌝ }
     requires rows { ⌜ rowCount (used width (now offsets) (now large)) ≡ n ⌝ }
     requires beside { ⌜ Beside n (nowColumnAt width roffsets rlarge rrows «r_rstart» rvalues relements «r_estart») (nowArguments args bits start) ⌝ }
-    requires fits { ⌜ StepFits (step code first second third) n (length (now args)) ⌝ }
-    ensures { λ k. ⌜ ListAnswersAt width (afterThree (limitsAt width) (stepCall (step code first second third) (rowsOf (lentAt width offsets large rows rstart values elements estart)) (rowsOf (lentAt width roffsets rlarge rrows «r_rstart» rvalues relements «r_estart»)) (shownBy (lentArgumentsFrom args bits start)))) k «out_offsets» «out_large» «out_rows» «out_values» «out_elements» ⌝ }
+    requires fits { ⌜ StepFits (step code first second third) pitch n (length (now args)) ⌝ }
+    ensures { λ k. ⌜ ListAnswersAt width (afterThree (limitsAt width) (stepCall (step code first second third) (rowsOf (lentAt width offsets large rows rstart values elements estart)) (rowsOf (lentAt width roffsets rlarge rrows «r_rstart» rvalues relements «r_estart»)) (columnAt (shownBy (lentArgumentsFrom args bits start)) pitch n))) k «out_offsets» «out_large» «out_rows» «out_values» «out_elements» ⌝ }
 {
     match codes::operation_of(code) {
         Operation::One(op) => one_list::one_list(
             op,
             offsets, rows, rstart, values, elements, estart,
-            n, first as usize, second as usize, third as usize,
+            n, pitch, first as usize, second as usize, third as usize,
             args, bits, start,
             out_offsets, out_rows, out_values, out_elements,
             width, large, out_large,
@@ -54,7 +55,7 @@ fn step<'a>(
 // One step from the front of a tray, which holds n rows of m elements.
 #[rattlefmt::skip]
 fn step_from<'a>(
-    code: u32, first: u32, second: u32, third: u32, n: usize, m: usize,
+    code: u32, first: u32, second: u32, third: u32, n: usize, m: usize, pitch: usize,
     from_offsets: &[i32], from_rows: &[u8], from_values: &'a [i64], from_elements: &[u8],
     roffsets: &[i32], rrows: &[u8], r_rstart: usize, rvalues: &'a [i64], relements: &[u8], r_estart: usize,
     args: &[i64], bits: &[u8], start: usize,
@@ -63,15 +64,15 @@ fn step_from<'a>(
 ) -> ListAnswer
     requires front { ⌜ AtFront n m (used width (now «from_offsets») (now «from_large»)) (now «from_rows») (now «from_values») (now «from_elements») ⌝ }
     requires beside { ⌜ Beside n (nowColumnAt width roffsets rlarge rrows «r_rstart» rvalues relements «r_estart») (nowArguments args bits start) ⌝ }
-    requires fits { ⌜ StepFits (step code first second third) n (length (now args)) ⌝ }
-    ensures { λ k. ⌜ ListAnswersAt width (afterThree (limitsAt width) (stepCall (step code first second third) (rowsOf (lentFront width «from_offsets» «from_large» «from_rows» «from_values» «from_elements» n m)) (rowsOf (lentAt width roffsets rlarge rrows «r_rstart» rvalues relements «r_estart»)) (shownBy (lentArgumentsFrom args bits start)))) k «out_offsets» «out_large» «out_rows» «out_values» «out_elements» ⌝ }
+    requires fits { ⌜ StepFits (step code first second third) pitch n (length (now args)) ⌝ }
+    ensures { λ k. ⌜ ListAnswersAt width (afterThree (limitsAt width) (stepCall (step code first second third) (rowsOf (lentFront width «from_offsets» «from_large» «from_rows» «from_values» «from_elements» n m)) (rowsOf (lentAt width roffsets rlarge rrows «r_rstart» rvalues relements «r_estart»)) (columnAt (shownBy (lentArgumentsFrom args bits start)) pitch n))) k «out_offsets» «out_large» «out_rows» «out_values» «out_elements» ⌝ }
 {
     let no = widths::pick(width, n + 1, 0);
     let nl = widths::pick(width, 0, n + 1);
     let nr = bitmap::bytes_for(n);
     let ne = bitmap::bytes_for(m);
     step(
-        code, first, second, third, n,
+        code, first, second, third, n, pitch,
         &from_offsets[..no], &from_rows[..nr], 0, &from_values[..m], &from_elements[..ne], 0,
         roffsets, rrows, r_rstart, rvalues, relements, r_estart,
         args, bits, start,
@@ -83,7 +84,7 @@ fn step_from<'a>(
 // Step k of a recipe: the first takes the list, a later one the front of a tray, which holds n rows of m elements.
 #[rattlefmt::skip]
 pub fn step_at<'a>(
-    recipe: &[u32], k: usize, n: usize, m: usize,
+    recipe: &[u32], k: usize, n: usize, m: usize, pitch: usize,
     offsets: &[i32], rows: &[u8], rstart: usize, values: &'a [i64], elements: &[u8], estart: usize,
     from_offsets: &[i32], from_rows: &[u8], from_values: &'a [i64], from_elements: &[u8],
     roffsets: &[i32], rrows: &[u8], r_rstart: usize, rvalues: &'a [i64], relements: &[u8], r_estart: usize,
@@ -94,8 +95,8 @@ pub fn step_at<'a>(
     requires there { ⌜ 4 * k + 4 ≤ length (now recipe) ⌝ }
     requires taken { ⌜ Taken k n m (nowColumnAt width offsets large rows rstart values elements estart) (used width (now «from_offsets») (now «from_large»)) (now «from_rows») (now «from_values») (now «from_elements») ⌝ }
     requires beside { ⌜ Beside n (nowColumnAt width roffsets rlarge rrows «r_rstart» rvalues relements «r_estart») (nowArguments args bits start) ⌝ }
-    requires fits { ⌜ StepFits (stepAt (now recipe) k) n (length (now args)) ⌝ }
-    ensures { λ a. ⌜ ListAnswersAt width (afterThree (limitsAt width) (stepCall (stepAt (now (recipe .entry)) k) (rowsTaken k (lentAt width offsets large rows rstart values elements estart) (lentFront width «from_offsets» «from_large» «from_rows» «from_values» «from_elements» n m)) (rowsOf (lentAt width roffsets rlarge rrows «r_rstart» rvalues relements «r_estart»)) (shownBy (lentArgumentsFrom args bits start)))) a «out_offsets» «out_large» «out_rows» «out_values» «out_elements» ⌝ }
+    requires fits { ⌜ StepFits (stepAt (now recipe) k) pitch n (length (now args)) ⌝ }
+    ensures { λ a. ⌜ ListAnswersAt width (afterThree (limitsAt width) (stepCall (stepAt (now (recipe .entry)) k) (rowsTaken k (lentAt width offsets large rows rstart values elements estart) (lentFront width «from_offsets» «from_large» «from_rows» «from_values» «from_elements» n m)) (rowsOf (lentAt width roffsets rlarge rrows «r_rstart» rvalues relements «r_estart»)) (columnAt (shownBy (lentArgumentsFrom args bits start)) pitch n))) a «out_offsets» «out_large» «out_rows» «out_values» «out_elements» ⌝ }
 {
     let i = 4 * k;
     let code = recipe[i];
@@ -104,7 +105,7 @@ pub fn step_at<'a>(
     let third = recipe[i + 3];
     if k == 0 {
         return step(
-            code, first, second, third, n,
+            code, first, second, third, n, pitch,
             offsets, rows, rstart, values, elements, estart,
             roffsets, rrows, r_rstart, rvalues, relements, r_estart,
             args, bits, start,
@@ -113,7 +114,7 @@ pub fn step_at<'a>(
         );
     }
     step_from(
-        code, first, second, third, n, m,
+        code, first, second, third, n, m, pitch,
         from_offsets, from_rows, from_values, from_elements,
         roffsets, rrows, r_rstart, rvalues, relements, r_estart,
         args, bits, start,

@@ -83,28 +83,28 @@ after-made : (N : Limits) (q : ListCall (List Row) (List Elem)) (l : Room) (ws :
 unfolding afterThree gate fitted
 after-made N q l ws h = fit-made (fitsIn (length (rowsMade N q)) (length (flat (rowsMade N q))) l) (rowsMade N q) ws (gate-made (eqb (rowsRefusal N q) 0) (rowsRefusal N q) _ ws h)
 
-pub rows-kept : (N : Limits) (s : Step) (ws rs : List Row) (es : List Elem) (l : Room) (ws′ : List Row) → afterThree N (stepCall s ws rs es) l ≡ made ws′ → length ws′ ≡ length ws
-rows-kept N s ws rs es l ws′ h = ap length (sym (after-made N (stepCall s ws rs es) l ws′ h)) ∙ length-made N (stepCall s ws rs es) ∙ ap rowsIn (call-is (s .code) ws rs _ _ _) ∙ rows-of-call (operationOf (s .code)) ws rs _ _ _
+pub rows-kept : (N : Limits) (s : Step) (ws rs : List Row) (col : ℕ → List Elem) (l : Room) (ws′ : List Row) → afterThree N (stepCall s ws rs col) l ≡ made ws′ → length ws′ ≡ length ws
+rows-kept N s ws rs col l ws′ h = ap length (sym (after-made N (stepCall s ws rs col) l ws′ h)) ∙ length-made N (stepCall s ws rs col) ∙ ap rowsIn (call-is (s .code) ws rs _ _ _) ∙ rows-of-call (operationOf (s .code)) ws rs _ _ _
 
 -- ---- the chain
 
-module _ (N : Limits) (s : Step) (ts : List Step) (ws rs : List Row) (es : List Elem) (a b o : Room) where
-  pub chain-last : ts ≡ [] → carried N s ts ws rs es a b o ≡ afterThree N (stepCall s ws rs es) o
+module _ (N : Limits) (s : Step) (ts : List Step) (ws rs : List Row) (col : ℕ → List Elem) (a b o : Room) where
+  pub chain-last : ts ≡ [] → carried N s ts ws rs col a b o ≡ afterThree N (stepCall s ws rs col) o
   unfolding carried
   chain-last e = rw e
 
-  pub chain-refused : (t : Step) (us : List Step) (k : ℕ) → ts ≡ t ∷ us → afterThree N (stepCall s ws rs es) a ≡ refused k → carried N s ts ws rs es a b o ≡ refused k
+  pub chain-refused : (t : Step) (us : List Step) (k : ℕ) → ts ≡ t ∷ us → afterThree N (stepCall s ws rs col) a ≡ refused k → carried N s ts ws rs col a b o ≡ refused k
   unfolding carried thenOn
   chain-refused t us k e h = rw (e, h)
 
-  pub chain-made : (t : Step) (us : List Step) (ws′ : List Row) → ts ≡ t ∷ us → afterThree N (stepCall s ws rs es) a ≡ made ws′ → carried N s ts ws rs es a b o ≡ carried N t us ws′ rs es b a o
+  pub chain-made : (t : Step) (us : List Step) (ws′ : List Row) → ts ≡ t ∷ us → afterThree N (stepCall s ws rs col) a ≡ made ws′ → carried N s ts ws rs col a b o ≡ carried N t us ws′ rs col b a o
   unfolding carried thenOn
   chain-made t us ws′ e h = rw (e, h)
 
   -- the steps after one that made rows, taken from the tray that shows them
   pub chain-on : (t : Step) (us : List Step) {ws′ vs : List Row} {a′ : Room} {x : ListAnswer} {oo oo′ : List ℤ} {ro ro′ : List ℕ} {vo vo′ : List ℤ} {eo eo′ : List ℕ}
-      → ts ≡ t ∷ us → afterThree N (stepCall s ws rs es) a ≡ made ws′ → vs ≡ ws′ → a′ ≡ a
-      → ListMeets (carried N t us vs rs es b a′ o) x oo oo′ ro ro′ vo vo′ eo eo′ → ListMeets (carried N s ts ws rs es a b o) x oo oo′ ro ro′ vo vo′ eo eo′
+      → ts ≡ t ∷ us → afterThree N (stepCall s ws rs col) a ≡ made ws′ → vs ≡ ws′ → a′ ≡ a
+      → ListMeets (carried N t us vs rs col b a′ o) x oo oo′ ro ro′ vo vo′ eo eo′ → ListMeets (carried N s ts ws rs col a b o) x oo oo′ ro ro′ vo vo′ eo eo′
   chain-on t us {ws′} e h v r m = rw (chain-made t us ws′ e h) (rw (v, r) at m)
 
 -- ---- a step that made rows leaves a column at the front of its tray that shows them
@@ -160,8 +160,8 @@ same-room a b c d = rw (a, b, c, d)
 
 -- ---- the steps that are left
 
-module _ {ns : List ℕ} {n len k left : ℕ} (s : Steps ns n len k left) where
-  pub step-fits : StepFits (stepAt ns k) n len
+module _ {ns : List ℕ} {pitch n len k left : ℕ} (s : Steps ns pitch n len k left) where
+  pub step-fits : StepFits (stepAt ns k) pitch n len
   step-fits = let e : k + 0 ≡ k = omega arith in rw e at (s .fit 0 (s .some))
 
   pub step-there : 4 * k + 4 ≤ length ns
@@ -177,7 +177,7 @@ module _ {ns : List ℕ} {n len k left : ℕ} (s : Steps ns n len k left) where
         some-left : 0 < left → (left ≡ 1 → ⊥) → 0 < left - 1
         some-left p q = omega (arith, p)
 
-    pub next-steps : Steps ns n len (k + 1) (left - 1)
+    pub next-steps : Steps ns pitch n len (k + 1) (left - 1)
     next-steps = record {
       some = omega (arith, s .some);
       there = omega (arith, s .there, s .some);

@@ -6,7 +6,7 @@ use Rattle.model.specs.Recipe.{stepAt}
 use Rattle.step.specs.Step.{StepFits}
 
 -- left steps from step k on are there and fit
-pub record Steps (numbers : List ℕ) (n len k left : ℕ) : Type 0 where
+pub record Steps (numbers : List ℕ) (pitch n len k left : ℕ) : Type 0 where
   pub some : 0 < left
   pub there : 4 * (k + left) ≤ length numbers
-  pub fit : (j : ℕ) → j < left → StepFits (stepAt numbers (k + j)) n len
+  pub fit : (j : ℕ) → j < left → StepFits (stepAt numbers (k + j)) pitch n len

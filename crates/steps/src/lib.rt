@@ -7,6 +7,7 @@ ghost use Rattle.model.specs.Column.{rowsOf, shownBy};
 ghost use Rattle.model.specs.Inner.{lentArgumentsFrom, lentAt, nowArguments, nowColumnAt};
 ghost use Rattle.model.specs.Recipe.{carried, stepAt};
 ghost use Rattle.model.specs.Widths.{ListAnswersAt, limitsAt, roomAt, used};
+ghost use Rattle.one_list.specs.Uses.{columnAt};
 ghost use Rattle.step.specs.Step.{Beside, Taken, lentFront, rowsTaken};
 ghost use Rattle.steps.specs.Steps.{Steps};
 ghost use lib.ListN.{length};
@@ -15,7 +16,7 @@ ghost use lib.ListN.{length};
 // the trays take turns, and the last step writes the output. What the trays hold then is left to it: its caller clears them.
 #[rattlefmt::skip]
 pub fn steps<'a>(
-    recipe: &[u32], k: usize, left: usize, n: usize, m: usize,
+    recipe: &[u32], k: usize, left: usize, n: usize, m: usize, pitch: usize,
     offsets: &[i32], rows: &[u8], rstart: usize, values: &'a [i64], elements: &[u8], estart: usize,
     roffsets: &[i32], rrows: &[u8], r_rstart: usize, rvalues: &'a [i64], relements: &[u8], r_estart: usize,
     args: &[i64], bits: &[u8], start: usize,
@@ -25,14 +26,14 @@ pub fn steps<'a>(
     width: Width, large: &[i64], rlarge: &[i64],
     from_large: &mut [i64], to_large: &mut [i64], out_large: &mut [i64],
 ) -> ListAnswer
-    requires steps { ⌜ Steps (now recipe) n (length (now args)) k left ⌝ }
+    requires steps { ⌜ Steps (now recipe) pitch n (length (now args)) k left ⌝ }
     requires taken { ⌜ Taken k n m (nowColumnAt width offsets large rows rstart values elements estart) (used width (now «from_offsets») (now «from_large»)) (now «from_rows») (now «from_values») (now «from_elements») ⌝ }
     requires beside { ⌜ Beside n (nowColumnAt width roffsets rlarge rrows «r_rstart» rvalues relements «r_estart») (nowArguments args bits start) ⌝ }
-    ensures { λ a. ⌜ ListAnswersAt width (carried (limitsAt width) (stepAt (now (recipe .entry)) k) (tab (stepAt (now (recipe .entry))) (k + 1) (left - 1)) (rowsTaken k (lentAt width offsets large rows rstart values elements estart) (lentFront width «from_offsets» «from_large» «from_rows» «from_values» «from_elements» n m)) (rowsOf (lentAt width roffsets rlarge rrows «r_rstart» rvalues relements «r_estart»)) (shownBy (lentArgumentsFrom args bits start)) (roomAt width «to_offsets» «to_large» «to_rows» «to_values» «to_elements») (roomAt width «from_offsets» «from_large» «from_rows» «from_values» «from_elements»)) a «out_offsets» «out_large» «out_rows» «out_values» «out_elements» ⌝ }
+    ensures { λ a. ⌜ ListAnswersAt width (carried (limitsAt width) (stepAt (now (recipe .entry)) k) (tab (stepAt (now (recipe .entry))) (k + 1) (left - 1)) (rowsTaken k (lentAt width offsets large rows rstart values elements estart) (lentFront width «from_offsets» «from_large» «from_rows» «from_values» «from_elements» n m)) (rowsOf (lentAt width roffsets rlarge rrows «r_rstart» rvalues relements «r_estart»)) (columnAt (shownBy (lentArgumentsFrom args bits start)) pitch n) (roomAt width «to_offsets» «to_large» «to_rows» «to_values» «to_elements») (roomAt width «from_offsets» «from_large» «from_rows» «from_values» «from_elements»)) a «out_offsets» «out_large» «out_rows» «out_values» «out_elements» ⌝ }
 {
     if left == 1 {
         return step::step_at(
-            recipe, k, n, m,
+            recipe, k, n, m, pitch,
             offsets, rows, rstart, values, elements, estart,
             from_offsets, from_rows, from_values, from_elements,
             roffsets, rrows, r_rstart, rvalues, relements, r_estart,
@@ -42,7 +43,7 @@ pub fn steps<'a>(
         );
     }
     let answer = step::step_at(
-        recipe, k, n, m,
+        recipe, k, n, m, pitch,
         offsets, rows, rstart, values, elements, estart,
         from_offsets, from_rows, from_values, from_elements,
         roffsets, rrows, r_rstart, rvalues, relements, r_estart,
@@ -58,7 +59,7 @@ pub fn steps<'a>(
             null_rows: _,
             null_elements: _,
         } => steps(
-            recipe, k + 1, left - 1, n, made,
+            recipe, k + 1, left - 1, n, made, pitch,
             offsets, rows, rstart, values, elements, estart,
             roffsets, rrows, r_rstart, rvalues, relements, r_estart,
             args, bits, start,

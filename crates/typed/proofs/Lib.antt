@@ -2,3 +2,4 @@ pub mod TypedLaws
 pub mod RecipeLaws
 pub mod ReadBack
 pub mod LengthLaws
+pub mod WindowLaws

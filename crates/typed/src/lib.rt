@@ -2,6 +2,7 @@
 // refusal writes nothing. An inner crate: its callers meet what it asks.
 pub mod lengths;
 pub mod tallies;
+pub mod windows;
 
 use model::ListAnswer;
 use model::RepeatAnswer;

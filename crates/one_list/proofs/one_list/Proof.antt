@@ -45,15 +45,15 @@ takes-requires c κs = tt
 
 mul-a : tie.Need-mul-a
 unfolding LiesIn
-mul-a c = let s = S c in let h = s .pre .1 .1 .1 .first-in in omega (arith, s .good .1 .1 .1 .1 .1 .1 .1 .1 .1 .1 .1 .0)
+mul-a c = let s = S c in let h = s .pre .1 .1 .1 .first-in in omega (arith, s .good .1 .1 .1 .1 .1 .1 .1 .1 .1 .1 .1 .1 .0)
 
 mul-b : tie.Need-mul-b
 unfolding LiesIn
-mul-b c = let s = S c in let h = s .pre .1 .1 .1 .second-in in omega (arith, s .good .1 .1 .1 .1 .1 .1 .1 .1 .1 .1 .1 .0)
+mul-b c = let s = S c in let h = s .pre .1 .1 .1 .second-in in omega (arith, s .good .1 .1 .1 .1 .1 .1 .1 .1 .1 .1 .1 .1 .0)
 
 mul-c : tie.Need-mul-c
 unfolding LiesIn
-mul-c c = let s = S c in let h = s .pre .1 .1 .1 .third-in in omega (arith, s .good .1 .1 .1 .1 .1 .1 .1 .1 .1 .1 .1 .0)
+mul-c c = let s = S c in let h = s .pre .1 .1 .1 .third-in in omega (arith, s .good .1 .1 .1 .1 .1 .1 .1 .1 .1 .1 .1 .1 .0)
 
 column-values-requires : tie.Need-column-values-requires
 unfolding LiesIn
@@ -95,9 +95,9 @@ after-three-requires c κs =
     rw (s .pre .1 .0) (
       s .pre .0,
       record {
-        first = λ u. column-serves (A s) (s .pre .1 .1 .0) (s .args .first) (s .args .n) (ltb 0 (takesOf (s .args .op))) (s .pre .1 .1 .1 .first-in) (ap (λ (t : Arity). ltb 0 (t .columns)) (told w .takes .ensures)) (X w .before .before .column-values .ensures) (X w .before .bits-from .ensures) (X w .start-from .ensures) u false;
-        second = λ u. column-serves (A s) (s .pre .1 .1 .0) (s .args .second) (s .args .n) (ltb 1 (takesOf (s .args .op))) (s .pre .1 .1 .1 .second-in) (ap (λ (t : Arity). ltb 1 (t .columns)) (told w .takes .ensures)) (Y w .before .before .column-values2 .ensures) (Y w .before .bits-from2 .ensures) (Y w .start-from2 .ensures) u (secondLimit (s .args .op));
-        third = λ u. column-serves (A s) (s .pre .1 .1 .0) (s .args .third) (s .args .n) (ltb 2 (takesOf (s .args .op))) (s .pre .1 .1 .1 .third-in) (ap (λ (t : Arity). ltb 2 (t .columns)) (told w .takes .ensures)) (w .before .before .column-values3 .ensures) (w .before .bits-from3 .ensures) (w .start-from3 .ensures) u (thirdLimit (s .args .op));
+        first = λ u. column-serves (A s) (s .pre .1 .1 .0) (s .args .first) (s .args .pitch) (s .args .n) (ltb 0 (takesOf (s .args .op))) (s .pre .1 .1 .1 .first-in) (ap (λ (t : Arity). ltb 0 (t .columns)) (told w .takes .ensures)) (X w .before .before .column-values .ensures) (X w .before .bits-from .ensures) (X w .start-from .ensures) u false;
+        second = λ u. column-serves (A s) (s .pre .1 .1 .0) (s .args .second) (s .args .pitch) (s .args .n) (ltb 1 (takesOf (s .args .op))) (s .pre .1 .1 .1 .second-in) (ap (λ (t : Arity). ltb 1 (t .columns)) (told w .takes .ensures)) (Y w .before .before .column-values2 .ensures) (Y w .before .bits-from2 .ensures) (Y w .start-from2 .ensures) u (secondLimit (s .args .op));
+        third = λ u. column-serves (A s) (s .pre .1 .1 .0) (s .args .third) (s .args .pitch) (s .args .n) (ltb 2 (takesOf (s .args .op))) (s .pre .1 .1 .1 .third-in) (ap (λ (t : Arity). ltb 2 (t .columns)) (told w .takes .ensures)) (w .before .before .column-values3 .ensures) (w .before .bits-from3 .ensures) (w .start-from3 .ensures) u (thirdLimit (s .args .op));
       },
     )
 
@@ -121,9 +121,9 @@ returns c =
     let w = cut (called c .before) in
     let s = S (told w) in
     rw (← call-same (s .args .op) (rowsOf (column (used (s .args .width) (s .args .offsets .now) (s .args .large .now)) (from (s .args .rstart) (s .args .rows .now)) (s .args .values .now) (from (s .args .estart) (s .args .elements .now))))
-    (λ u. column-shown (A s) (s .pre .1 .1 .0) (s .args .first) (s .args .n) (ltb 0 (takesOf (s .args .op))) (s .pre .1 .1 .1 .first-in) (ap (λ (t : Arity). ltb 0 (t .columns)) (told w .takes .ensures)) (X w .before .before .column-values .ensures) (X w .before .bits-from .ensures) (X w .start-from .ensures) u)
-    (λ u. column-shown (A s) (s .pre .1 .1 .0) (s .args .second) (s .args .n) (ltb 1 (takesOf (s .args .op))) (s .pre .1 .1 .1 .second-in) (ap (λ (t : Arity). ltb 1 (t .columns)) (told w .takes .ensures)) (Y w .before .before .column-values2 .ensures) (Y w .before .bits-from2 .ensures) (Y w .start-from2 .ensures) u)
-    (λ u. column-shown (A s) (s .pre .1 .1 .0) (s .args .third) (s .args .n) (ltb 2 (takesOf (s .args .op))) (s .pre .1 .1 .1 .third-in) (ap (λ (t : Arity). ltb 2 (t .columns)) (told w .takes .ensures)) (w .before .before .column-values3 .ensures) (w .before .bits-from3 .ensures) (w .start-from3 .ensures) u))
+    (λ u. column-shown (A s) (s .pre .1 .1 .0) (s .args .first) (s .args .pitch) (s .args .n) (ltb 0 (takesOf (s .args .op))) (s .pre .1 .1 .1 .first-in) (ap (λ (t : Arity). ltb 0 (t .columns)) (told w .takes .ensures)) (X w .before .before .column-values .ensures) (X w .before .bits-from .ensures) (X w .start-from .ensures) u)
+    (λ u. column-shown (A s) (s .pre .1 .1 .0) (s .args .second) (s .args .pitch) (s .args .n) (ltb 1 (takesOf (s .args .op))) (s .pre .1 .1 .1 .second-in) (ap (λ (t : Arity). ltb 1 (t .columns)) (told w .takes .ensures)) (Y w .before .before .column-values2 .ensures) (Y w .before .bits-from2 .ensures) (Y w .start-from2 .ensures) u)
+    (λ u. column-shown (A s) (s .pre .1 .1 .0) (s .args .third) (s .args .pitch) (s .args .n) (ltb 2 (takesOf (s .args .op))) (s .pre .1 .1 .1 .third-in) (ap (λ (t : Arity). ltb 2 (t .columns)) (told w .takes .ensures)) (w .before .before .column-values3 .ensures) (w .before .bits-from3 .ensures) (w .start-from3 .ensures) u))
     (called c .after-three .ensures)
 
 pub one-list-spec : {M : Type 1} → statement M

@@ -1,10 +1,12 @@
+use Prim.Native.Nat.{ℕ}
 use mathlib.Core.Path.{_≡_, sym, _∙_}
+use mathlib.Core.List.{List}
 use lib.ListN.{length}
 use Rattle.model.specs.Bitmap.{from}
 use Rattle.model.specs.Widths.{used}
-use Rattle.model.specs.Column.{Column, column, Arguments, arguments, rowsOf, shownBy}
+use Rattle.model.specs.Column.{Elem, Column, column, arguments, rowsOf, shownBy}
 use Rattle.model.specs.Recipe.{Step}
-use Rattle.model.proofs.ColumnLaws.{length-rows}
+use Rattle.one_list.specs.Uses.{columnAt}
 use Rattle.step.specs.Step.{opUses}
 use Rattle.codes.specs.Codes as codes
 use Rattle.step.proofs.StepLaws.{step-one, step-two, uses-none, uses-one}
@@ -36,8 +38,8 @@ C s = let a = s .args in column (used (a .width) (a .offsets .now) (a .large .no
 abbrev D : tie.Start → Column
 D s = let a = s .args in column (used (a .width) (a .roffsets .now) (a .rlarge .now)) (from (a .r-rstart) (a .rrows .now)) (a .rvalues .now) (from (a .r-estart) (a .relements .now))
 
-abbrev A : tie.Start → Arguments
-A s = arguments (s .args .args .now) (from (s .args .start) (s .args .bits .now))
+abbrev Cols : tie.Start → ℕ → List Elem
+Cols s = columnAt (shownBy (arguments (s .args .args .now) (from (s .args .start) (s .args .bits .now)))) (s .args .pitch) (s .args .n)
 
 abbrev T : tie.Start → Step
 T s = let a = s .args in codes.step (a .code) (a .first) (a .second) (a .third)
@@ -55,7 +57,7 @@ one-list-requires c κs =
     let m = one c .before .before in
     let s = S m in
     let a = s .args in
-    (s .pre .0, (s .pre .1 .0, (s .pre .1 .1 .0 .bits, uses-one (T s) (a .n) (length (a .args .now)) _ _ (m .operation-of .ensures) (one c .op .given .1) (s .pre .1 .1 .1 .uses))))
+    (s .pre .0, (s .pre .1 .0, (s .pre .1 .1 .0 .bits, uses-one (T s) (a .pitch) (a .n) (length (a .args .now)) _ _ (m .operation-of .ensures) (one c .op .given .1) (s .pre .1 .1 .1 .uses))))
 
 enum-known-op-2 : tie.Need-enum-known-op-2
 enum-known-op-2 c = search
@@ -87,7 +89,7 @@ returns c =
     let t = one (w .before) in
     let m = t .before .before in
     let s = S m in
-    rw (step-one (T s) (rowsOf (C s)) (rowsOf (D s)) (shownBy (A s)) _ (s .args .n) (sym (m .operation-of .ensures) ∙ t .op .given .1) (length-rows (D s) ∙ s .pre .1 .1 .0 .rows)) (w .one-list .ensures)
+    rw (step-one (T s) (rowsOf (C s)) (rowsOf (D s)) (Cols s) _ (sym (m .operation-of .ensures) ∙ t .op .given .1)) (w .one-list .ensures)
 
 same-length-6 : tie.Need-same-length-6
 same-length-6 c = search
@@ -110,13 +112,13 @@ returns-2 c =
     let t = two (w .before) in
     let m = t .before .before in
     let s = S m in
-    rw (step-two (T s) (rowsOf (C s)) (rowsOf (D s)) (shownBy (A s)) _ (sym (m .operation-of .ensures) ∙ t .op2 .given .1)) (w .after-three .ensures)
+    rw (step-two (T s) (rowsOf (C s)) (rowsOf (D s)) (Cols s) _ (sym (m .operation-of .ensures) ∙ t .op2 .given .1)) (w .after-three .ensures)
 
 returns-3 : tie.Need-returns-3
 returns-3 c =
     let m = c .before .before in
     let s = S m in
-    absurd (uses-none (T s) (s .args .n) (length (s .args .args .now)) _ (m .operation-of .ensures) (c .enum-told .given .1) (s .pre .1 .1 .1 .uses))
+    absurd (uses-none (T s) (s .args .pitch) (s .args .n) (length (s .args .args .now)) _ (m .operation-of .ensures) (c .enum-told .given .1) (s .pre .1 .1 .1 .uses))
 
 pub step-spec : {M : Type 1} → statement M
 step-spec =

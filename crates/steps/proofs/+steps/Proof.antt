@@ -13,6 +13,7 @@ use Rattle.model.specs.Form.{Room}
 use Rattle.model.specs.Recipe.{Step, stepAt}
 use Rattle.model.proofs.WidthLaws.{used-kept}
 use Rattle.column.proofs.AnswerLaws.{list-refused}
+use Rattle.one_list.specs.Uses.{columnAt}
 use Rattle.step.specs.Step.{front, rowsTaken}
 use Rattle.steps.proofs.ChainLaws.{answer-refused, rows-kept, chain-last, chain-refused, chain-on, Carried, carries, taken-rows, taken-next, next-rows, same-room, step-fits, step-there, none-left, more-left, next-steps}
 use borrow.Fn.Kinds.{In}
@@ -83,8 +84,8 @@ module _ (t : ℕ) where
   abbrev Rs : steps-lts.Start (Cs t) (steps-at t) steps.Post → List Row
   Rs s = let a = s .args in rowsOf (column (used (a .width) (a .roffsets .now) (a .rlarge .now)) (from (a .r-rstart) (a .rrows .now)) (a .rvalues .now) (from (a .r-estart) (a .relements .now)))
 
-  abbrev Es : steps-lts.Start (Cs t) (steps-at t) steps.Post → List Elem
-  Es s = let a = s .args in shownBy (arguments (a .args .now) (from (a .start) (a .bits .now)))
+  abbrev Es : steps-lts.Start (Cs t) (steps-at t) steps.Post → ℕ → List Elem
+  Es s = let a = s .args in columnAt (shownBy (arguments (a .args .now) (from (a .start) (a .bits .now)))) (a .pitch) (a .n)
 
   abbrev To : steps-lts.Start (Cs t) (steps-at t) steps.Post → Room
   To s = let a = s .args in room (length (used (a .width) (a .to-offsets .now) (a .to-large .now))) (length (a .to-rows .now)) (length (a .to-values .now)) (length (a .to-elements .now))
@@ -199,49 +200,49 @@ module _ (t : ℕ) where
       list-refused _ (chain-refused (N s) (Now s) (Next s) (Ws s) (Rs s) (Es s) (To s) (From s) (Out s) _ _ _ (more-left (s .pre .1 .0) (m .if1 .left)) (answer-refused _ _ _ (c .before .answer .given .1) (w .step-at2 .ensures .answer)))
 
   steps-same-length-21 : steps-lts.Need-same-length-21 (Cs t) (steps-at t) steps.Post
-  steps-same-length-21 c = went c .steps .kept .1 .1 .1 .1 .1 .1 .1 .1 .1 .1 .1 .1 .1 .1 .1 .1 .1 .1 .1 .1 .1 .1 .1 .1 .0
+  steps-same-length-21 c = went c .steps .kept .1 .1 .1 .1 .1 .1 .1 .1 .1 .1 .1 .1 .1 .1 .1 .1 .1 .1 .1 .1 .1 .1 .1 .1 .1 .0
 
   steps-same-length-22 : steps-lts.Need-same-length-22 (Cs t) (steps-at t) steps.Post
-  steps-same-length-22 c = went c .steps .kept .1 .1 .1 .1 .1 .1 .1 .1 .1 .1 .1 .1 .1 .1 .1 .1 .1 .1 .1 .1 .1 .1 .1 .1 .1 .0
+  steps-same-length-22 c = went c .steps .kept .1 .1 .1 .1 .1 .1 .1 .1 .1 .1 .1 .1 .1 .1 .1 .1 .1 .1 .1 .1 .1 .1 .1 .1 .1 .1 .0
 
   steps-same-length-23 : steps-lts.Need-same-length-23 (Cs t) (steps-at t) steps.Post
-  steps-same-length-23 c = went c .steps .kept .1 .1 .1 .1 .1 .1 .1 .1 .1 .1 .1 .1 .1 .1 .1 .1 .1 .1 .1 .1 .1 .1 .1 .1 .1 .1 .0
+  steps-same-length-23 c = went c .steps .kept .1 .1 .1 .1 .1 .1 .1 .1 .1 .1 .1 .1 .1 .1 .1 .1 .1 .1 .1 .1 .1 .1 .1 .1 .1 .1 .1 .0
 
   steps-same-length-24 : steps-lts.Need-same-length-24 (Cs t) (steps-at t) steps.Post
-  steps-same-length-24 c = went c .steps .kept .1 .1 .1 .1 .1 .1 .1 .1 .1 .1 .1 .1 .1 .1 .1 .1 .1 .1 .1 .1 .1 .1 .1 .1 .1 .1 .1 .0
+  steps-same-length-24 c = went c .steps .kept .1 .1 .1 .1 .1 .1 .1 .1 .1 .1 .1 .1 .1 .1 .1 .1 .1 .1 .1 .1 .1 .1 .1 .1 .1 .1 .1 .1 .0
 
   steps-same-length-25 : steps-lts.Need-same-length-25 (Cs t) (steps-at t) steps.Post
-  steps-same-length-25 c = went c .steps .kept .1 .1 .1 .1 .1 .1 .1 .1 .1 .1 .1 .1 .1 .1 .1 .1 .1 .1 .1 .1 .0 ∙ taken (counted (went c .before) .before .before) .step-at2 .kept .1 .1 .1 .1 .1 .1 .1 .1 .1 .1 .1 .1 .1 .1 .1 .1 .1 .1 .1 .1 .1 .1 .1 .0
+  steps-same-length-25 c = went c .steps .kept .1 .1 .1 .1 .1 .1 .1 .1 .1 .1 .1 .1 .1 .1 .1 .1 .1 .1 .1 .1 .1 .0 ∙ taken (counted (went c .before) .before .before) .step-at2 .kept .1 .1 .1 .1 .1 .1 .1 .1 .1 .1 .1 .1 .1 .1 .1 .1 .1 .1 .1 .1 .1 .1 .1 .1 .0
 
   steps-same-length-26 : steps-lts.Need-same-length-26 (Cs t) (steps-at t) steps.Post
-  steps-same-length-26 c = went c .steps .kept .1 .1 .1 .1 .1 .1 .1 .1 .1 .1 .1 .1 .1 .1 .1 .1 .1 .1 .1 .1 .1 .0 ∙ taken (counted (went c .before) .before .before) .step-at2 .kept .1 .1 .1 .1 .1 .1 .1 .1 .1 .1 .1 .1 .1 .1 .1 .1 .1 .1 .1 .1 .1 .1 .1 .1 .0
+  steps-same-length-26 c = went c .steps .kept .1 .1 .1 .1 .1 .1 .1 .1 .1 .1 .1 .1 .1 .1 .1 .1 .1 .1 .1 .1 .1 .1 .0 ∙ taken (counted (went c .before) .before .before) .step-at2 .kept .1 .1 .1 .1 .1 .1 .1 .1 .1 .1 .1 .1 .1 .1 .1 .1 .1 .1 .1 .1 .1 .1 .1 .1 .1 .0
 
   steps-same-length-27 : steps-lts.Need-same-length-27 (Cs t) (steps-at t) steps.Post
-  steps-same-length-27 c = went c .steps .kept .1 .1 .1 .1 .1 .1 .1 .1 .1 .1 .1 .1 .1 .1 .1 .1 .1 .1 .1 .1 .1 .1 .0 ∙ taken (counted (went c .before) .before .before) .step-at2 .kept .1 .1 .1 .1 .1 .1 .1 .1 .1 .1 .1 .1 .1 .1 .1 .1 .1 .1 .1 .1 .1 .1 .1 .1 .1 .0
+  steps-same-length-27 c = went c .steps .kept .1 .1 .1 .1 .1 .1 .1 .1 .1 .1 .1 .1 .1 .1 .1 .1 .1 .1 .1 .1 .1 .1 .1 .0 ∙ taken (counted (went c .before) .before .before) .step-at2 .kept .1 .1 .1 .1 .1 .1 .1 .1 .1 .1 .1 .1 .1 .1 .1 .1 .1 .1 .1 .1 .1 .1 .1 .1 .1 .1 .0
 
   steps-same-length-28 : steps-lts.Need-same-length-28 (Cs t) (steps-at t) steps.Post
-  steps-same-length-28 c = went c .steps .kept .1 .1 .1 .1 .1 .1 .1 .1 .1 .1 .1 .1 .1 .1 .1 .1 .1 .1 .1 .1 .1 .1 .1 .0 ∙ taken (counted (went c .before) .before .before) .step-at2 .kept .1 .1 .1 .1 .1 .1 .1 .1 .1 .1 .1 .1 .1 .1 .1 .1 .1 .1 .1 .1 .1 .1 .1 .1 .1 .1 .0
+  steps-same-length-28 c = went c .steps .kept .1 .1 .1 .1 .1 .1 .1 .1 .1 .1 .1 .1 .1 .1 .1 .1 .1 .1 .1 .1 .1 .1 .1 .1 .0 ∙ taken (counted (went c .before) .before .before) .step-at2 .kept .1 .1 .1 .1 .1 .1 .1 .1 .1 .1 .1 .1 .1 .1 .1 .1 .1 .1 .1 .1 .1 .1 .1 .1 .1 .1 .1 .0
 
   steps-same-length-29 : steps-lts.Need-same-length-29 (Cs t) (steps-at t) steps.Post
-  steps-same-length-29 c = went c .steps .kept .1 .1 .1 .1 .1 .1 .1 .1 .1 .1 .1 .1 .1 .1 .1 .1 .1 .1 .1 .1 .1 .1 .1 .1 .1 .1 .1 .1 .0
+  steps-same-length-29 c = went c .steps .kept .1 .1 .1 .1 .1 .1 .1 .1 .1 .1 .1 .1 .1 .1 .1 .1 .1 .1 .1 .1 .1 .1 .1 .1 .1 .1 .1 .1 .1 .0
 
   steps-same-length-30 : steps-lts.Need-same-length-30 (Cs t) (steps-at t) steps.Post
-  steps-same-length-30 c = went c .steps .kept .1 .1 .1 .1 .1 .1 .1 .1 .1 .1 .1 .1 .1 .1 .1 .1 .1 .1 .1 .1 .1 .1 .1 .1 .1 .1 .1 .1 .1 .0
+  steps-same-length-30 c = went c .steps .kept .1 .1 .1 .1 .1 .1 .1 .1 .1 .1 .1 .1 .1 .1 .1 .1 .1 .1 .1 .1 .1 .1 .1 .1 .1 .1 .1 .1 .1 .1 .0
 
   steps-same-length-31 : steps-lts.Need-same-length-31 (Cs t) (steps-at t) steps.Post
-  steps-same-length-31 c = went c .steps .kept .1 .1 .1 .1 .1 .1 .1 .1 .1 .1 .1 .1 .1 .1 .1 .1 .1 .1 .1 .1 .1 .1 .1 .1 .1 .1 .1 .1 .1 .1 .0
+  steps-same-length-31 c = went c .steps .kept .1 .1 .1 .1 .1 .1 .1 .1 .1 .1 .1 .1 .1 .1 .1 .1 .1 .1 .1 .1 .1 .1 .1 .1 .1 .1 .1 .1 .1 .1 .1 .0
 
   steps-same-length-32 : steps-lts.Need-same-length-32 (Cs t) (steps-at t) steps.Post
-  steps-same-length-32 c = went c .steps .kept .1 .1 .1 .1 .1 .1 .1 .1 .1 .1 .1 .1 .1 .1 .1 .1 .1 .1 .1 .1 .1 .1 .1 .1 .1 .1 .1 .1 .1 .1 .1 .0
+  steps-same-length-32 c = went c .steps .kept .1 .1 .1 .1 .1 .1 .1 .1 .1 .1 .1 .1 .1 .1 .1 .1 .1 .1 .1 .1 .1 .1 .1 .1 .1 .1 .1 .1 .1 .1 .1 .1 .0
 
   steps-same-length-33 : steps-lts.Need-same-length-33 (Cs t) (steps-at t) steps.Post
-  steps-same-length-33 c = went c .steps .kept .1 .1 .1 .1 .1 .1 .1 .1 .1 .1 .1 .1 .1 .1 .1 .1 .1 .1 .1 .1 .1 .1 .1 .1 .1 .1 .1 .1 .1 .1 .1 .1 .1 .1 .1 .1 .0
+  steps-same-length-33 c = went c .steps .kept .1 .1 .1 .1 .1 .1 .1 .1 .1 .1 .1 .1 .1 .1 .1 .1 .1 .1 .1 .1 .1 .1 .1 .1 .1 .1 .1 .1 .1 .1 .1 .1 .1 .1 .1 .1 .1 .0
 
   steps-same-length-34 : steps-lts.Need-same-length-34 (Cs t) (steps-at t) steps.Post
-  steps-same-length-34 c = went c .steps .kept .1 .1 .1 .1 .1 .1 .1 .1 .1 .1 .1 .1 .1 .1 .1 .1 .1 .1 .1 .1 .1 .1 .1 .1 .1 .1 .1 .1 .1 .1 .1 .1 .1 .1 .1 .0 ∙ taken (counted (went c .before) .before .before) .step-at2 .kept .1 .1 .1 .1 .1 .1 .1 .1 .1 .1 .1 .1 .1 .1 .1 .1 .1 .1 .1 .1 .1 .1 .1 .1 .1 .1 .1 .1 .1 .1 .1 .0
+  steps-same-length-34 c = went c .steps .kept .1 .1 .1 .1 .1 .1 .1 .1 .1 .1 .1 .1 .1 .1 .1 .1 .1 .1 .1 .1 .1 .1 .1 .1 .1 .1 .1 .1 .1 .1 .1 .1 .1 .1 .1 .1 .0 ∙ taken (counted (went c .before) .before .before) .step-at2 .kept .1 .1 .1 .1 .1 .1 .1 .1 .1 .1 .1 .1 .1 .1 .1 .1 .1 .1 .1 .1 .1 .1 .1 .1 .1 .1 .1 .1 .1 .1 .1 .1 .0
 
   steps-same-length-35 : steps-lts.Need-same-length-35 (Cs t) (steps-at t) steps.Post
-  steps-same-length-35 c = went c .steps .kept .1 .1 .1 .1 .1 .1 .1 .1 .1 .1 .1 .1 .1 .1 .1 .1 .1 .1 .1 .1 .1 .1 .1 .1 .1 .1 .1 .1 .1 .1 .1 .1 .1 .1 .1 .1 .1 .0
+  steps-same-length-35 c = went c .steps .kept .1 .1 .1 .1 .1 .1 .1 .1 .1 .1 .1 .1 .1 .1 .1 .1 .1 .1 .1 .1 .1 .1 .1 .1 .1 .1 .1 .1 .1 .1 .1 .1 .1 .1 .1 .1 .1 .1 .0
 
   steps-returns-3 : steps-lts.Need-returns-3 (Cs t) (steps-at t) steps.Post
   steps-returns-3 c =
@@ -250,7 +251,7 @@ module _ (t : ℕ) where
       let m = more (w .before) in
       let s = S (m .before) in
       let k = carries _ _ (s .args .n) _ _ _ _ (w .step-at2 .ensures) (q .answer2 .given .1) (λ ws e. rows-kept (N s) (Now s) (Ws s) (Rs s) (Es s) (To s) ws e ∙ taken-rows (s .pre .1 .1 .0)) in
-      let l = same-room (used-kept (s .args .width) _ _ _ _ (w .step-at2 .kept .1 .1 .1 .1 .1 .1 .1 .1 .1 .1 .1 .1 .1 .1 .1 .1 .1 .1 .1 .1 .1 .1 .1 .0) (w .step-at2 .kept .1 .1 .1 .1 .1 .1 .1 .1 .1 .1 .1 .1 .1 .1 .1 .1 .1 .1 .1 .1 .1 .1 .1 .1 .1 .1 .1 .1 .1 .1 .1 .0)) (w .step-at2 .kept .1 .1 .1 .1 .1 .1 .1 .1 .1 .1 .1 .1 .1 .1 .1 .1 .1 .1 .1 .1 .1 .1 .1 .1 .0) (w .step-at2 .kept .1 .1 .1 .1 .1 .1 .1 .1 .1 .1 .1 .1 .1 .1 .1 .1 .1 .1 .1 .1 .1 .1 .1 .1 .1 .0) (w .step-at2 .kept .1 .1 .1 .1 .1 .1 .1 .1 .1 .1 .1 .1 .1 .1 .1 .1 .1 .1 .1 .1 .1 .1 .1 .1 .1 .1 .0) in
+      let l = same-room (used-kept (s .args .width) _ _ _ _ (w .step-at2 .kept .1 .1 .1 .1 .1 .1 .1 .1 .1 .1 .1 .1 .1 .1 .1 .1 .1 .1 .1 .1 .1 .1 .1 .1 .0) (w .step-at2 .kept .1 .1 .1 .1 .1 .1 .1 .1 .1 .1 .1 .1 .1 .1 .1 .1 .1 .1 .1 .1 .1 .1 .1 .1 .1 .1 .1 .1 .1 .1 .1 .1 .0)) (w .step-at2 .kept .1 .1 .1 .1 .1 .1 .1 .1 .1 .1 .1 .1 .1 .1 .1 .1 .1 .1 .1 .1 .1 .1 .1 .1 .1 .0) (w .step-at2 .kept .1 .1 .1 .1 .1 .1 .1 .1 .1 .1 .1 .1 .1 .1 .1 .1 .1 .1 .1 .1 .1 .1 .1 .1 .1 .1 .0) (w .step-at2 .kept .1 .1 .1 .1 .1 .1 .1 .1 .1 .1 .1 .1 .1 .1 .1 .1 .1 .1 .1 .1 .1 .1 .1 .1 .1 .1 .1 .0) in
       chain-on (N s) (Now s) (Next s) (Ws s) (Rs s) (Es s) (To s) (From s) (Out s) _ _ (more-left (s .pre .1 .0) (m .if1 .left)) (k .is) (next-rows (s .args .k) (C s) _ ∙ k .shown) l (went c .steps .ensures)
 
 pub +steps-spec : {M : Type 1} → statement M

@@ -28,7 +28,7 @@ const GUARD_BYTES: [u8; 8] = [0xa5; 8];
 
 /// Slices of one side of a call in one buffer, with guard bytes around each.
 #[derive(Clone, PartialEq)]
-struct Arena {
+pub struct Arena {
     words: Vec<u64>,
     spans: Vec<Range<usize>>,
 }
@@ -44,7 +44,7 @@ fn place_from(end: usize, width: usize) -> usize {
 
 impl Arena {
     /// Slices with the width for which they are aligned.
-    fn new(slices: &[(&Vec<u8>, usize)]) -> Arena {
+    pub fn new(slices: &[(&Vec<u8>, usize)]) -> Arena {
         let mut end = GUARD;
         let mut spans = Vec::new();
         for (slice, width) in slices {
@@ -64,12 +64,12 @@ impl Arena {
         bytes_of(&self.words)
     }
 
-    fn slices(&self) -> Vec<&[u8]> {
+    pub fn slices(&self) -> Vec<&[u8]> {
         let bytes = self.bytes();
         self.spans.iter().map(|span| &bytes[span.clone()]).collect()
     }
 
-    fn slices_mut(&mut self) -> Vec<&mut [u8]> {
+    pub fn slices_mut(&mut self) -> Vec<&mut [u8]> {
         let mut slices = Vec::new();
         let mut rest = bytes_of_mut(&mut self.words);
         let mut at = 0;
@@ -97,7 +97,7 @@ impl Arena {
     }
 
     /// Writes bytes at the front of one slice.
-    fn write(&mut self, slice: usize, bytes: &[u8]) {
+    pub fn write(&mut self, slice: usize, bytes: &[u8]) {
         self.write_at(slice, 0, bytes);
     }
 
@@ -137,8 +137,9 @@ pub struct Checker<'a> {
     pub library: &'a Library,
     manner: Manner,
     group: String,
-    /// For the argument columns that a typed operation is lent and does not take.
-    rng: Rng,
+    /// For the argument columns that a typed operation is lent and does not take, and for k and the
+    /// grades of the calls of other groups.
+    pub rng: Rng,
     /// The calls that the group makes, each of them over bytes, typed or both.
     pub calls: u64,
     pub over_bytes: u64,
@@ -148,6 +149,8 @@ pub struct Checker<'a> {
     pub shares: bool,
     /// Whether calls are not made, but asked how much is to be lent for them.
     pub asks: bool,
+    /// Whether calls are not made as they are, but graded.
+    pub grades: bool,
     /// Whether it is recorded what the calls reach.
     pub records: bool,
     pub coverage: Coverage,
@@ -166,6 +169,7 @@ impl<'a> Checker<'a> {
             differences: 0,
             shares: false,
             asks: false,
+            grades: false,
             records: true,
             coverage: Coverage::default(),
         }
@@ -175,7 +179,12 @@ impl<'a> Checker<'a> {
         self.group = name.to_string();
         self.rng = Rng::new(0, name);
         (self.calls, self.over_bytes, self.typed, self.differences) = (0, 0, 0, 0);
-        (self.shares, self.asks) = (false, false);
+        (self.shares, self.asks, self.grades) = (false, false, false);
+    }
+
+    /// Whether each slice is lent as an allocation of its own.
+    pub fn is_apart(&self) -> bool {
+        self.manner.apart
     }
 
     /// Whether calls are made this way.
@@ -190,12 +199,12 @@ impl<'a> Checker<'a> {
         kind: &'static str,
         subject: impl Into<Cow<'static, str>>,
     ) {
-        if self.records && !self.asks {
+        if self.records && !self.asks && !self.grades {
             self.coverage.count(case.entry.name(), kind, subject);
         }
     }
 
-    fn begin_call(&mut self) {
+    pub fn begin_call(&mut self) {
         self.calls += 1;
         if self.manner.trace {
             eprintln!("{}: call {}", self.group, self.calls);
@@ -207,6 +216,9 @@ impl<'a> Checker<'a> {
     pub fn check(&mut self, case: &Case) -> Observed {
         if self.asks {
             return self.ask(case);
+        }
+        if self.grades {
+            return self.grade(case);
         }
         if case.entry.is_typed_only() {
             return self.check_typed_only(case);
@@ -247,6 +259,9 @@ impl<'a> Checker<'a> {
     pub fn check_typed(&mut self, case: &Case) -> Observed {
         if self.asks {
             return self.ask(case);
+        }
+        if self.grades {
+            return self.grade(case);
         }
         self.begin_call();
         let typed_case = self.typed_case(case);
@@ -460,7 +475,7 @@ impl<'a> Checker<'a> {
     }
 
     /// Prints the first difference of a group whole, and counts the rest.
-    fn report(&mut self, case: &Case, faults: &[String]) {
+    pub fn report(&mut self, case: &Case, faults: &[String]) {
         self.differences += 1;
         if self.differences > 1 {
             return;
@@ -566,7 +581,7 @@ impl<'a> Checker<'a> {
 }
 
 /// Lends the first of several inputs with equal bytes for all of them.
-fn share_equal(lent: &mut [&[u8]], case: &Case) {
+pub fn share_equal(lent: &mut [&[u8]], case: &Case) {
     let widths: Vec<usize> = case.entry.inputs().iter().map(|kind| kind.typed_width()).collect();
     for at in 1..lent.len() {
         let is_equal = |one: &usize| widths[*one] == widths[at] && lent[*one] == lent[at];
@@ -583,7 +598,7 @@ fn value_slots(case: &Case, expected: &Expected) -> Range<usize> {
 }
 
 /// Takes the null slots of the result as they are, for nulls are compared by bitmap.
-fn leave_nulls(case: &Case, expected: &Expected, wanted: &mut Arena, after: &Arena) {
+pub fn leave_nulls(case: &Case, expected: &Expected, wanted: &mut Arena, after: &Arena) {
     let (values, bits) = case.entry.value_slices();
     let slices = after.slices();
     for slot in value_slots(case, expected) {
@@ -594,7 +609,7 @@ fn leave_nulls(case: &Case, expected: &Expected, wanted: &mut Arena, after: &Are
 }
 
 /// The slots that the library's own bitmap calls null, and that hold another number.
-fn null_slot_faults(case: &Case, expected: &Expected, after: &Arena) -> Vec<String> {
+pub fn null_slot_faults(case: &Case, expected: &Expected, after: &Arena) -> Vec<String> {
     let (values, bits) = case.entry.value_slices();
     let slices = after.slices();
     let value = |slot: usize| decode_i64(&slices[values][8 * slot..][..8])[0];
@@ -605,7 +620,7 @@ fn null_slot_faults(case: &Case, expected: &Expected, after: &Arena) -> Vec<Stri
     fault.into_iter().collect()
 }
 
-fn observed(case: &Case, number: u32, after: &Arena) -> Observed {
+pub fn observed(case: &Case, number: u32, after: &Arena) -> Observed {
     let slices = after.slices();
     let (counts, outputs) = slices.split_last().expect("counts are always lent");
     let tally = outputs.get(TALLY).filter(|bytes| bytes.len() >= TALLY_BYTES);
@@ -629,7 +644,12 @@ fn observed(case: &Case, number: u32, after: &Arena) -> Observed {
 // Printing.
 
 /// Where the outputs are not what they should be.
-fn output_faults(case: &Case, expected: &Expected, wanted: &Arena, after: &Arena) -> Vec<String> {
+pub fn output_faults(
+    case: &Case,
+    expected: &Expected,
+    wanted: &Arena,
+    after: &Arena,
+) -> Vec<String> {
     let mut faults = Vec::new();
     let mut written: Vec<usize> = expected.written.iter().map(Vec::len).collect();
     written.resize(case.outputs.len(), 0);

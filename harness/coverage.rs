@@ -10,6 +10,7 @@ use crate::entry::{decode_i64, decode_offsets};
 use crate::entry::{Case, Content, Entry, Expected, Input, Kind, SliceKind};
 use crate::entry::{NOT_SERVED, TALLY, TALLY_BYTES, TRAYS};
 use crate::generate::{Column, Harm};
+use crate::grade_coverage;
 use crate::library::Library;
 use crate::model::{
     self, is_valid, ArgumentColumn, Bitmap, Element, ListColumn, Made, Operation, Role, Row, Shown,
@@ -1556,6 +1557,11 @@ impl Coverage {
                 if !self.reached(entry.name(), kind, &subject) {
                     missing.push(format!("{}: {kind} {subject}", entry.name()));
                 }
+            }
+        }
+        for (name, kind, subject) in grade_coverage::demanded(library) {
+            if !self.reached(name, kind, &subject) {
+                missing.push(format!("{name}: {kind} {subject}"));
             }
         }
         let mut unknown = vec![("unknown", "answer", "102"), ("unknown", "typed", FOR_CODE)];

@@ -17,6 +17,7 @@ pub const LIBRARY: Library = Library {
     recipe: Some(recipe),
     typed: None,
     large: None,
+    grades: None,
     views: None,
     windows: None,
 };

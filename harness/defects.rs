@@ -1,7 +1,9 @@
 //! The names of the deliberately wrong versions of the library, which mock.rs, mock_rows.rs,
-//! mock_recipe.rs, mock_typed.rs, mock_lending.rs, mock_views.rs and mock_windows.rs ask for.
+//! mock_recipe.rs, mock_typed.rs, mock_lending.rs, mock_views.rs, mock_windows.rs and mock_grades.rs
+//! ask for.
 
 use crate::entry::{Content, Entry};
+use crate::mock_grades::{COLUMN_DEFECTS as GRADE_DEFECTS, RECIPE_DEFECTS as GRADE_RECIPE_DEFECTS};
 use crate::mock_views::{EXPORT_DEFECTS, IMPORT_DEFECTS};
 use crate::mock_windows::WINDOW_DEFECTS;
 use crate::model::Width;
@@ -263,6 +265,8 @@ const TYPED_DEFECTS: &[(By, &str, &[&str])] = &[
     (By::Large, "large remove", &["large-limits-cut-to-32-bits"]),
     (By::Large, "large list-repeat", LARGE_REPEAT_DEFECTS),
     (By::Large, "large recipe", LARGE_RECIPE_DEFECTS),
+    (By::Typed, "grade", GRADE_DEFECTS),
+    (By::Typed, "grade recipe", GRADE_RECIPE_DEFECTS),
     (By::Typed, "import view", IMPORT_DEFECTS),
     (By::Typed, "export view", EXPORT_DEFECTS),
     (By::Typed, "recipe rows", WINDOW_DEFECTS),

@@ -7,8 +7,11 @@ use crate::entry::{MOST_ROWS, MOST_VALUES, TALLY, TALLY_BYTES};
 use crate::exhaustive::{every_argument, every_limit_length, every_sum};
 use crate::exhaustive::{short_columns, short_offsets};
 use crate::generate::*;
+use crate::grade_groups;
+use crate::grades;
 use crate::large;
 use crate::lending_groups;
+use crate::library::Library;
 use crate::model::{Role, Row, Shown, Width};
 use crate::no_offsets;
 use crate::pairs;
@@ -32,6 +35,8 @@ pub struct Group {
     pub typed: bool,
     /// Whether it asks how much is to be lent for the calls of another group.
     asks: bool,
+    /// Whether its calls are graded.
+    grades: bool,
     run: Run,
     /// Its part of the random calls, in shares.
     shares: u64,
@@ -170,6 +175,7 @@ pub fn all() -> Vec<Group> {
         groups.push(Group::new(kind.at(Width::Narrow), name, unknown_operations, 1, false));
     }
     groups.extend(of_width(Width::Wide));
+    groups.extend(of_grades());
     groups.extend(of_views());
     for (name, run, shares) in window_groups::ALL {
         let name = format!("{}: {name}", Entry::RECIPE_ROWS.name());
@@ -198,6 +204,40 @@ fn of_views() -> Vec<Group> {
     }
     for (name, run) in TYPED_FOR_EACH.into_iter().filter(|(name, _)| !name.contains(" to lend, ")) {
         add(Entry::EXPORT, name, run, 0);
+    }
+    groups
+}
+
+/// The groups of grading, all of whose calls are typed: those of its own, and some of export and of
+/// recipes, whose columns and recipes are graded instead.
+fn of_grades() -> Vec<Group> {
+    let mut groups = Vec::new();
+    let mut add = |entry: Entry, name: &str, run: Run, shares: u64| {
+        let name = format!("{}: {name}", grades::name(entry));
+        groups.push(Group::new(entry, name, run, shares, true));
+    };
+    let (columns, recipes) = (Entry::EXPORT, Entry::recipes(Width::Narrow));
+    let is_graded = |name: &str| grade_groups::GRADED.contains(&name);
+    for (name, run) in grade_groups::OF_COLUMNS {
+        add(columns, name, run, 0);
+    }
+    for (name, _, run, shares) in FOR_EACH.into_iter().filter(|(name, ..)| is_graded(name)) {
+        add(columns, name, run, shares);
+    }
+    for (name, run) in TYPED_FOR_EACH.into_iter().filter(|(name, _)| is_graded(name)) {
+        add(columns, name, run, 0);
+    }
+    for (name, run) in grade_groups::OF_RECIPES {
+        add(recipes, name, run, 0);
+    }
+    let own = recipe_groups::ALL.into_iter();
+    for (name, run, shares) in own.filter(|(name, ..)| grade_groups::GRADED_RECIPES.contains(name))
+    {
+        add(recipes, name, run, shares);
+    }
+    let typed = TYPED_OF_RECIPES.into_iter();
+    for (name, run) in typed.filter(|(name, _)| grade_groups::GRADED_RECIPES.contains(name)) {
+        add(recipes, name, run, 0);
     }
     groups
 }
@@ -266,7 +306,8 @@ const CODED: [(&str, Kind); 3] = [
 impl Group {
     fn new(entry: Entry, name: String, run: Run, shares: u64, typed: bool) -> Group {
         let asks = name.contains(": asked, ");
-        Group { name, entry, typed, asks, run, shares }
+        let grades = name.starts_with(grades::name(Entry::EXPORT));
+        Group { name, entry, typed, asks, grades, run, shares }
     }
 
     /// Whether the group is one of those that this operation has.
@@ -277,6 +318,11 @@ impl Group {
     /// Whether it is one of those for how much to lend.
     pub fn is_lending(&self) -> bool {
         self.asks || self.name.contains(" to lend, ")
+    }
+
+    /// Whether the library has the entries that its calls are for.
+    pub fn is_in(&self, library: &Library) -> bool {
+        library.has(self.entry) && (library.grades.is_some() || !self.grades)
     }
 
     /// Whether it is one of those of large lists.
@@ -291,7 +337,7 @@ impl Group {
         let shares: u64 = made.map(|group| group.shares).sum();
         let calls = random_calls * self.shares / shares / if self.asks { 4 } else { 1 };
         checker.start_group(&self.name);
-        checker.asks = self.asks;
+        (checker.asks, checker.grades) = (self.asks, self.grades);
         (self.run)(checker, self.entry, &mut Rng::new(seed, &self.name), calls);
     }
 }

@@ -1,11 +1,12 @@
 //! A library under test: the byte entries as safe functions on byte slices, and the typed entries,
-//! those of large lists, of ListView columns and of recipes over some of their rows too.
+//! those of large lists, of ListView columns, of recipes over some of their rows and of grades too.
 //! The port, the plain Rust and the mock each give one of these. A function on bytes takes the code,
 //! if there is one, or the station and the number of columns of a recipe, then the input slices and
 //! the output slices in the order in which `entry.rs` lists them, then the counts; between them come
 //! the starting bits of the bitmaps among the inputs. A library may lack entries.
 
 use crate::entry::{Entry, Kind};
+use crate::grades::Grades;
 use crate::model::Width;
 use crate::typed::{Typed, Views, Windows};
 
@@ -28,6 +29,7 @@ pub struct Library {
     pub recipe: Option<OfStation<11, 5, 13>>,
     pub typed: Option<Typed<i32>>,
     pub large: Option<Typed<i64>>,
+    pub grades: Option<Grades>,
     pub views: Option<Views>,
     pub windows: Option<Windows>,
 }
@@ -71,6 +73,7 @@ impl Library {
         recipe: None,
         typed: None,
         large: None,
+        grades: None,
         views: None,
         windows: None,
     };
@@ -96,13 +99,13 @@ impl Library {
     }
 
     /// Names the operations that the library has no entry for, if there are any, or recipes, over
-    /// all their rows or some, or ListView columns.
+    /// all their rows or some, ListView columns or grades.
     pub fn print_absent(&self) {
         let of_width = |width: Width| Entry::all(width).chain([Entry::recipes(width)]);
         let entries = Width::ALL.into_iter().flat_map(of_width);
         let entries = entries.chain([Entry::IMPORT, Entry::EXPORT, Entry::RECIPE_ROWS]);
         let absent = entries.filter(|entry| !self.has(*entry)).map(Entry::name);
-        let absent: Vec<&str> = absent.collect();
+        let absent: Vec<&str> = absent.chain(self.grades.is_none().then_some("grade")).collect();
         if !absent.is_empty() {
             println!("not run, no entry in the archive: {}", absent.join(", "));
         }

@@ -53,6 +53,11 @@
 //! A recipe over some of its rows has a typed entry alone, too. It is read in windows.rs, has its groups
 //! in window_groups.rs and what these must reach in window_coverage.rs; its wrong versions are in
 //! mock_windows.rs. `--operation 'recipe rows'` runs its groups.
+//!
+//! Grading has typed entries alone, for a column and for a recipe. Both are read in grades.rs, and
+//! graded calls are made there; their groups are in grade_groups.rs, beside which columns of export
+//! and recipes of other groups are graded. What these must reach is in grade_coverage.rs, the wrong
+//! versions are in mock_grades.rs. `--operation grade` and `--operation 'grade recipe'` run them.
 
 mod bench;
 mod compare;
@@ -64,6 +69,11 @@ mod entry;
 mod example;
 mod exhaustive;
 mod generate;
+mod grade_coverage;
+mod grade_groups;
+#[cfg(not(mock))]
+mod grade_port;
+mod grades;
 mod groups;
 mod large;
 mod lending;
@@ -71,6 +81,8 @@ mod lending_groups;
 mod library;
 #[cfg(mock)]
 mod mock;
+#[cfg(mock)]
+mod mock_grades;
 #[cfg(mock)]
 mod mock_lending;
 #[cfg(mock)]
@@ -88,6 +100,7 @@ mod no_offsets;
 mod numbers;
 mod pairs;
 mod plain;
+mod plain_grades;
 mod port;
 mod recipe_coverage;
 mod recipe_generate;
@@ -241,7 +254,7 @@ fn run_groups(checker: &mut Checker, options: &Options, tally: &mut Tally) {
     let wanted = groups::all().into_iter().filter(|group| options.wants(group));
     let (present, absent): (Vec<Group>, Vec<Group>) = wanted
         .filter(|group| typed || !group.typed)
-        .partition(|group| checker.library.has(group.entry));
+        .partition(|group| group.is_in(checker.library));
     if let ([], [group, ..]) = (&present[..], &absent[..]) {
         let name = options.operation.as_ref().unwrap_or(&group.name);
         tally.add(name, false, "not run, no entry in the archive".to_string());

@@ -5,6 +5,7 @@
 
 use crate::defects::{defect, is, NULL_ROWS};
 use crate::library::Library;
+use crate::mock_grades::GRADES;
 use crate::mock_recipe::recipe;
 use crate::mock_rows::{
     distinct, intersect, is_beyond, place_of, pop, remove, replace, resize, reverse, slice, union,
@@ -28,6 +29,7 @@ pub const LIBRARY: Library = Library {
     recipe: Some(recipe),
     typed: Some(typed()),
     large: Some(typed()),
+    grades: Some(GRADES),
     views: Some(VIEWS),
     windows: Some(WINDOWS),
 };

@@ -6,6 +6,7 @@
 
 use crate::library::Library;
 use crate::numbers::{bytes_of, Number};
+use crate::plain_grades::GRADES;
 use crate::typed::{Lending, List, OuterRoom, Recipe, Room, Typed, Values};
 use crate::typed::{RowsOfRecipe, View, ViewRoom, Views, Windows};
 use crate::windows::Window;
@@ -23,6 +24,7 @@ pub const LIBRARY: Library = Library {
     recipe: Some(recipe),
     typed: Some(typed()),
     large: Some(typed()),
+    grades: Some(GRADES),
     views: Some(VIEWS),
     windows: Some(WINDOWS),
 };

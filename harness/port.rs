@@ -9,6 +9,8 @@
 pub use crate::mock::LIBRARY;
 
 #[cfg(not(mock))]
+use crate::grade_port::GRADES;
+#[cfg(not(mock))]
 use crate::library::Library;
 #[cfg(not(mock))]
 use crate::typed_port::{large, narrow, VIEWS, WINDOWS};
@@ -114,6 +116,7 @@ macro_rules! archive {
             $($name: Some($name),)+
             typed: Some(narrow::TYPED),
             large: Some(large::TYPED),
+            grades: Some(GRADES),
             views: Some(VIEWS),
             windows: Some(WINDOWS),
             ..Library::EMPTY

@@ -92,7 +92,7 @@ pub struct Lending<O> {
     pub limits: fn(Recipe<O>, &mut [u64]) -> u32,
 }
 
-fn list<'a, O: Number>(slices: &[&'a [u8]], starts: &[usize]) -> List<'a, O> {
+pub fn list<'a, O: Number>(slices: &[&'a [u8]], starts: &[usize]) -> List<'a, O> {
     Column {
         offsets: of_bytes(slices[0]),
         rows: slices[1],
@@ -107,7 +107,7 @@ fn values<'a>(slices: &[&'a [u8]], start: usize) -> Values<'a> {
     Argument { values: of_bytes(slices[0]), bits: slices[1], start }
 }
 
-fn room<'a, O: Number>([offsets, rows, values, elements]: [&'a mut [u8]; 4]) -> Room<'a, O> {
+pub fn room<'a, O: Number>([offsets, rows, values, elements]: [&'a mut [u8]; 4]) -> Room<'a, O> {
     Lists { offsets: of_bytes_mut(offsets), rows, values: of_bytes_mut(values), elements }
 }
 
@@ -115,7 +115,7 @@ fn three_arguments<'a>(lent: &[&'a [u8]], starts: &[usize]) -> [Values<'a>; 3] {
     [0, 1, 2].map(|at| values(&lent[4 + 2 * at..], starts[2 + at]))
 }
 
-fn recipe<'a, O: Number>(
+pub fn recipe<'a, O: Number>(
     station: u32,
     columns: usize,
     lent: &[&'a [u8]],

@@ -118,7 +118,7 @@ fn rows_of(items: &[Item], keep_hidden: bool) -> (Vec<i64>, Vec<Item>) {
     (offsets, inside)
 }
 
-fn list_column(text: &str) -> ListColumn {
+pub fn list_column(text: &str) -> ListColumn {
     let rows = parse(text);
     let (offsets, elements) = rows_of(&rows, true);
     ListColumn {

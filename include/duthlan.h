@@ -155,7 +155,8 @@ typedef struct duthlan_tally {
     uint64_t refused[16];
 } duthlan_tally;
 
-/* The numbers that a call returns. They are tested in the order 15, 10, 13, 1, 2, 3, 16, then those of the rows, and 9 last. */
+/* The numbers that a call returns. They are tested in the order 15, 10, 13, 1, 2, 3, 16, then those of the rows, and 9 last; where grades
+ * are asked for, 12 comes before all of them, and right after it 9 for the grades. */
 enum duthlan_number {
     DUTHLAN_ACCEPTED = 0,
     DUTHLAN_BAD_OFFSETS = 1,        /* The first offset is negative, one falls, or the last lies past the values. */
@@ -167,13 +168,22 @@ enum duthlan_number {
     DUTHLAN_WIDE_STRIDE = 6,        /* The stride does not fit 32 signed bits where its direction suits the bounds. */
     DUTHLAN_NEGATIVE_COUNT = 7,     /* Resize has a negative count. */
     DUTHLAN_TOO_MANY = 8,           /* The result would have more than 2147483647 elements or outer lists. */
-    DUTHLAN_SHORT_OUTPUT = 9,       /* An output, or a tray that a step writes, is too short for the result. */
+    DUTHLAN_SHORT_OUTPUT = 9,       /* An output, or a tray that a step writes, is too short for the result, or the grades for the rows. */
     DUTHLAN_MALFORMED_RECIPE = 10,  /* The recipe is malformed. */
     DUTHLAN_VIEW_OUTSIDE = 11,      /* The offset of a view, its size or their sum is below 0 or over the number of values. */
+    DUTHLAN_ZERO_RUN = 12,          /* The run that gives a row grade 2 is to have at least 0 elements. */
     DUTHLAN_BAD_STARTING_BIT = 13,  /* A starting bit is over 7, also beside a bitmap of no bytes. */
     DUTHLAN_NO_SUCH_STATION = 15,   /* The station is over 15. */
     DUTHLAN_ROWS_OUTSIDE = 16,      /* The rows to be looked at begin behind their end, or end behind the last row. */
     DUTHLAN_BAD_CALL = 100          /* A raw entry got a code that it does not serve, or too few places for what it tells. */
+};
+
+/* The grade of a row, the lowest that fits. */
+enum duthlan_grades {
+    DUTHLAN_GRADE_NULL = 0,  /* The row is null. */
+    DUTHLAN_GRADE_EMPTY = 1, /* It has no valid element. */
+    DUTHLAN_GRADE_RUN = 2,   /* It has a run of at least k adjacent valid equal elements; a null ends a run. */
+    DUTHLAN_GRADE_OTHER = 3  /* All else. */
 };
 
 /* ---- The operations -------------------------------------------------------------------------------------------------------
@@ -270,6 +280,20 @@ static inline uint32_t duthlan_recipe_rows(
 #define DUTHLAN_STEP_REMOVE(element, limit) 8, (element), (limit), 0
 #define DUTHLAN_STEP_UNION 9, 0, 0, 0
 #define DUTHLAN_STEP_INTERSECT 10, 0, 0, 0
+
+/* Grades each row of a list, a byte a row, by runs of at least k elements, and tells how many rows there are. Refused by 12, where k is 0;
+ * 9, where there are fewer grades than rows; 13, 1 and 2, and then no grade is written. Grades past the rows keep their content. `rows` may
+ * be NULL where their number is not wanted. */
+static inline uint32_t duthlan_grade(uint64_t k, const duthlan_list *list, uint8_t *grades, size_t grade_count, uint64_t *rows);
+
+/* Runs a recipe as duthlan_recipe does and grades the rows of its result: it returns, counts in the tally and leaves the output as that
+ * would, and writes the grades where it is accepted. Before all else it is refused by 12, where k is 0, and by 9, where there are fewer
+ * grades than `list` has rows; these two change neither tally nor output, and leave both trays zero. */
+static inline uint32_t duthlan_grade_recipe(
+    uint64_t k, uint32_t station, const uint32_t *numbers, size_t number_count,
+    const duthlan_list *list, const duthlan_list *second, const duthlan_values *arguments, size_t columns,
+    const duthlan_out *one, const duthlan_out *two, const duthlan_out *out,
+    uint8_t *grades, size_t grade_count, duthlan_counts *counts, duthlan_tally *tally);
 
 /* ---- How much to lend -----------------------------------------------------------------------------------------------------
  * Each operation can be asked first how long its outputs must be. The question takes what the operation takes, but no output; it
@@ -552,6 +576,32 @@ uint32_t duthlan_typed_recipe_limits(
     const int64_t *arguments, size_t argument_count,
     const uint8_t *argument_bits, size_t argument_bytes, size_t argument_start,
     uint64_t *limits, size_t limit_places);
+
+/* Grades a list; the one count is that of its rows. */
+uint32_t duthlan_typed_grade(
+    uint64_t k,
+    const int32_t *offsets, size_t offset_count, const uint8_t *rows, size_t row_bytes, size_t rows_start,
+    const int64_t *values, size_t value_count, const uint8_t *elements, size_t element_bytes, size_t elements_start,
+    uint8_t *grades, size_t grade_count, uint64_t *counts, size_t count_places);
+
+/* Runs a recipe and grades its result; counts and tally are those of duthlan_typed_recipe. */
+uint32_t duthlan_typed_grade_recipe(
+    uint64_t k, uint32_t station, const uint32_t *numbers, size_t number_count, size_t columns,
+    const int32_t *offsets, size_t offset_count, const uint8_t *rows, size_t row_bytes, size_t rows_start,
+    const int64_t *values, size_t value_count, const uint8_t *elements, size_t element_bytes, size_t elements_start,
+    const int32_t *second_offsets, size_t second_offset_count,
+    const uint8_t *second_rows, size_t second_row_bytes, size_t second_rows_start,
+    const int64_t *second_values, size_t second_value_count,
+    const uint8_t *second_elements, size_t second_element_bytes, size_t second_elements_start,
+    const int64_t *arguments, size_t argument_count,
+    const uint8_t *argument_bits, size_t argument_bytes, size_t argument_start,
+    int32_t *one_offsets, size_t one_offset_count, uint8_t *one_rows, size_t one_row_bytes,
+    int64_t *one_values, size_t one_value_count, uint8_t *one_elements, size_t one_element_bytes,
+    int32_t *two_offsets, size_t two_offset_count, uint8_t *two_rows, size_t two_row_bytes,
+    int64_t *two_values, size_t two_value_count, uint8_t *two_elements, size_t two_element_bytes,
+    int32_t *out_offsets, size_t out_offset_count, uint8_t *out_rows, size_t out_row_bytes,
+    int64_t *out_values, size_t out_value_count, uint8_t *out_elements, size_t out_element_bytes,
+    uint8_t *grades, size_t grade_count, uint64_t *counts, size_t count_places, uint64_t *tally, size_t tally_places);
 
 /* ---- How the functions above call the entries ----------------------------------------------------------------------------- */
 
@@ -937,6 +987,44 @@ static inline uint32_t duthlan_recipe_limits(
     return number;
 }
 
+static inline uint32_t duthlan_grade(uint64_t k, const duthlan_list *list, uint8_t *grades, size_t grade_count, uint64_t *rows) {
+    uint64_t told[1] = {0};
+    const uint32_t number = duthlan_typed_grade(k, DUTHLAN_LIST_(list), DUTHLAN_OUTPUT_(u8, grades, grade_count), told, 1);
+    if (number == 0 && rows) *rows = told[0];
+    return number;
+}
+
+static inline uint32_t duthlan_grade_recipe(
+    uint64_t k, uint32_t station, const uint32_t *numbers, size_t number_count,
+    const duthlan_list *list, const duthlan_list *second, const duthlan_values *arguments, size_t columns,
+    const duthlan_out *one, const duthlan_out *two, const duthlan_out *out,
+    uint8_t *grades, size_t grade_count, duthlan_counts *counts, duthlan_tally *tally) {
+    const duthlan_values none = {0, 0, {0, 0, 0}};
+    const duthlan_out no_tray = {0, 0, 0, 0, 0, 0, 0, 0};
+    uint64_t told[4] = {0, 0, 0, 0};
+    uint64_t tallied[32] = {0};
+    uint32_t number;
+    size_t i;
+    if (!second) second = list;
+    if (!arguments) arguments = &none;
+    if (!one) one = &no_tray;
+    if (!two) two = &no_tray;
+    for (i = 0; tally && i < 16; i++) {
+        tallied[i] = tally->finished[i];
+        tallied[16 + i] = tally->refused[i];
+    }
+    number = duthlan_typed_grade_recipe(
+        k, station, DUTHLAN_INPUT_(u32, numbers, number_count), columns,
+        DUTHLAN_LIST_(list), DUTHLAN_LIST_(second), DUTHLAN_VALUES_(arguments),
+        DUTHLAN_ROWS_(one), DUTHLAN_ELEMENTS_(one), DUTHLAN_ROWS_(two), DUTHLAN_ELEMENTS_(two),
+        DUTHLAN_ROWS_(out), DUTHLAN_ELEMENTS_(out), DUTHLAN_OUTPUT_(u8, grades, grade_count), told, 4, tallied, 32);
+    for (i = 0; tally && i < 16; i++) {
+        tally->finished[i] = tallied[i];
+        tally->refused[i] = tallied[16 + i];
+    }
+    return duthlan_told_(number, told, counts);
+}
+
 #undef DUTHLAN_INPUT_
 #undef DUTHLAN_OUTPUT_
 #undef DUTHLAN_BITS_
@@ -959,6 +1047,7 @@ static inline const char *duthlan_refusal(uint32_t number) {
     case DUTHLAN_SHORT_OUTPUT: return "an output or a tray too short for the result";
     case DUTHLAN_MALFORMED_RECIPE: return "a malformed recipe";
     case DUTHLAN_VIEW_OUTSIDE: return "a view that lies outside the values";
+    case DUTHLAN_ZERO_RUN: return "a run of at least 0 elements to grade by";
     case DUTHLAN_BAD_STARTING_BIT: return "a starting bit over 7";
     case DUTHLAN_NO_SUCH_STATION: return "a station over 15";
     case DUTHLAN_ROWS_OUTSIDE: return "rows to be looked at that begin behind their end, or end behind the last row";

@@ -545,7 +545,7 @@ static void asked_recipes(void) {
 }
 
 static void sentences(void) {
-    static const uint32_t named[] = {0, 1, 2, 3, 4, 5, 6, 7, 8, 9, 10, 11, 13, 15, 16, 100};
+    static const uint32_t named[] = {0, 1, 2, 3, 4, 5, 6, 7, 8, 9, 10, 11, 12, 13, 15, 16, 100};
     const char *unnamed = duthlan_refusal(99);
     size_t i;
     int have_words = 1;
@@ -689,6 +689,113 @@ static void recipes(void) {
     check("9", duthlan_recipe(5, two_steps, 8, &list, 0, &arguments, 2, 0, &two, &out, 0, &tally) == DUTHLAN_SHORT_OUTPUT);
     check("refused", tally.refused[3] == UINT64_MAX && tally.refused[4] == 1 && tally.refused[5] == 1 && tally.finished[2] == 2);
 }
+
+#ifndef CALLS_LARGE
+/* Grades, which are for offsets of 32 bits. */
+
+static const uint8_t kept_grade = 85;
+
+static uint8_t grades[ROOM];
+
+/* Whether the grades are these, and all behind them are kept. */
+static int graded(const uint8_t *expected, size_t n) {
+    size_t i;
+    for (i = 0; i < ROOM; i++) {
+        if (grades[i] != (i < n ? expected[i] : kept_grade)) return 0;
+    }
+    return 1;
+}
+
+static void grade_columns(void) {
+    static const uint8_t by_1[] = {2, 0, 1, 2}, by_2[] = {3, 0, 1, 2}, by_3[] = {3, 0, 1, 3};
+    static const int32_t two_rows[] = {0, 2, 4};
+    static const int64_t fours[] = {4, 4, 4, 4};
+    static const uint8_t split[] = {0x0d}, two_threes[] = {DUTHLAN_GRADE_OTHER, DUTHLAN_GRADE_OTHER}, three_and_run[] = {3, 2};
+    const duthlan_list across = {two_rows, 3, {0, 0, 0}, fours, 4, {0, 0, 0}};
+    const duthlan_list with_null = {two_rows, 3, {0, 0, 0}, fours, 4, {split, 1, 0}};
+    const duthlan_list no_rows = {0, 0, {0, 0, 0}, 0, 0, {0, 0, 0}};
+    uint64_t told = kept_grade;
+    memset(grades, kept_grade, sizeof grades);
+    check("grade, 12", duthlan_grade(0, &bad_start, grades, 0, &told) == DUTHLAN_ZERO_RUN);
+    check("grade, 9 before 13", duthlan_grade(1, &bad_start, grades, 3, &told) == DUTHLAN_SHORT_OUTPUT);
+    check("grade, 13", duthlan_grade(1, &bad_start, grades, 4, &told) == DUTHLAN_BAD_STARTING_BIT);
+    check("grade, 9 before 1", duthlan_grade(1, &bad_offsets, grades, 3, &told) == DUTHLAN_SHORT_OUTPUT);
+    check("grade, 1", duthlan_grade(1, &bad_offsets, grades, 4, &told) == DUTHLAN_BAD_OFFSETS);
+    check("grade, 2", duthlan_grade(1, &short_bitmap, grades, 4, &told) == DUTHLAN_SHORT_BITMAP);
+    check("grade, kept", graded(0, 0) && told == kept_grade);
+    check("grade", duthlan_grade(2, &list, grades, ROOM, &told) == DUTHLAN_ACCEPTED && told == 4 && graded(by_2, 4));
+    check("its names", grades[0] == DUTHLAN_GRADE_OTHER && grades[1] == DUTHLAN_GRADE_NULL && grades[2] == DUTHLAN_GRADE_EMPTY &&
+                           grades[3] == DUTHLAN_GRADE_RUN);
+    check("grade, k 1", duthlan_grade(1, &shifted, grades, 4, 0) == DUTHLAN_ACCEPTED && graded(by_1, 4));
+    check("grade, k 3", duthlan_grade(3, &shifted, grades, 4, 0) == DUTHLAN_ACCEPTED && graded(by_3, 4));
+    check("grade, the largest k", duthlan_grade(UINT64_MAX, &list, grades, 4, 0) == DUTHLAN_ACCEPTED && graded(by_3, 4));
+    memset(grades, kept_grade, sizeof grades);
+    check("grade, a run across two rows", duthlan_grade(3, &across, grades, ROOM, 0) == DUTHLAN_ACCEPTED && graded(two_threes, 2));
+    check("grade, a run across a null", duthlan_grade(2, &with_null, grades, ROOM, 0) == DUTHLAN_ACCEPTED && graded(three_and_run, 2));
+    check("grade, no rows", duthlan_grade(1, &no_rows, 0, 0, &told) == DUTHLAN_ACCEPTED && told == 0);
+}
+
+static void grade_recipes(void) {
+    static const uint32_t pop_twice[] = {DUTHLAN_STEP_POP_FRONT, DUTHLAN_STEP_POP_FRONT};
+    static const uint32_t fill[] = {DUTHLAN_STEP_RESIZE(0, 1)};
+    static const uint8_t popped[] = {1, 0, 1, 3}, filled[] = {3, 0, 2, 2};
+    static const int64_t columns[] = {4, 4, 4, 4, 7, 7, 7, 7};
+    static int32_t one_offsets[ROOM];
+    static uint8_t one_rows[ROOM], one_elements[ROOM];
+    static int64_t one_values[ROOM];
+    static const int64_t no_values[ROOM] = {0};
+    const duthlan_out one = {one_offsets, ROOM, one_rows, ROOM, one_values, ROOM, one_elements, ROOM};
+    const duthlan_out no_room = {0, 0, 0, 0, 0, 0, 0, 0};
+    const duthlan_values arguments = {columns, 8, {0, 0, 0}};
+    duthlan_tally tally;
+    uint32_t number;
+    memset(&tally, 0, sizeof tally);
+    memset(grades, kept_grade, sizeof grades);
+    memset(&counts, kept_grade, sizeof counts);
+    memset(offsets, kept_grade, sizeof offsets);
+    memset(one_values, kept_grade, sizeof one_values);
+    number = duthlan_grade_recipe(0, 16, pop_twice, 7, &shifted, 0, 0, 0, &one, 0, &out, grades, 0, &counts, &tally);
+    check("graded recipe, 12", number == DUTHLAN_ZERO_RUN && memcmp(one_values, no_values, sizeof no_values) == 0);
+    memset(one_values, kept_grade, sizeof one_values);
+    number = duthlan_grade_recipe(2, 16, pop_twice, 8, &shifted, 0, 0, 0, &one, 0, &out, grades, 3, &counts, &tally);
+    check("graded recipe, 9 of the grades", number == DUTHLAN_SHORT_OUTPUT && memcmp(one_values, no_values, sizeof no_values) == 0);
+    number = duthlan_grade_recipe(2, 16, pop_twice, 8, &shifted, 0, 0, 0, &one, 0, &out, grades, 4, &counts, &tally);
+    check("graded recipe, 15", number == DUTHLAN_NO_SUCH_STATION && tally.refused[0] == 0 && tally.refused[15] == 0);
+    number = duthlan_grade_recipe(2, 7, pop_twice, 7, &shifted, 0, 0, 0, &one, 0, &out, grades, 4, &counts, &tally);
+    check("graded recipe, 10", number == DUTHLAN_MALFORMED_RECIPE && tally.refused[7] == 1);
+    number = duthlan_grade_recipe(2, 7, pop_twice, 8, &shifted, 0, 0, 0, &one, 0, &no_room, grades, 4, &counts, &tally);
+    check("graded recipe, 9 of the output", number == DUTHLAN_SHORT_OUTPUT && tally.refused[7] == 2);
+    check("graded recipe, kept", graded(0, 0) && offsets[0] == kept_offset && counts.rows == 0x5555555555555555);
+    number = duthlan_grade_recipe(1, 7, pop_twice, 8, &shifted, 0, 0, 0, &one, 0, &out, grades, ROOM, &counts, &tally);
+    check("graded recipe", made(number, "[null] null [] [9]") && tally.finished[7] == 1 && tally.refused[7] == 2);
+    check("its grades", grades[0] == 1 && grades[1] == 0 && grades[2] == 1 && grades[3] == 2 && grades[4] == kept_grade);
+    number = duthlan_grade_recipe(2, 7, pop_twice, 8, &list, &other, 0, 0, &one, 0, &out, grades, 4, 0, 0);
+    check("graded recipe, k 2", number == DUTHLAN_ACCEPTED && graded(popped, 4));
+    number = duthlan_grade_recipe(2, 3, fill, 4, &list, 0, &arguments, 2, 0, 0, &out, grades, 4, &counts, &tally);
+    check("graded recipe, a run made", made(number, "[12,-3,null,7] null [7,7,7,7] [7,7,9,7]") && graded(filled, 4));
+    check("its tally", tally.finished[3] == 1 && tally.finished[7] == 1);
+}
+
+/* What only the raw entries can say of grades. */
+static void raw_grades(void) {
+    uint64_t told[5] = {5, 5, 5, 5, 5}, tally[32] = {0};
+    const int32_t zero = 0;
+    const int64_t none = 0;
+    const uint8_t bits = 0;
+    const uint32_t no_numbers = 0;
+    int32_t tray = 85;
+    uint32_t number;
+    check("100, grade", duthlan_typed_grade(0, &zero, 1, &bits, 0, 0, &none, 0, &bits, 0, 0, grades, 0, told, 0) == DUTHLAN_BAD_CALL);
+    check("past the count", duthlan_typed_grade(1, &zero, 1, &bits, 0, 0, &none, 0, &bits, 0, 0, grades, 0, told, 5) == DUTHLAN_ACCEPTED &&
+                                told[0] == 0 && told[1] == 5);
+    told[0] = 5;
+    number = duthlan_typed_grade_recipe(
+        0, 0, &no_numbers, 0, 0, &zero, 1, &bits, 0, 0, &none, 0, &bits, 0, 0, &zero, 1, &bits, 0, 0, &none, 0, &bits, 0, 0,
+        &none, 0, &bits, 0, 0, &tray, 1, inner_rows, 0, values, 0, elements, 0, inner_offsets, 0, inner_rows, 0, values, 0, elements, 0,
+        offsets, ROOM, rows, 0, values, 0, elements, 0, grades, 0, told, 4, tally, 31);
+    check("100, a graded recipe", number == DUTHLAN_BAD_CALL && tray == 0 && told[0] == 5 && tally[0] == 0 && tally[16] == 0);
+}
+#endif
 
 #ifndef CALLS_LARGE
 /* ListView columns, which have offsets of 32 bits. */
@@ -898,6 +1005,9 @@ int main(void) {
     raw();
     raw_lengths();
 #ifndef CALLS_LARGE
+    grade_columns();
+    grade_recipes();
+    raw_grades();
     views();
     raw_views();
     windows();

@@ -38,10 +38,12 @@
 //!   hold.
 //! - A ListView column is a [`View`]; [`import_view`] reads it into a list column, and [`export_view`]
 //!   writes a list column to a [`ViewOut`].
+//! - [`grade`] writes a [`Grade`] for each row of a list, by runs of equal elements, and [`grade_recipe`]
+//!   for each row of a recipe's result.
 //! - With the feature `std`, which is on by default, [`owned`] has columns in vectors, built from rows
 //!   and read back as rows. Without it the crate is `no_std` and has no heap.
 //! - With the feature `large`, also on by default, [`large`] has all of this but ListView columns and
-//!   recipes for some rows, for columns with 64-bit offsets.
+//!   recipes for some rows and grades, for columns with 64-bit offsets.
 //!
 //! The crate links `libduthlan.a`, and for large lists `libduthlan_large.a`, from the folder that
 //! `DUTHLAN_LIB_DIR` names, by an absolute path, when the crate is built; or from `target/staticlib` of
@@ -54,6 +56,7 @@
 extern crate std;
 
 mod columns;
+mod grades;
 #[cfg(feature = "large")]
 pub mod large;
 mod lengths;
@@ -70,6 +73,7 @@ mod views;
 
 pub use columns::{Bits, Elements, List, NestedList, OuterRows, Rows, Values};
 pub use columns::{ListOf, NestedListOf, OuterRowsOf, RowsOf};
+pub use grades::{grade, grade_recipe, Grade};
 pub use lengths::{
     any_value_lengths, distinct_lengths, element_lengths, intersect_lengths, list_repeat_lengths,
     pop_back_lengths, pop_front_lengths, recipe_limits, remove_lengths, replace_lengths,

@@ -3,7 +3,8 @@ use core::fmt;
 /// Why a call was refused. A refused call changes no output.
 ///
 /// They are tested in the order 15, 10, 13, 1, 2, 3, 16, then those of the rows, where the first bad
-/// row decides, and 9 last.
+/// row decides, and 9 last; where grades are asked for, 12 comes before all of them, and right after it 9
+/// for the grades.
 #[derive(Clone, Copy, Debug, PartialEq, Eq, Hash)]
 #[non_exhaustive]
 pub enum Refusal {
@@ -27,12 +28,14 @@ pub enum Refusal {
     /// 8: the result would have more than 2147483647 elements or outer lists, or of large lists more
     /// than these may have.
     TooMany,
-    /// 9: an output, or a tray that a step writes, is too short for the result.
+    /// 9: an output, or a tray that a step writes, is too short for the result, or the grades for the rows.
     ShortOutput,
     /// 10: the recipe has over 32 steps or eight columns, or it uses a column that is not there.
     MalformedRecipe,
     /// 11: the offset of a view, its size or their sum is below 0 or over the number of values.
     ViewOutside,
+    /// 12: the run that gives a row grade 2 is to have at least 0 elements.
+    ZeroRun,
     /// 13: a starting bit is over 7, also beside a bitmap of no bytes.
     BadStartingBit,
     /// 15: the station is over 15; the call counts for nobody.
@@ -58,6 +61,7 @@ impl Refusal {
             9 => Refusal::ShortOutput,
             10 => Refusal::MalformedRecipe,
             11 => Refusal::ViewOutside,
+            12 => Refusal::ZeroRun,
             13 => Refusal::BadStartingBit,
             15 => Refusal::NoSuchStation,
             16 => Refusal::RowsOutside,
@@ -86,6 +90,7 @@ impl Refusal {
             Refusal::ShortOutput => 9,
             Refusal::MalformedRecipe => 10,
             Refusal::ViewOutside => 11,
+            Refusal::ZeroRun => 12,
             Refusal::BadStartingBit => 13,
             Refusal::NoSuchStation => 15,
             Refusal::RowsOutside => 16,
@@ -108,6 +113,7 @@ impl fmt::Display for Refusal {
             Refusal::ShortOutput => "an output or a tray too short for the result",
             Refusal::MalformedRecipe => "a malformed recipe",
             Refusal::ViewOutside => "a view that lies outside the values",
+            Refusal::ZeroRun => "a run of at least 0 elements to grade by",
             Refusal::BadStartingBit => "a starting bit over 7",
             Refusal::NoSuchStation => "a station over 15",
             Refusal::RowsOutside => {

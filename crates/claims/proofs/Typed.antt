@@ -94,7 +94,7 @@ repeat-typed (made os) b o c h = record {
 -- ---- a number other than 100 says that the call was served
 
 module _ {A L : Type 0} (f : L → Outcome A) (l : L) {n : ℕ} (s : n ≡ 100 → ⊥) where
-  long : (b : Bool) → n ≡ numberOf (served (given f) b l) → b ≡ false
+  pub long : (b : Bool) → n ≡ numberOf (served (given f) b l) → b ≡ false
   unfolding served gate numberOf
   long true e = absurd (s e)
   long false e = refl
@@ -202,17 +202,17 @@ recipes κs t t′ k k′ ns c d x l m o cs u n h s = recipe-typed narrow s c cs
 -- ---- two alike calls, which end in one thing x, wrote the same
 
 -- w is what both wrote at the front of their slices
-abbrev Same : {A : Type 0} → List A → Slice A → Slice A → Type 0
+abbrev pub Same : {A : Type 0} → List A → Slice A → Slice A → Type 0
 Same w a b = take (length w) (now (a .exit)) ≡ take (length w) (now (b .exit))
 
-same : {A : Type 0} (w : List A) (a b : Slice A) → Holds w a → Holds w b → Same w a b
+pub same : {A : Type 0} (w : List A) (a b : Slice A) → Holds w a → Holds w b → Same w a b
 same w a b h k = rw (h, k) (take-at w _ _ refl ∙ sym (take-at w _ _ refl))
 
 pub record SameAnswer (x : End) (n n′ : ℕ) (c c′ : Slice ℕ) : Type 0 where
   pub number : n ≡ n′
   pub counts : Same (countsIn (x .answer)) c c′
 
-same-answer : (x : End) {n n′ : ℕ} (c c′ : Slice ℕ) → AnswerTyped x n c → AnswerTyped x n′ c′ → SameAnswer x n n′ c c′
+pub same-answer : (x : End) {n n′ : ℕ} (c c′ : Slice ℕ) → AnswerTyped x n c → AnswerTyped x n′ c′ → SameAnswer x n n′ c c′
 same-answer x c c′ h k = record { number = h .number ∙ sym (k .number); counts = same (countsIn (x .answer)) c c′ (h .counts) (k .counts) }
 
 pub record SameList (x : End) (n n′ : ℕ) (o o′ : Slices) (c c′ : Slice ℕ) : Type 0 where

@@ -80,3 +80,13 @@ pub record RecipeTyped (x : End) (n : ℕ) (l m o : Slices) (c t : Slice ℕ) : 
   pub one : Clears (l .offsets) (l .rows) (l .values) (l .elements)
   pub two : Clears (m .offsets) (m .rows) (m .values) (m .elements)
   pub tally : now (t .exit) ≡ tallyOver (x .tally) (now (t .entry))
+
+-- of a graded column, g being the grades
+pub record GradeTyped (x : End) (n : ℕ) (g c : Slice ℕ) : Type 0 where
+  pub answer : AnswerTyped x n c
+  pub grades : Holds (x .grades) g
+
+-- of a graded recipe
+pub record GradedTyped (x : End) (n : ℕ) (l m o : Slices) (g c t : Slice ℕ) : Type 0 where
+  pub recipe : RecipeTyped x n l m o c t
+  pub grades : Holds (x .grades) g

@@ -12,11 +12,12 @@ use Rattle.model.specs.Rows.{ListCall}
 use Rattle.model.specs.Column.{Column, Arguments}
 use Rattle.model.specs.View.{View, ViewRoom}
 use Rattle.view_checks.specs.Views.{lentView}
-use Rattle.model.specs.Call.{Call, list, recipe, window, importView, exportView}
+use Rattle.model.specs.Call.{Call, list, recipe, window, importView, exportView, gradeColumn, gradeRecipe}
 use Rattle.model.specs.Contract.{Slice, roomOf, valueRoom, repeatRoomOf, viewRoom}
 use Rattle.model.specs.Inner.{lentFrom, lentArgumentsFrom}
 use Rattle.model.specs.Recipe.{Recipe}
-use Rattle.model.specs.Run.{Run, listRunEnd, valueRunEnd, repeatRunEnd, recipeRunEnd, viewRunEnd}
+use Rattle.model.specs.Run.{Run, listRunEnd, valueRunEnd, repeatRunEnd, recipeRunEnd, viewRunEnd, gradeRunEnd, gradedRunEnd}
+use Rattle.model.specs.declared.GradeAnswer.{GradeAnswer}
 use Rattle.model.specs.declared.ListAnswer.{ListAnswer}
 use Rattle.model.specs.declared.RepeatAnswer.{RepeatAnswer}
 use Rattle.model.specs.declared.ValueAnswer.{ValueAnswer}
@@ -181,3 +182,17 @@ ImportRuns c a o = Run narrow (importView c (slicesRoom o)) (listRunEnd a (now (
 
 abbrev pub ExportRuns : Column → ListAnswer → ViewSlices → Type 0
 ExportRuns c a o = Run narrow (exportView c (viewSlicesRoom o)) (viewRunEnd a (now (o .offsets .exit)) (now (o .sizes .exit)) (now (o .rows .exit)) (now (o .values .exit)) (now (o .elements .exit)))
+
+-- a column graded by k that answered a, g being the grades
+abbrev pub GradeRuns : ℕ → Column → GradeAnswer → Slice ℕ → Type 0
+GradeRuns k c a g = Run narrow (gradeColumn k c (length (now (g .entry)))) (gradeRunEnd a (now (g .exit)))
+
+-- a recipe graded by k into g, the rest as of a recipe
+abbrev pub GradedRuns : ℕ → ℕ → Recipe → LentList → LentList → LentValues → Slices → Slices → Slices → Slice ℕ → Tally → RecipeAnswer → Type 0
+GradedRuns k s p c d x l m o g t a =
+    Run narrow (gradeRecipe k s p (listLent c) (listLent d) (valuesLent x) (slicesRoom l) (slicesRoom m) (slicesRoom o) (length (now (g .entry))) (tallyOf t))
+    (gradedRunEnd (a .answer)
+    (now (o .offsets .exit)) (now (o .rows .exit)) (now (o .values .exit)) (now (o .elements .exit))
+    (now (l .offsets .exit)) (now (l .rows .exit)) (now (l .values .exit)) (now (l .elements .exit))
+    (now (m .offsets .exit)) (now (m .rows .exit)) (now (m .values .exit)) (now (m .elements .exit))
+    (tallyOf (a .tally)) (now (g .exit)))

@@ -6,3 +6,4 @@ pub mod WriteLaws
 pub mod WalkLaws
 pub mod AnswerLaws
 pub mod ReadLaws
+pub mod RoundLaws

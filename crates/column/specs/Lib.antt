@@ -2,3 +2,4 @@ pub mod Put
 pub mod Rows
 pub mod Answers
 pub mod Outputs
+pub mod Front

@@ -12,7 +12,8 @@ use Rattle.model.specs.Outcome.{listOutcome, anyValueOutcome, elementOut
 use Rattle.model.specs.Recipe.{recipeShown, recipeOutcome}
 use Rattle.model.specs.Window.{windowShown, windowOutcome}
 use Rattle.model.specs.Lengths.{listLengths, anyValueLengths, elementLengths, repeatLengths, recipeLimits, recipeLimitsShown}
-use Rattle.model.specs.Call.{Call, list, anyValue, element, listRepeat, recipe, measureList, measureAnyValue, measureElement, measureRepeat, limitRecipe, window, importView, exportView, End, shown, listsOf, argumentsOf, viewsOf, end, endShown, Formed, SameLent, sameAbsent, sameGiven, SameCall, sameUnary, sameSetOp, sameSlice, sameResize, sameReplace, sameRemove, Alike, alikeList, alikeAnyValue, alikeElement, alikeListRepeat, alikeRecipe, alikeMeasureList, alikeMeasureAnyValue, alikeMeasureElement, alikeMeasureRepeat, alikeLimitRecipe, alikeWindow, alikeImport, alikeExport}
+use Rattle.model.specs.Call.{Call, list, anyValue, element, listRepeat, recipe, measureList, measureAnyValue, measureElement, measureRepeat, limitRecipe, window, importView, exportView, End, shown, listsOf, argumentsOf, viewsOf, end, endShown, Formed, SameLent, sameAbsent, sameGiven, SameCall, sameUnary, sameSetOp, sameSlice, sameResize, sameReplace, sameRemove, Alike, alikeList, alikeAnyValue, alikeElement, alikeListRepeat, alikeRecipe, alikeMeasureList, alikeMeasureAnyValue, alikeMeasureElement, alikeMeasureRepeat, alikeLimitRecipe, alikeWindow, alikeImport, alikeExport, gradeColumn, gradeRecipe, alikeGradeColumn, alikeGradeRecipe}
+use Rattle.model.specs.Grade.{gradeShown, gradeOutcome}
 use Rattle.model.specs.Run.{Run}
 use Rattle.model.proofs.ColumnLaws.{same-rows, same-arguments, no-units}
 use Rattle.model.proofs.OutcomeLaws.{formed-columns, gate-open}
@@ -49,10 +50,12 @@ same-shown (alikeLimitRecipe p e f g) = cc (same-rows e, same-rows f, same-argum
 same-shown (alikeWindow p x y a b o e f g) = cc (same-rows e, same-rows f, same-arguments g)
 same-shown (alikeImport l e) = cc (same-views e)
 same-shown (alikeExport l e) = cc (same-rows e)
+same-shown (alikeGradeColumn k g e) = cc (same-rows e)
+same-shown (alikeGradeRecipe k s p a b o g t e f h) = cc (same-rows e, same-rows f, same-arguments h)
 
 -- a call on well-formed columns ends in what they show
 from-shown : (L : Limits) (q : Call Column Arguments View) → Formed q → end L q ≡ endShown L (shown q)
-unfolding end endShown shown listsOf argumentsOf viewsOf importOutcome exportOutcome listOutcome anyValueOutcome elementOutcome repeatOutcome recipeOutcome recipeShown listLengths anyValueLengths elementLengths repeatLengths recipeLimits recipeLimitsShown windowOutcome windowShown
+unfolding end endShown shown listsOf argumentsOf viewsOf importOutcome exportOutcome listOutcome anyValueOutcome elementOutcome repeatOutcome recipeOutcome recipeShown listLengths anyValueLengths elementLengths repeatLengths recipeLimits recipeLimitsShown windowOutcome windowShown gradeOutcome gradeShown
 from-shown L (list q l) f = rw (gate-open _ _ (formed-columns (f .lists) (f .arguments)))
 from-shown L (anyValue c l) f = rw (gate-open _ _ (formed-columns (f .lists) (f .arguments)))
 from-shown L (element c a l) f = rw (gate-open _ _ (formed-columns (f .lists) (f .arguments)))
@@ -66,6 +69,8 @@ from-shown L (limitRecipe p c d e) f = rw (gate-open _ _ (formed-columns (f .lis
 from-shown L (window p x y c d e a b o) f = rw (gate-open _ _ (formed-columns (f .lists) (f .arguments)))
 from-shown L (importView v l) f = rw (gate-open _ _ (formed-view (f .views)))
 from-shown L (exportView c l) f = rw (gate-open _ _ (formed-columns (f .lists) (f .arguments)))
+from-shown L (gradeColumn k c g) f = rw (gate-open _ _ (formed-columns (f .lists) (f .arguments)))
+from-shown L (gradeRecipe k s p c d e a b o g t) f = rw (gate-open _ _ (formed-columns (f .lists) (f .arguments)))
 
 -- what demand 3 says of two calls that are alike, the first of which ends in e and the second in e′
 pub record Agree (L : Limits) (q q′ : Call Column Arguments View) (e e′ : End) : Type 0 where

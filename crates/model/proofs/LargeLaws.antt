@@ -19,7 +19,8 @@ use Rattle.model.specs.Outcome.{Outcome, refused, made, gate, columnsRef
 use Rattle.model.specs.Lengths.{roomOfRows, roomOfValues, roomOfOuter, listLengthsShown, anyValueLengthsShown, elementLengthsShown, repeatLengthsShown, listLengths, anyValueLengths, elementLengths, repeatLengths, formedLimits, recipeLimits}
 use Rattle.model.specs.Recipe.{Step, Recipe, columnOf, malformed, recipeUnequal, stepCall, thenOn, carried, stepped, formedRecipe, recipeShown, recipeOutcome, stationed, stepsOf}
 use Rattle.model.specs.Window.{noWindow, formedWindow, windowOutcome}
-use Rattle.model.specs.Call.{Call, list, anyValue, element, listRepeat, recipe, measureList, measureAnyValue, measureElement, measureRepeat, limitRecipe, window, importView, exportView, Answer, refusal, counts, answerOf, end, listEnd, valueEnd, repeatEnd, traysEnd, recipeEnd, windowEnd, viewEnd}
+use Rattle.model.specs.Call.{Call, list, anyValue, element, listRepeat, recipe, measureList, measureAnyValue, measureElement, measureRepeat, limitRecipe, window, importView, exportView, Answer, refusal, counts, answerOf, end, listEnd, valueEnd, repeatEnd, traysEnd, recipeEnd, windowEnd, viewEnd, gradeColumn, gradeRecipe, gradeEnd, gradedEnd}
+use Rattle.model.specs.Grade.{gradeRefusal, graded, gradeOutcome}
 use Rattle.model.specs.declared.SetOp.the-variants.{Union, Intersect}
 use Rattle.model.proofs.BoolLaws.{never}
 use Rattle.model.proofs.TabLaws.{map-tab}
@@ -291,13 +292,22 @@ export-spared : (c : Column) (l : ViewRoom) → Spared (exportOutcome c l)
 unfolding exportOutcome exportShown
 export-spared c l = spared-gate _ _ (columns-neither _ _) (or-nine (fitsView (length (rowsOf c)) (length (flat (rowsOf c))) l) (rowsOf c))
 
+graded-spared : (k : ℕ) (ws : List Row) (g : ℕ) (x : Outcome (List Row)) → Spared x → Spared (graded k ws g x)
+unfolding graded gradeRefusal
+graded-spared k ws g x h =
+    spared-gate _ _ (pick-case Neither (eqb k 0) 12 _ (λ e. omega arith, λ e. omega arith) (zero-or (ltb g (length ws)) 9 (λ e. omega arith, λ e. omega arith))) h
+
+grade-spared : (k : ℕ) (c : Column) (g : ℕ) → Spared (gradeOutcome k c g)
+unfolding gradeOutcome
+grade-spared k c g = graded-spared k (rowsOf c) g _ (spared-gate _ _ (columns-neither _ _) (spared-made (rowsOf c)))
+
 answered : {A : Type 0} (f : A → List ℕ) (x : Outcome A) (k : ℕ) → Spared x → answerOf f x ≡ refusal k → Neither k
 unfolding answerOf
 answered f (refused j) k h e = let q : j ≡ k = cc in rw (← q) (h .neither j refl)
 answered f (made a) k h e = never cc
 
 pub no-four-or-six : (q : Call Column Arguments View) (k : ℕ) → end wide q .answer ≡ refusal k → Neither k
-unfolding end listEnd valueEnd repeatEnd traysEnd recipeEnd windowEnd viewEnd
+unfolding end listEnd valueEnd repeatEnd traysEnd recipeEnd windowEnd viewEnd gradeEnd gradedEnd
 no-four-or-six (list q l) k e = answered _ _ k (list-spared q l) e
 no-four-or-six (anyValue c l) k e = answered _ _ k (any-spared c l) e
 no-four-or-six (element c a l) k e = answered _ _ k (element-spared c a l) e
@@ -311,3 +321,5 @@ no-four-or-six (limitRecipe p c d x) k e = answered _ _ k (limits-spared p c d x
 no-four-or-six (window p x y c d z a b o) k e = answered _ _ k (window-spared p x y c d z a b o) e
 no-four-or-six (importView v l) k e = answered _ _ k (import-spared v l) e
 no-four-or-six (exportView c l) k e = answered _ _ k (export-spared c l) e
+no-four-or-six (gradeColumn j c g) k e = answered _ _ k (grade-spared j c g) e
+no-four-or-six (gradeRecipe j s p c d x a b o g t) k e = answered _ _ k (graded-spared j (rowsOf c) g _ (stationed-spared s _ (recipe-spared p c d x a b o))) e

@@ -10,9 +10,11 @@ pub mod LimitLaws
 pub mod LentEnough
 pub mod RunLaws
 pub mod Agreement
+pub mod GradeLaws
 pub mod Stations
 pub mod Cases
 pub mod LendingCases
+pub mod GradeCases
 pub mod EarlyLaws
 pub mod AskedLaws
 pub mod WidthLaws

@@ -11,14 +11,17 @@ use Rattle.model.specs.Bitmap.{bytesFor, pack}
 use Rattle.model.specs.Limits.{Limits}
 use Rattle.model.specs.Column.{Elem, Row, Column, Arguments}
 use Rattle.model.specs.View.{View, viewOffsets, viewSizes}
-use Rattle.model.specs.Tally.{Tally, tallied}
+use Rattle.model.specs.Grade.{gradeOf, gradesOf, graded, gradedMove}
+use Rattle.model.specs.Tally.{Tally, moved, moveOf, tallied}
 use Rattle.model.specs.Form.{Room, isVal, isRow, valueOf, Outer, isOuter, outerLength, inner, flat, lengthOf, over, offsetsFrom, formOffsets, formRows, formValues, formElements}
 use Rattle.model.specs.Outcome.{Outcome, refused, made}
-use Rattle.model.specs.Call.{Call, answerOf, written, End, listNumbers, listBitmaps, listEnd, valueEnd, repeatEnd, traysEnd, recipeEnd, windowEnd, viewEnd, measureEnd, end}
-use Rattle.model.specs.Contract.{told, toldValue, toldRepeat, ListMeets, ViewMeets, ValueMeets, RepeatMeets, Zeroed}
-use Rattle.model.specs.Run.{listRunEnd, valueRunEnd, repeatRunEnd, recipeRunEnd, Run, listRun, anyValueRun, elementRun, repeatRun, recipeRun, measureListRun, measureAnyValueRun, measureElementRun, measureRepeatRun, limitRecipeRun, windowRun, viewRunEnd, importRun, exportRun}
+use Rattle.model.specs.Call.{Call, answerOf, written, End, listNumbers, listBitmaps, listEnd, valueEnd, repeatEnd, traysEnd, recipeEnd, windowEnd, viewEnd, measureEnd, end, gradeEnd, gradedEnd}
+use Rattle.model.specs.Contract.{told, toldValue, toldRepeat, ListMeets, ViewMeets, ValueMeets, RepeatMeets, Zeroed, toldGrade, GradeMeets, Grades}
+use Rattle.model.specs.Run.{listRunEnd, valueRunEnd, repeatRunEnd, recipeRunEnd, Run, listRun, anyValueRun, elementRun, repeatRun, recipeRun, measureListRun, measureAnyValueRun, measureElementRun, measureRepeatRun, limitRecipeRun, windowRun, viewRunEnd, importRun, exportRun, gradeRunEnd, gradesTaken, gradedRunEnd, gradeColumnRun, gradeRecipeRun}
 use Rattle.model.specs.declared.ListAnswer.{ListAnswer}
 use Rattle.model.specs.declared.ListAnswer.the-variants as L
+use Rattle.model.specs.declared.GradeAnswer.{GradeAnswer}
+use Rattle.model.specs.declared.GradeAnswer.the-variants as G
 use Rattle.model.specs.declared.RepeatAnswer.{RepeatAnswer}
 use Rattle.model.specs.declared.RepeatAnswer.the-variants as R
 use Rattle.model.specs.declared.ValueAnswer.{ValueAnswer}
@@ -113,6 +116,39 @@ module _ {o o′ : List ℤ} {r r′ : List ℕ} {v v′ : List ℤ} {e e′ : L
   unfolding recipeRunEnd traysEnd listEnd
   trays-run x a l m t t′ h y z q = rw (list-run x a h, y .offsets, y .rows, y .values, y .elements, z .offsets, z .rows, z .values, z .elements, q)
 
+-- ---- grades: of a column, and of a recipe
+
+module _ {g g′ : List ℕ} where
+  grade-run : (k : ℕ) (x : Outcome (List Row)) (a : GradeAnswer) → GradeMeets k x a g g′ → gradeRunEnd a g′ ≡ gradeEnd k x
+  unfolding gradeRunEnd gradeEnd toldGrade answerOf written
+  grade-run k (refused j) (G.Refused i) h = let q = h .answer in cc
+  grade-run k (refused j) (G.Rows n) h = let z = h .answer in never cc
+  grade-run k (made ws) (G.Refused i) h = let z = h .answer in never cc
+  grade-run k (made ws) (G.Rows n) h =
+      let z = h .answer in
+      let en : n ≡ length ws = cc in
+      let grades = taken (gradesOf k ws) g g′ n (h .grades) (omega (arith, length-map (gradeOf k) ws)) in
+      cc
+
+  module _ {o o′ : List ℤ} {r r′ : List ℕ} {v v′ : List ℤ} {e e′ : List ℕ} where
+    grades-taken : (k : ℕ) (x : Outcome (List Row)) (a : ListAnswer) → ListMeets x a o o′ r r′ v v′ e e′ → Grades k x g g′ → gradesTaken a g′ ≡ written (gradesOf k) x
+    unfolding gradesTaken told answerOf written
+    grades-taken k (refused j) (L.Refused i) h w = refl
+    grades-taken k (refused j) (L.Counts n m p q) h w = let z = h .answer in never cc
+    grades-taken k (made ws) (L.Refused i) h w = let z = h .answer in never cc
+    grades-taken k (made ws) (L.Counts n m p q) h w =
+        let z = h .answer in
+        let en : n ≡ length ws = cc in
+        taken (gradesOf k ws) g g′ n (w .grades) (omega (arith, length-map (gradeOf k) ws))
+
+    module _ {ao : List ℤ} {ar : List ℕ} {av : List ℤ} {ae : List ℕ} {bo : List ℤ} {br : List ℕ} {bv : List ℤ} {be : List ℕ} where
+      graded-run : (k : ℕ) (ws : List Row) (j s : ℕ) (x : Outcome (List Row)) (a : ListAnswer) (l m : Room) (t t′ : Tally) → ListMeets (graded k ws j x) a o o′ r r′ v v′ e e′ → Zeroed l ao ar av ae → Zeroed m bo br bv be
+          → t′ ≡ moved (gradedMove k ws j (moveOf s x)) t → Grades k (graded k ws j x) g g′
+          → gradedRunEnd a o′ r′ v′ e′ ao ar av ae bo br bv be t′ g′ ≡ gradedEnd k ws j s x l m t
+      unfolding gradedRunEnd gradedEnd recipeRunEnd recipeEnd traysEnd listEnd
+      graded-run k ws j s x a l m t t′ h y z q w =
+          rw (list-run (graded k ws j x) a h, y .offsets, y .rows, y .values, y .elements, z .offsets, z .rows, z .values, z .elements, q, grades-taken k (graded k ws j x) a h w)
+
 pub run-ends : (L : Limits) {q : Call Column Arguments View} {e : End} → Run L q e → e ≡ end L q
 unfolding end recipeEnd windowEnd
 run-ends L (listRun h) = list-run _ _ h
@@ -128,3 +164,5 @@ run-ends L (limitRecipeRun h) = ap measureEnd (h .answer)
 run-ends L (windowRun h y z) = trays-run _ _ _ _ _ _ h y z refl
 run-ends L (importRun h) = list-run _ _ h
 run-ends L (exportRun h) = view-run _ _ h
+run-ends L (gradeColumnRun h) = grade-run _ _ _ h
+run-ends L (gradeRecipeRun h y z q w) = graded-run _ _ _ _ _ _ _ _ _ _ h y z q w

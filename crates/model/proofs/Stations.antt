@@ -7,20 +7,21 @@ use mathlib.Core.Bool.{Bool, true, false, not, _&&_}
 use mathlib.Core.List.{List, [], _∷_, map}
 use native.Mathlib.Omega.{arith}
 use borrow.Author.Tests.{lt-ltb, le-ltb, ltb-true, ltb-false}
-use lib.Dec.{ltb}
+use lib.Dec.{ltb, eqb}
 use lib.IntN.{pos}
 use lib.ListN.{length, getD, replicate, length-set}
 use lib.Seq.{getD-set-same, getD-set-other}
 use Rattle.model.specs.Basics.{pick, given, All, none, more}
 use Rattle.model.specs.Limits.{Limits, largest}
 use Rattle.model.specs.Bitmap.{bit}
-use Rattle.model.specs.Column.{Row, Column, Arguments}
+use Rattle.model.specs.Column.{Row, Column, Arguments, rowsOf}
 use Rattle.model.specs.View.{View}
 use Rattle.model.specs.Form.{Room}
 use Rattle.model.specs.Outcome.{Outcome, refused, made, gate}
 use Rattle.model.specs.Recipe.{Recipe, recipeOutcome, stationed}
+use Rattle.model.specs.Grade.{gradeRefusal, graded, gradedMove}
 use Rattle.model.specs.Tally.{Tally, Sixteen, oneMore, countedAt, Move, finishedAt, refusedAt, nobody, moved, named, outcomeAt, moveOf, tallied, Names, movedAll, Below, While, noMore, still, total, asFinished, asRefused, Grown}
-use Rattle.model.specs.Call.{Call, list, anyValue, element, listRepeat, recipe, measureList, measureAnyValue, measureElement, measureRepeat, limitRecipe, window, importView, exportView, End, refusal, answerOf, written, listNumbers, listBitmaps, traysEnd, recipeEnd, end, tallyTaken, moveIn, Chain, listCounts, namesStation, accepted, finishedBy, refusedBy}
+use Rattle.model.specs.Call.{Call, list, anyValue, element, listRepeat, recipe, measureList, measureAnyValue, measureElement, measureRepeat, limitRecipe, window, importView, exportView, End, refusal, answerOf, written, listNumbers, listBitmaps, traysEnd, recipeEnd, end, tallyTaken, moveIn, Chain, listCounts, namesStation, accepted, finishedBy, refusedBy, gradeColumn, gradeRecipe, gradedEnd}
 use Rattle.model.specs.Call as C
 use Rattle.model.specs.Run.{Run}
 use Rattle.model.proofs.BoolLaws.{never}
@@ -45,6 +46,7 @@ pub fifteen : (L : Limits) (s : ℕ) (p : Recipe) (c d : Column) (e : Arguments)
       tray-numbers = replicate (a .offsets) (pos 0) ∷ replicate (a .values) (pos 0) ∷ replicate (b .offsets) (pos 0) ∷ replicate (b .values) (pos 0) ∷ [];
       tray-bitmaps = replicate (a .rows) 0 ∷ replicate (a .elements) 0 ∷ replicate (b .rows) 0 ∷ replicate (b .elements) 0 ∷ [];
       tally = given t;
+      grades = [];
     }
 unfolding end recipeEnd traysEnd stationed gate answerOf listNumbers listBitmaps written moveOf named moved
 fifteen L s p c d e a b o t h = rw (lt-ltb 15 s h)
@@ -172,6 +174,14 @@ names-of s x = go (ltb 15 s) refl x
     go false e (made a) = let l = ltb-false 15 s e in omega (arith, l)
     go false e (refused k) = let l = ltb-false 15 s e in omega (arith, l)
 
+names-graded : (k g : ℕ) (ws : List Row) (m : Move) → Names m → Names (gradedMove k ws g m)
+unfolding gradedMove Names
+names-graded k g ws m h = go (eqb (gradeRefusal k ws g) 0)
+  where
+    go : (b : Bool) → Names (pick b m nobody)
+    go true = h
+    go false = tt
+
 names-in : (L : Limits) (q : Call Column Arguments View) → Names (moveIn L q)
 unfolding moveIn Names
 names-in L (list q l) = tt
@@ -187,6 +197,8 @@ names-in L (limitRecipe p c d e) = tt
 names-in L (window p x y c d e a b o) = tt
 names-in L (importView v l) = tt
 names-in L (exportView c l) = tt
+names-in L (gradeColumn k c g) = tt
+names-in L (gradeRecipe k s p c d e a b o g t) = names-graded k g (rowsOf c) _ (names-of s _)
 
 all-name : (L : Limits) (qs : List (Call Column Arguments View)) → All Names (map (moveIn L) qs)
 all-name L [] = none
@@ -194,7 +206,7 @@ all-name L (q ∷ qs) = more (names-in L q) (all-name L qs)
 
 -- a call that takes a tally gives the one that its move leaves
 pub end-moves : (L : Limits) (q : Call Column Arguments View) (t : Tally) → tallyTaken q ≡ given t → end L q .tally ≡ given (moved (moveIn L q) t)
-unfolding tallyTaken end recipeEnd traysEnd moveIn
+unfolding tallyTaken end recipeEnd traysEnd moveIn gradedEnd
 end-moves L (list q l) t h = never cc
 end-moves L (anyValue c l) t h = never cc
 end-moves L (element c a l) t h = never cc
@@ -208,6 +220,8 @@ end-moves L (limitRecipe p c d e) t h = never cc
 end-moves L (window p x y c d e a b o) t h = never cc
 end-moves L (importView v l) t h = never cc
 end-moves L (exportView c l) t h = never cc
+end-moves L (gradeColumn k c g) t h = never cc
+end-moves L (gradeRecipe k s p c d e a b o g t′) t h = cc
 
 chain-moves : (L : Limits) {t u : Tally} {qs : List (Call Column Arguments View)} → Chain L t qs u → u ≡ movedAll (map (moveIn L) qs) t
 unfolding movedAll
@@ -224,7 +238,7 @@ recipes-grow L {t} qs c z w = rw (chain-moves L c) (sums-grow (map (moveIn L) qs
 -- what counts as finished is a call for a station that was accepted, and what counts as refused one that was not
 module _ (L : Limits) where
   split-finished : (q : Call Column Arguments View) → asFinished (moveIn L q) ≡ finishedBy L q
-  unfolding moveIn moveOf named outcomeAt asFinished namesStation accepted end recipeEnd traysEnd answerOf
+  unfolding moveIn moveOf named outcomeAt asFinished namesStation accepted end recipeEnd traysEnd answerOf gradedEnd gradedMove graded gate
   split-finished (list q l) = refl
   split-finished (anyValue c l) = refl
   split-finished (element c a l) = refl
@@ -237,6 +251,15 @@ module _ (L : Limits) where
   split-finished (window p x y c d e a b o) = refl
   split-finished (importView v l) = refl
   split-finished (exportView c l) = refl
+  split-finished (gradeColumn k c g) = refl
+  split-finished (gradeRecipe k s p c d e a b o g t) = go (eqb (gradeRefusal k (rowsOf c) g) 0) (ltb 15 s) (stationed s (recipeOutcome L p c d e a b o))
+    where
+      go : (z b : Bool) (x : Outcome (List Row)) → asFinished (pick z (pick b nobody (outcomeAt s x)) nobody) ≡ bit ((not b && z) && accepted (answerOf listCounts (pick z x (refused (gradeRefusal k (rowsOf c) g)))))
+      go true true x = refl
+      go false true x = refl
+      go true false (refused j) = refl
+      go true false (made ws) = refl
+      go false false x = refl
   split-finished (recipe s p c d e a b o t) = go (ltb 15 s) (stationed s (recipeOutcome L p c d e a b o))
     where
       go : (b : Bool) (x : Outcome (List Row)) → asFinished (pick b nobody (outcomeAt s x)) ≡ bit (not b && accepted (answerOf listCounts x))
@@ -245,7 +268,7 @@ module _ (L : Limits) where
       go false (made ws) = refl
 
   split-refused : (q : Call Column Arguments View) → asRefused (moveIn L q) ≡ refusedBy L q
-  unfolding moveIn moveOf named outcomeAt asRefused namesStation accepted end recipeEnd traysEnd answerOf
+  unfolding moveIn moveOf named outcomeAt asRefused namesStation accepted end recipeEnd traysEnd answerOf gradedEnd gradedMove graded gate
   split-refused (list q l) = refl
   split-refused (anyValue c l) = refl
   split-refused (element c a l) = refl
@@ -258,6 +281,15 @@ module _ (L : Limits) where
   split-refused (window p x y c d e a b o) = refl
   split-refused (importView v l) = refl
   split-refused (exportView c l) = refl
+  split-refused (gradeColumn k c g) = refl
+  split-refused (gradeRecipe k s p c d e a b o g t) = go (eqb (gradeRefusal k (rowsOf c) g) 0) (ltb 15 s) (stationed s (recipeOutcome L p c d e a b o))
+    where
+      go : (z b : Bool) (x : Outcome (List Row)) → asRefused (pick z (pick b nobody (outcomeAt s x)) nobody) ≡ bit ((not b && z) && not (accepted (answerOf listCounts (pick z x (refused (gradeRefusal k (rowsOf c) g))))))
+      go true true x = refl
+      go false true x = refl
+      go true false (refused j) = refl
+      go true false (made ws) = refl
+      go false false x = refl
   split-refused (recipe s p c d e a b o t) = go (ltb 15 s) (stationed s (recipeOutcome L p c d e a b o))
     where
       go : (b : Bool) (x : Outcome (List Row)) → asRefused (pick b nobody (outcomeAt s x)) ≡ bit (not b && not (accepted (answerOf listCounts x)))

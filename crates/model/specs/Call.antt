@@ -5,7 +5,7 @@ use mathlib.Core.List.{List, [], _∷_, map}
 use mathlib.Core.Path.{_≡_}
 use lib.ListN.{length, replicate}
 use lib.IntN.{ℤ, pos}
-use lib.Dec.{ltb}
+use lib.Dec.{ltb, eqb}
 use Rattle.model.specs.Basics.{Lent, absent, given, All}
 use Rattle.model.specs.Limits.{Limits}
 use Rattle.model.specs.Column.{Elem, Row, Column, Arguments, rowsOf, shownBy, WellFormed, WellFormedᵃ, EqualRows, EqualArguments}
@@ -16,7 +16,8 @@ use Rattle.model.specs.Rows.{ListCall, unary, setOp, slice, resize, repl
 use Rattle.model.specs.Outcome.{Outcome, refused, made, listOutcome, listShown, anyValueOutcome, anyValueShown, elementOutcome, elementShown, repeatOutcome, repeatShown}
 use Rattle.model.specs.Recipe.{Recipe, recipeOutcome, recipeShown, stationed}
 use Rattle.model.specs.Window.{windowOutcome, windowShown}
-use Rattle.model.specs.Tally.{Tally, Move, nobody, moveOf, tallied}
+use Rattle.model.specs.Tally.{Tally, Move, nobody, moveOf, tallied, moved}
+use Rattle.model.specs.Grade.{gradesOf, gradeRefusal, graded, gradeShown, gradeOutcome, gradedMove}
 use Rattle.model.specs.Lengths.{TrayLimits, listLengths, listLengthsShown, anyValueLengths, anyValueLengthsShown, elementLengths, elementLengthsShown, repeatLengths, repeatLengthsShown, recipeLimits, recipeLimitsShown}
 use Rattle.model.specs.declared.Unary.{Unary}
 use Rattle.model.specs.declared.SetOp.{SetOp}
@@ -41,6 +42,9 @@ pub data Call (C A W : Type 0) : Type 0 where
   -- Note 3 of document 02: a ListView column read into a list column, and a list column written as one
   importView : W → Room → Call C A W
   exportView : C → ViewRoom → Call C A W
+  -- Note 6 of document 02: a list column graded, by k into a slice of g grades, and a recipe whose result is graded
+  gradeColumn : ℕ → C → ℕ → Call C A W
+  gradeRecipe : ℕ → ℕ → Recipe → C → C → A → Room → Room → Room → ℕ → Tally → Call C A W
 
 -- what is shown of a call
 unfoldable pub shown : Call Column Arguments View → Call (List Row) (List Elem) (List Row)
@@ -57,6 +61,8 @@ shown (limitRecipe p c d e) = limitRecipe p (rowsOf c) (rowsOf d) (shownBy e)
 shown (window p x y c d e a b o) = window p x y (rowsOf c) (rowsOf d) (shownBy e) a b o
 shown (importView v l) = importView (viewRows v) l
 shown (exportView c l) = exportView (rowsOf c) l
+shown (gradeColumn k c g) = gradeColumn k (rowsOf c) g
+shown (gradeRecipe k s p c d e a b o g t) = gradeRecipe k s p (rowsOf c) (rowsOf d) (shownBy e) a b o g t
 
 unfoldable pub listsOf : {C A W : Type 0} → Call C A W → List C
 listsOf (list q l) = listsIn q
@@ -72,6 +78,8 @@ listsOf (limitRecipe p c d e) = c ∷ d ∷ []
 listsOf (window p x y c d e a b o) = c ∷ d ∷ []
 listsOf (importView v l) = []
 listsOf (exportView c l) = c ∷ []
+listsOf (gradeColumn k c g) = c ∷ []
+listsOf (gradeRecipe k s p c d e a b o g t) = c ∷ d ∷ []
 
 unfoldable pub argumentsOf : {C A W : Type 0} → Call C A W → List A
 argumentsOf (list q l) = argumentsIn q
@@ -87,6 +95,8 @@ argumentsOf (limitRecipe p c d e) = e ∷ []
 argumentsOf (window p x y c d e a b o) = e ∷ []
 argumentsOf (importView v l) = []
 argumentsOf (exportView c l) = []
+argumentsOf (gradeColumn k c g) = []
+argumentsOf (gradeRecipe k s p c d e a b o g t) = e ∷ []
 
 unfoldable pub viewsOf : {C A W : Type 0} → Call C A W → List W
 viewsOf (list q l) = []
@@ -102,6 +112,8 @@ viewsOf (limitRecipe p c d e) = []
 viewsOf (window p x y c d e a b o) = []
 viewsOf (importView v l) = v ∷ []
 viewsOf (exportView c l) = []
+viewsOf (gradeColumn k c g) = []
+viewsOf (gradeRecipe k s p c d e a b o g t) = []
 
 -- an answer: the number of a refusal, or all counts
 pub data Answer : Type 0 where
@@ -120,6 +132,10 @@ valueCounts es = length es ∷ nullElems es ∷ []
 abbrev pub repeatCounts : List Outer → List ℕ
 repeatCounts os =
     length os ∷ length (flat (inner os)) ∷ nulls (map isOuter os) ∷ nullElems (flat (inner os)) ∷ length (inner os) ∷ nullRows (inner os) ∷ []
+
+-- "An accepted column answers its row count."
+abbrev pub rowCounts : List Row → List ℕ
+rowCounts ws = length ws ∷ []
 
 -- a measure's counts are the lengths that are needed, slice by slice, and a recipe's limits those of tray one, tray two and the output
 abbrev pub roomCounts : Room → List ℕ
@@ -144,8 +160,8 @@ unfoldable pub written : {A B : Type 0} → (A → List B) → Outcome A → Lis
 written f (refused k) = []
 written f (made a) = f a
 
--- what a call ends in: the answer; the written results, in slices of numbers and bitmaps; a recipe's trays, all their slots; and
--- its tally
+-- what a call ends in: the answer; the written results, in slices of numbers and bitmaps; a recipe's trays, all their slots; its tally; and
+-- the grades written
 pub record End : Type 0 where
   pub answer : Answer
   pub numbers : List (List ℤ)
@@ -153,10 +169,11 @@ pub record End : Type 0 where
   pub tray-numbers : List (List ℤ)
   pub tray-bitmaps : List (List ℕ)
   pub tally : Lent Tally
+  pub grades : List ℕ
 
--- an operation's end: no trays, no tally
+-- an operation's end: no trays, no tally, no grades
 abbrev pub operationEnd : Answer → List (List ℤ) → List (List ℕ) → End
-operationEnd a ns bs = record { answer = a; numbers = ns; bitmaps = bs; tray-numbers = []; tray-bitmaps = []; tally = absent }
+operationEnd a ns bs = record { answer = a; numbers = ns; bitmaps = bs; tray-numbers = []; tray-bitmaps = []; tally = absent; grades = [] }
 
 unfoldable pub listNumbers : Outcome (List Row) → List (List ℤ)
 listNumbers x = written formOffsets x ∷ written (λ ws. formValues (flat ws)) x ∷ []
@@ -186,6 +203,7 @@ traysEnd x a b t =
       tray-numbers = replicate (a .offsets) (pos 0) ∷ replicate (a .values) (pos 0) ∷ replicate (b .offsets) (pos 0) ∷ replicate (b .values) (pos 0) ∷ [];
       tray-bitmaps = replicate (a .rows) 0 ∷ replicate (a .elements) 0 ∷ replicate (b .rows) 0 ∷ replicate (b .elements) 0 ∷ [];
       tally = t;
+      grades = [];
     }
 
 -- of a call that names station s
@@ -206,6 +224,29 @@ viewEnd x =
     operationEnd (answerOf listCounts x) (written viewOffsets x ∷ written viewSizes x ∷ written (λ ws. formValues (flat ws)) x ∷ [])
     (listBitmaps x)
 
+-- grades alone
+abbrev pub gradesEnd : Answer → List ℕ → End
+gradesEnd a g = record { answer = a; numbers = []; bitmaps = []; tray-numbers = []; tray-bitmaps = []; tally = absent; grades = g }
+
+-- a column graded by k: "one grade byte a row"
+unfoldable pub gradeEnd : ℕ → Outcome (List Row) → End
+gradeEnd k x = gradesEnd (answerOf rowCounts x) (written (gradesOf k) x)
+
+-- "A recipe graded answers, moves the tally and leaves its output as its run would": a recipe of station s, on rows ws, whose run comes to x,
+-- graded by k into a slice of g grades
+unfoldable pub gradedEnd : ℕ → List Row → ℕ → ℕ → Outcome (List Row) → Room → Room → Tally → End
+gradedEnd k ws g s x a b t =
+    let y = recipeEnd s (graded k ws g x) a b t in
+    record {
+      answer = y .answer;
+      numbers = y .numbers;
+      bitmaps = y .bitmaps;
+      tray-numbers = y .tray-numbers;
+      tray-bitmaps = y .tray-bitmaps;
+      tally = given (moved (gradedMove k ws g (moveOf s x)) t);
+      grades = written (gradesOf k) (graded k ws g x);
+    }
+
 -- what a call ends in, from the columns lent: contracts name the same outcomes
 unfoldable pub end : Limits → Call Column Arguments View → End
 end L (list q l) = listEnd (listOutcome L q l)
@@ -221,6 +262,8 @@ end L (limitRecipe p c d e) = measureEnd (answerOf limitCounts (recipeLimits L p
 end L (window p x y c d e a b o) = windowEnd (windowOutcome L p x y c d e a b o) a b
 end L (importView v l) = listEnd (importOutcome L v l)
 end L (exportView c l) = viewEnd (exportOutcome c l)
+end L (gradeColumn k c g) = gradeEnd k (gradeOutcome k c g)
+end L (gradeRecipe k s p c d e a b o g t) = gradedEnd k (rowsOf c) g s (stationed s (recipeOutcome L p c d e a b o)) a b t
 
 -- what demand 2's definitions give from what is shown alone
 unfoldable pub endShown : Limits → Call (List Row) (List Elem) (List Row) → End
@@ -237,6 +280,8 @@ endShown L (limitRecipe p ws rs es) = measureEnd (answerOf limitCounts (recipeLi
 endShown L (window p x y ws rs es a b o) = windowEnd (windowShown L p x y ws rs es a b o) a b
 endShown L (importView ws l) = listEnd (importShown L ws l)
 endShown L (exportView ws l) = viewEnd (exportShown ws l)
+endShown L (gradeColumn k ws g) = gradeEnd k (gradeShown k ws g)
+endShown L (gradeRecipe k s p ws rs es a b o g t) = gradedEnd k ws g s (stationed s (recipeShown L p ws rs es a b o)) a b t
 
 -- "If they start from well-formed columns"
 pub record Formed (q : Call Column Arguments View) : Type 0 where
@@ -274,6 +319,9 @@ pub data Alike : Call Column Arguments View → Call Column Arguments View → T
   alikeWindow : {c c′ d d′ : Column} {e e′ : Arguments} (p : Recipe) (x y : ℕ) (a b o : Room) → EqualRows c c′ → EqualRows d d′ → EqualArguments e e′ → Alike (window p x y c d e a b o) (window p x y c′ d′ e′ a b o)
   alikeImport : {v w : View} (l : Room) → EqualViews v w → Alike (importView v l) (importView w l)
   alikeExport : {c d : Column} (l : ViewRoom) → EqualRows c d → Alike (exportView c l) (exportView d l)
+  alikeGradeColumn : {c d : Column} (k g : ℕ) → EqualRows c d → Alike (gradeColumn k c g) (gradeColumn k d g)
+  alikeGradeRecipe : {c c′ d d′ : Column} {e e′ : Arguments} (k s : ℕ) (p : Recipe) (a b o : Room) (g : ℕ) (t : Tally) → EqualRows c c′ → EqualRows d d′ → EqualArguments e e′
+      → Alike (gradeRecipe k s p c d e a b o g t) (gradeRecipe k s p c′ d′ e′ a b o g t)
 
 -- the tally that a call takes
 unfoldable pub tallyTaken : {C A W : Type 0} → Call C A W → Lent Tally
@@ -290,6 +338,8 @@ tallyTaken (limitRecipe p c d e) = absent
 tallyTaken (window p x y c d e a b o) = absent
 tallyTaken (importView v l) = absent
 tallyTaken (exportView c l) = absent
+tallyTaken (gradeColumn k c g) = absent
+tallyTaken (gradeRecipe k s p c d e a b o g t) = given t
 
 -- what a call does to it
 unfoldable pub moveIn : Limits → Call Column Arguments View → Move
@@ -306,9 +356,11 @@ moveIn L (limitRecipe p c d e) = nobody
 moveIn L (window p x y c d e a b o) = nobody
 moveIn L (importView v l) = nobody
 moveIn L (exportView c l) = nobody
+moveIn L (gradeColumn k c g) = nobody
+moveIn L (gradeRecipe k s p c d e a b o g t) = gradedMove k (rowsOf c) g (moveOf s (stationed s (recipeOutcome L p c d e a b o)))
 
--- does a call name one of the sixteen stations
-unfoldable pub namesStation : {C A W : Type 0} → Call C A W → Bool
+-- does a call name one of the sixteen stations; "gradings refused by 12 or for their grade slice, are left out"
+unfoldable pub namesStation : Call Column Arguments View → Bool
 namesStation (list q l) = false
 namesStation (anyValue c l) = false
 namesStation (element c a l) = false
@@ -322,6 +374,8 @@ namesStation (limitRecipe p c d e) = false
 namesStation (window p x y c d e a b o) = false
 namesStation (importView v l) = false
 namesStation (exportView c l) = false
+namesStation (gradeColumn k c g) = false
+namesStation (gradeRecipe k s p c d e a b o g t) = not (ltb 15 s) && eqb (gradeRefusal k (rowsOf c) g) 0
 
 unfoldable pub accepted : Answer → Bool
 accepted (refusal k) = false

@@ -12,12 +12,15 @@ use Rattle.model.specs.Form.{Room, ValueRoom, RepeatRoom, Outer, isOuter
 use Rattle.model.specs.Outcome.{Outcome}
 use Rattle.model.specs.Lengths.{TrayLimits}
 use Rattle.model.specs.View.{ViewRoom, viewOffsets, viewSizes}
-use Rattle.model.specs.Call.{Answer, refusal, counts, answerOf, written, listCounts, valueCounts, repeatCounts, roomCounts, valueRoomCounts, repeatRoomCounts, limitCounts}
+use Rattle.model.specs.Grade.{gradesOf}
+use Rattle.model.specs.Call.{Answer, refusal, counts, answerOf, written, listCounts, valueCounts, repeatCounts, rowCounts, roomCounts, valueRoomCounts, repeatRoomCounts, limitCounts}
 use Rattle.model.specs.declared.ListAnswer.{ListAnswer}
 use Rattle.model.specs.declared.ListAnswer.the-variants as L
 use Rattle.model.specs.Basics.{Lent, absent, given}
 use Rattle.model.specs.declared.Optional.{Optional}
 use Rattle.model.specs.declared.Optional.the-variants as O
+use Rattle.model.specs.declared.GradeAnswer.{GradeAnswer}
+use Rattle.model.specs.declared.GradeAnswer.the-variants as G
 use Rattle.model.specs.declared.RepeatAnswer.{RepeatAnswer}
 use Rattle.model.specs.declared.RepeatAnswer.the-variants as R
 use Rattle.model.specs.declared.ValueAnswer.{ValueAnswer}
@@ -47,6 +50,10 @@ toldValue (V′.Refused k) = refusal k
 unfoldable pub toldRepeat : RepeatAnswer → Answer
 toldRepeat (R.Counts rows elements nulls null-elements inner-rows null-inner) = counts (rows ∷ elements ∷ nulls ∷ null-elements ∷ inner-rows ∷ null-inner ∷ [])
 toldRepeat (R.Refused k) = refusal k
+
+unfoldable pub toldGrade : GradeAnswer → Answer
+toldGrade (G.Rows rows) = counts (rows ∷ [])
+toldGrade (G.Refused k) = refusal k
 
 -- the lengths of a measure, and a recipe's limits
 unfoldable pub toldLengths : ListLengths → Answer
@@ -173,3 +180,19 @@ abbrev pub ViewAnswers : (ViewRoom → Outcome (List Row)) → ListAnswer → Sl
 ViewAnswers f a o s r v e =
     ViewMeets (f (viewRoom (length (now (o .entry))) (length (now (s .entry))) (length (now (r .entry))) (length (now (v .entry))) (length (now (e .entry))))) a
     (now (o .entry)) (now (o .exit)) (now (s .entry)) (now (s .exit)) (now (r .entry)) (now (r .exit)) (now (v .entry)) (now (v .exit)) (now (e .entry)) (now (e .exit))
+
+-- the grades by k, at entry and at exit, of what comes to x: those past the rows are kept, and a refusal writes none
+pub record Grades (k : ℕ) (x : Outcome (List Row)) (g g′ : List ℕ) : Type 0 where
+  pub grades : g′ ≡ after (gradesOf k) x g
+
+abbrev pub GradesLent : ℕ → Outcome (List Row) → Slice ℕ → Type 0
+GradesLent k x g = Grades k x (now (g .entry)) (now (g .exit))
+
+-- the answer of a column graded by k, and its grades, are those of the outcome
+pub record GradeMeets (k : ℕ) (x : Outcome (List Row)) (a : GradeAnswer) (g g′ : List ℕ) : Type 0 where
+  pub answer : toldGrade a ≡ answerOf rowCounts x
+  pub grades : g′ ≡ after (gradesOf k) x g
+
+-- the contract of grading a column: the answer and the grades are what f gives for the length lent
+abbrev pub GradeAnswers : ℕ → (ℕ → Outcome (List Row)) → GradeAnswer → Slice ℕ → Type 0
+GradeAnswers k f a g = GradeMeets k (f (length (now (g .entry)))) a (now (g .entry)) (now (g .exit))

@@ -12,6 +12,7 @@ pub mod View
 pub mod Recipe
 pub mod Window
 pub mod Tally
+pub mod Grade
 pub mod Lengths
 pub mod Call
 pub mod Contract

@@ -8,19 +8,22 @@ use mathlib.Core.Path.{_≡_}
 use Rattle.model.specs.Basics.{Lent, absent, given}
 use Rattle.model.specs.Bitmap.{bytesFor}
 use Rattle.model.specs.Limits.{Limits}
-use Rattle.model.specs.Column.{Column, Arguments}
+use Rattle.model.specs.Column.{Column, Arguments, rowsOf}
 use Rattle.model.specs.View.{View, ViewRoom, importOutcome, exportOutcome}
 use Rattle.model.specs.Form.{Room, ValueRoom, RepeatRoom}
 use Rattle.model.specs.Rows.{ListCall}
 use Rattle.model.specs.Outcome.{listOutcome, anyValueOutcome, elementOutcome, repeatOutcome}
-use Rattle.model.specs.Call.{Call, list, anyValue, element, listRepeat, recipe, measureList, measureAnyValue, measureElement, measureRepeat, limitRecipe, window, importView, exportView, End, refusal, counts, operationEnd, measureEnd}
-use Rattle.model.specs.Contract.{ListMeets, ViewMeets, ValueMeets, RepeatMeets, Zeroed, toldLengths, toldValueLengths, toldRepeatLengths, toldLimits, ListMeasures, ValueMeasures, RepeatMeasures, RecipeLimited}
+use Rattle.model.specs.Call.{Call, list, anyValue, element, listRepeat, recipe, measureList, measureAnyValue, measureElement, measureRepeat, limitRecipe, window, importView, exportView, End, refusal, counts, operationEnd, measureEnd, gradeColumn, gradeRecipe, gradesEnd}
+use Rattle.model.specs.Contract.{ListMeets, ViewMeets, ValueMeets, RepeatMeets, Zeroed, toldLengths, toldValueLengths, toldRepeatLengths, toldLimits, ListMeasures, ValueMeasures, RepeatMeasures, RecipeLimited, GradeMeets, Grades}
 use Rattle.model.specs.Lengths.{listLengths, anyValueLengths, elementLengths, repeatLengths, recipeLimits}
 use Rattle.model.specs.Recipe.{Recipe, recipeOutcome, stationed}
 use Rattle.model.specs.Window.{windowOutcome}
-use Rattle.model.specs.Tally.{Tally, tallied}
+use Rattle.model.specs.Tally.{Tally, tallied, moved, moveOf}
+use Rattle.model.specs.Grade.{graded, gradeOutcome, gradedMove}
 use Rattle.model.specs.declared.ListAnswer.{ListAnswer}
 use Rattle.model.specs.declared.ListAnswer.the-variants as L
+use Rattle.model.specs.declared.GradeAnswer.{GradeAnswer}
+use Rattle.model.specs.declared.GradeAnswer.the-variants as G
 use Rattle.model.specs.declared.RepeatAnswer.{RepeatAnswer}
 use Rattle.model.specs.declared.RepeatAnswer.the-variants as R
 use Rattle.model.specs.declared.ValueAnswer.{ValueAnswer}
@@ -63,6 +66,30 @@ recipeRunEnd a o r v e ao ar av ae bo br bv be t =
       tray-numbers = ao ∷ av ∷ bo ∷ bv ∷ [];
       tray-bitmaps = ar ∷ ae ∷ br ∷ be ∷ [];
       tally = t;
+      grades = [];
+    }
+
+-- a graded column's: as many grades as its answer counts rows
+unfoldable pub gradeRunEnd : GradeAnswer → List ℕ → End
+gradeRunEnd (G.Refused k) g = gradesEnd (refusal k) []
+gradeRunEnd (G.Rows n) g = gradesEnd (counts (n ∷ [])) (take n g)
+
+-- a graded recipe's: its recipe's, and as many grades as its answer counts rows
+unfoldable pub gradesTaken : ListAnswer → List ℕ → List ℕ
+gradesTaken (L.Refused k) g = []
+gradesTaken (L.Counts n m p q) g = take n g
+
+unfoldable pub gradedRunEnd : ListAnswer → List ℤ → List ℕ → List ℤ → List ℕ → List ℤ → List ℕ → List ℤ → List ℕ → List ℤ → List ℕ → List ℤ → List ℕ → Tally → List ℕ → End
+gradedRunEnd a o r v e ao ar av ae bo br bv be t g =
+    let y = recipeRunEnd a o r v e ao ar av ae bo br bv be (given t) in
+    record {
+      answer = y .answer;
+      numbers = y .numbers;
+      bitmaps = y .bitmaps;
+      tray-numbers = y .tray-numbers;
+      tray-bitmaps = y .tray-bitmaps;
+      tally = y .tally;
+      grades = gradesTaken a g;
     }
 
 -- a run of a call that ended so: the contract of its function holds of it
@@ -91,3 +118,9 @@ pub data Run (L : Limits) : Call Column Arguments View → End → Type 0 where
       → ListMeets (importOutcome L c l) a o o′ r r′ v v′ e e′ → Run L (importView c l) (listRunEnd a o′ r′ v′ e′)
   exportRun : {c : Column} {l : ViewRoom} {a : ListAnswer} {o o′ s s′ : List ℤ} {r r′ : List ℕ} {v v′ : List ℤ} {e e′ : List ℕ}
       → ViewMeets (exportOutcome c l) a o o′ s s′ r r′ v v′ e e′ → Run L (exportView c l) (viewRunEnd a o′ s′ r′ v′ e′)
+  gradeColumnRun : {k : ℕ} {c : Column} {j : ℕ} {a : GradeAnswer} {g g′ : List ℕ} → GradeMeets k (gradeOutcome k c j) a g g′ → Run L (gradeColumn k c j) (gradeRunEnd a g′)
+  -- a graded recipe, the grades at entry and at exit being g and g′, of which j are lent
+  gradeRecipeRun : {k s : ℕ} {p : Recipe} {c d : Column} {x : Arguments} {l m n : Room} {j : ℕ} {t t′ : Tally} {a : ListAnswer} {o o′ : List ℤ} {r r′ : List ℕ} {v v′ : List ℤ} {e e′ : List ℕ} {ao : List ℤ} {ar : List ℕ} {av : List ℤ} {ae : List ℕ} {bo : List ℤ} {br : List ℕ} {bv : List ℤ} {be : List ℕ} {g g′ : List ℕ}
+      → ListMeets (graded k (rowsOf c) j (stationed s (recipeOutcome L p c d x l m n))) a o o′ r r′ v v′ e e′ → Zeroed l ao ar av ae → Zeroed m bo br bv be
+      → t′ ≡ moved (gradedMove k (rowsOf c) j (moveOf s (stationed s (recipeOutcome L p c d x l m n)))) t → Grades k (graded k (rowsOf c) j (stationed s (recipeOutcome L p c d x l m n))) g g′
+      → Run L (gradeRecipe k s p c d x l m n j t) (gradedRunEnd a o′ r′ v′ e′ ao ar av ae bo br bv be t′ g′)

@@ -56,6 +56,12 @@ pub enum RepeatAnswer {
     Refused(u8),
 }
 
+// The answer of grading a column: its row count, or the number of a refusal.
+pub enum GradeAnswer {
+    Rows(usize),
+    Refused(u8),
+}
+
 // How much to lend for a list answer: the lengths of the offsets, the row bitmap, the values and the element bitmap, or the number of a refusal.
 pub enum ListLengths {
     Of {

@@ -19,7 +19,8 @@ use Rattle.ops.specs.Ops.{callOf}
 use Rattle.ops.specs.declared.ListOp.{ListOp}
 use Rattle.codes.specs.Codes.{operations, operationOf}
 use Rattle.one_list.specs.Uses.{Uses}
-use Rattle.step.specs.Step.{opCall, opUses, rowsTaken, front}
+use Rattle.column.specs.Front.{front}
+use Rattle.step.specs.Step.{opCall, opUses, rowsTaken}
 use Rattle.codes.specs.declared.Operation.{Operation}
 use Rattle.codes.specs.declared.Operation.the-variants as S
 use Rattle.model.proofs.TabLaws.{getD-map}

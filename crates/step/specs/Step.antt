@@ -1,14 +1,13 @@
 -- One step of a recipe: what it does, the rows that it takes, and the column that a tray holds at its front.
-use Prim.Native.Nat.{ℕ, _+_, _≤_}
+use Prim.Native.Nat.{ℕ}
 use mathlib.Core.Path.{_≡_}
 use mathlib.Core.List.{List, [], _∷_}
 use lib.Dec.{eqb}
 use lib.IntN.{ℤ}
-use lib.ListN.{length, take, getD}
+use lib.ListN.{length}
 use denote.Ref.{now}
 use Rattle.model.specs.Basics.{pick}
-use Rattle.model.specs.Bitmap.{from, bytesFor}
-use Rattle.model.specs.Column.{Elem, Row, Column, column, Arguments, rowCount, rowsOf}
+use Rattle.model.specs.Column.{Elem, Row, Column, Arguments, rowCount, rowsOf}
 use Rattle.model.specs.Contract.{Slice}
 use Rattle.model.specs.Recipe.{Step}
 use Rattle.model.specs.Widths.{entryAt}
@@ -16,6 +15,7 @@ use Rattle.model.specs.declared.Width.{Width}
 use Rattle.model.specs.Rows.{ListCall, unary, setOp}
 use Rattle.model.specs.declared.Unary.the-variants.{Reverse}
 use Rattle.bitmap.specs.Push.{Covers}
+use Rattle.column.specs.Front.{front, AtFront}
 use Rattle.column.specs.Put.{Readable}
 use Rattle.ops.specs.Ops.{callOf}
 use Rattle.one_list.specs.Uses.{Uses}
@@ -29,20 +29,9 @@ opCall (S.One op) ws rs a b c = callOf op ws a b c
 opCall (S.Two op) ws rs a b c = setOp op ws rs
 opCall S.None ws rs a b c = unary Reverse ws
 
--- the column at the front of a tray: n rows of m elements
-abbrev pub front : List ℤ → List ℕ → List ℤ → List ℕ → ℕ → ℕ → Column
-front o r v e n m = column (take (n + 1) o) (from 0 (take (bytesFor n) r)) (take m v) (from 0 (take (bytesFor m) e))
-
--- of the slices of a tray as the call begins
+-- the column at the front of a tray as the call begins: n rows of m elements
 abbrev pub lentFront : Width → Slice ℤ → Slice ℤ → Slice ℕ → Slice ℤ → Slice ℕ → ℕ → ℕ → Column
 lentFront w o x r v e n m = front (entryAt w o x) (now (r .entry)) (now (v .entry)) (now (e .entry)) n m
-
-pub record AtFront (n m : ℕ) (o : List ℤ) (r : List ℕ) (v : List ℤ) (e : List ℕ) : Type 0 where
-  pub offsets : n + 1 ≤ length o
-  pub rows : bytesFor n ≤ length r
-  pub values : m ≤ length v
-  pub elements : bytesFor m ≤ length e
-  pub formed : Readable (front o r v e n m)
 
 -- a step has an operation, and the columns that it uses are there
 unfoldable pub opUses : Operation → Step → ℕ → ℕ → ℕ → Type 0

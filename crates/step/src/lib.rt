@@ -12,7 +12,8 @@ ghost use Rattle.model.specs.Outcome.{afterThree};
 ghost use Rattle.model.specs.Recipe.{stepAt, stepCall};
 ghost use Rattle.one_list.specs.Uses.{columnAt};
 ghost use Rattle.model.specs.Widths.{ListAnswersAt, limitsAt, used};
-ghost use Rattle.step.specs.Step.{AtFront, Beside, StepFits, Taken, lentFront, rowsTaken};
+ghost use Rattle.column.specs.Front.{AtFront};
+ghost use Rattle.step.specs.Step.{Beside, StepFits, Taken, lentFront, rowsTaken};
 ghost use lib.ListN.{length};
 ghost use mathlib.Core.Path.{_≡_};
 

@@ -27,11 +27,12 @@ use Rattle.ops.specs.Ops.{callOf}
 use Rattle.ops.specs.declared.ListOp.{ListOp}
 use Rattle.ops.specs.declared.ListOp.the-variants as L
 use Rattle.codes.specs.Codes.{operationOf}
-use Rattle.step.specs.Step.{front, AtFront, StepFits, opCall, Taken, rowsTaken}
+use Rattle.column.specs.Front.{front, AtFront}
+use Rattle.column.proofs.RoundLaws.{at-front-over, rows-over}
+use Rattle.step.specs.Step.{StepFits, opCall, Taken, rowsTaken}
 use Rattle.steps.specs.Steps.{Steps}
 use Rattle.codes.specs.declared.Operation.{Operation}
 use Rattle.codes.specs.declared.Operation.the-variants as S
-use Rattle.steps.proofs.RoundLaws.{at-front-over, rows-over}
 use Rattle.step.proofs.StepLaws.{call-is, taken-later}
 use Rattle.model.proofs.BoolLaws.{never}
 

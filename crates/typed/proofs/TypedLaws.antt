@@ -8,8 +8,10 @@ use Rattle.model.specs.Basics.{pick, Lent, absent, given}
 use Rattle.model.specs.Column.{Elem, Row}
 use Rattle.model.specs.Form.{Outer, over}
 use Rattle.model.specs.Outcome.{Outcome, refused, gate}
-use Rattle.model.specs.Call.{listCounts, valueCounts, repeatCounts, written}
-use Rattle.model.specs.Contract.{told, toldValue, toldRepeat, ListMeets, ValueMeets, RepeatMeets, ViewMeets}
+use Rattle.model.specs.Call.{listCounts, valueCounts, repeatCounts, rowCounts, written}
+use Rattle.model.specs.Contract.{told, toldValue, toldRepeat, toldGrade, ListMeets, ValueMeets, RepeatMeets, ViewMeets, GradeMeets}
+use Rattle.model.specs.declared.GradeAnswer.{GradeAnswer}
+use Rattle.model.specs.declared.GradeAnswer.the-variants as G
 use Rattle.model.specs.declared.ListAnswer.{ListAnswer}
 use Rattle.model.specs.declared.ListAnswer.the-variants as L
 use Rattle.model.specs.declared.ValueAnswer.{ValueAnswer}
@@ -19,7 +21,7 @@ use Rattle.model.specs.declared.RepeatAnswer.the-variants as R
 use Rattle.entry.specs.Entry.{numberOf}
 use Rattle.entry.specs.Inner.{numberIn, countsIn}
 use Rattle.entry.proofs.AnswerLaws.{number-of, counts-of}
-use Rattle.typed.specs.Typed.{served, Told, TypedList, TypedValues, TypedRepeat, TypedView}
+use Rattle.typed.specs.Typed.{served, Told, TypedList, TypedValues, TypedRepeat, TypedView, TypedGrades}
 
 -- ---- an answer is told
 
@@ -46,6 +48,14 @@ repeat-refused k q = rw q (record { number = refl; counts = refl })
 pub repeat-made : {a : RepeatAnswer} {r e n m i j : ℕ} {c c′ : List ℕ} → a ≡ R.Counts r e n m i j → c′ ≡ over (r ∷ e ∷ n ∷ m ∷ i ∷ j ∷ []) c → Told (toldRepeat a) 0 c c′
 unfolding toldRepeat numberIn countsIn
 repeat-made q h = rw q (record { number = refl; counts = h })
+
+pub grade-refused : {a : GradeAnswer} (k : ℕ) {c : List ℕ} → a ≡ G.Refused k → Told (toldGrade a) k c c
+unfolding toldGrade numberIn countsIn
+grade-refused k q = rw q (record { number = refl; counts = refl })
+
+pub grade-made : {a : GradeAnswer} {r : ℕ} {c c′ : List ℕ} → a ≡ G.Rows r → c′ ≡ over (r ∷ []) c → Told (toldGrade a) 0 c c′
+unfolding toldGrade numberIn countsIn
+grade-made q h = rw q (record { number = refl; counts = h })
 
 -- ---- what an entry comes to: f is what it serves by its code, l the lengths lent, b whether the counts are too short
 
@@ -134,4 +144,19 @@ repeat-told {x = x} {c = c} h m t =
       values = m .values;
       elements = m .elements;
       counts = t .counts ∙ ap (λ w. over w c) (ap countsIn (m .answer) ∙ counts-of repeatCounts x);
+    })
+
+-- ---- a graded column's
+
+pub grade-unserved : (k : ℕ) {x : Outcome (List Row)} {g c : List ℕ} → x ≡ refused 100 → TypedGrades k x 100 g g c c
+unfolding numberOf written
+grade-unserved k h = rw h (record { number = refl; grades = refl; counts = refl })
+
+pub grade-told : {k n : ℕ} {x y : Outcome (List Row)} {a : GradeAnswer} {g g′ c c′ : List ℕ} → y ≡ x → GradeMeets k x a g g′ → Told (toldGrade a) n c c′ → TypedGrades k y n g g′ c c′
+grade-told {x = x} {c = c} h m t =
+    rw h
+    (record {
+      number = t .number ∙ ap numberIn (m .answer) ∙ number-of rowCounts x;
+      grades = m .grades;
+      counts = t .counts ∙ ap (λ w. over w c) (ap countsIn (m .answer) ∙ counts-of rowCounts x);
     })

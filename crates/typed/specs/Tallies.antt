@@ -9,7 +9,7 @@ use denote.Ref.{now}
 use Rattle.model.specs.Basics.{pick, tab, given}
 use Rattle.model.specs.Call.{Answer, refusal}
 use Rattle.model.specs.Column.{Row}
-use Rattle.model.specs.Contract.{Slice, roomOf}
+use Rattle.model.specs.Contract.{Slice, roomOf, GradesLent}
 use Rattle.model.specs.Form.{Room, over}
 use Rattle.model.specs.Outcome.{Outcome}
 use Rattle.model.specs.Tally.{Tally, tallied}
@@ -44,3 +44,10 @@ pub record RecipeServed (station : ℕ) (f : Room → Outcome (List Row)) (n : �
   pub list : TypedList (served (given f) (shortTally c t) (roomOf o r v e)) n
       (now (o .entry)) (now (o .exit)) (now (r .entry)) (now (r .exit)) (now (v .entry)) (now (v .exit)) (now (e .entry)) (now (e .exit)) (now (c .entry)) (now (c .exit))
   pub tally : now (t .exit) ≡ tallyAfter (shortTally c t) station (f (roomOf o r v e)) (now (t .entry))
+
+-- a recipe graded by k: f is what it comes to for the lengths of the output, and u what it leaves of a tally; number, output, counts, grades and tally
+pub record GradedServed (k : ℕ) (f : Room → Outcome (List Row)) (u : Room → Tally → Tally) (n : ℕ) (o : Slice ℤ) (r : Slice ℕ) (v : Slice ℤ) (e g c t : Slice ℕ) : Type 0 where
+  pub list : TypedList (served (given f) (shortTally c t) (roomOf o r v e)) n
+      (now (o .entry)) (now (o .exit)) (now (r .entry)) (now (r .exit)) (now (v .entry)) (now (v .exit)) (now (e .entry)) (now (e .exit)) (now (c .entry)) (now (c .exit))
+  pub grades : GradesLent k (served (given f) (shortTally c t) (roomOf o r v e)) g
+  pub tally : now (t .exit) ≡ pick (shortTally c t) (now (t .entry)) (withTally (u (roomOf o r v e) (tallyAt (now (t .entry)))) (now (t .entry)))

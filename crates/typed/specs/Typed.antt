@@ -13,7 +13,8 @@ use Rattle.model.specs.Column.{Elem, Row}
 use Rattle.model.specs.Form.{Room, ValueRoom, RepeatRoom, Outer, isOuter, outerLength, inner, offsetsFrom, over, flat, formOffsets, formRows, formValues, formElements}
 use Rattle.model.specs.Outcome.{Outcome, refused, gate}
 use Rattle.model.specs.View.{ViewRoom, viewOffsets, viewSizes}
-use Rattle.model.specs.Call.{Answer, listCounts, valueCounts, repeatCounts}
+use Rattle.model.specs.Grade.{gradesOf}
+use Rattle.model.specs.Call.{Answer, listCounts, valueCounts, repeatCounts, rowCounts}
 use Rattle.model.specs.Contract.{Slice, after, roomOf, valueRoom, repeatRoomOf, viewRoom}
 use Rattle.entry.specs.Entry.{numberOf}
 use Rattle.entry.specs.Inner.{numberIn, countsIn}
@@ -73,6 +74,12 @@ pub record TypedView (x : Outcome (List Row)) (n : ℕ) (o o′ s s′ : List �
   pub elements : e′ ≡ after (λ ws. formElements (flat ws)) x e
   pub counts : c′ ≡ after listCounts x c
 
+-- of a graded column's, the grades by k at entry and at exit
+pub record TypedGrades (k : ℕ) (x : Outcome (List Row)) (n : ℕ) (g g′ c c′ : List ℕ) : Type 0 where
+  pub number : n ≡ numberOf x
+  pub grades : g′ ≡ after (gradesOf k) x g
+  pub counts : c′ ≡ after rowCounts x c
+
 -- ---- the contracts: f is what the operation comes to for the lengths lent; the number returned, the outputs and the counts
 
 abbrev pub ListServed : Lent (Room → Outcome (List Row)) → ℕ → Slice ℤ → Slice ℕ → Slice ℤ → Slice ℕ → Slice ℕ → Type 0
@@ -94,6 +101,10 @@ abbrev pub ViewServed : (ViewRoom → Outcome (List Row)) → ℕ → Slice ℤ 
 ViewServed f n o s r v e c =
     TypedView (served (given f) (short 4 c) (viewRoom (length (now (o .entry))) (length (now (s .entry))) (length (now (r .entry))) (length (now (v .entry))) (length (now (e .entry))))) n
     (now (o .entry)) (now (o .exit)) (now (s .entry)) (now (s .exit)) (now (r .entry)) (now (r .exit)) (now (v .entry)) (now (v .exit)) (now (e .entry)) (now (e .exit)) (now (c .entry)) (now (c .exit))
+
+abbrev pub GradeServed : ℕ → (ℕ → Outcome (List Row)) → ℕ → Slice ℕ → Slice ℕ → Type 0
+GradeServed k f n g c =
+    TypedGrades k (served (given f) (short 1 c) (length (now (g .entry)))) n (now (g .entry)) (now (g .exit)) (now (c .entry)) (now (c .exit))
 
 -- ---- how much to lend: x is what the measure comes to, f its lengths in the order of the slices, and `need` how many they are
 

@@ -4,11 +4,12 @@ pub mod lengths;
 pub mod tallies;
 pub mod windows;
 
+use model::GradeAnswer;
 use model::ListAnswer;
 use model::RepeatAnswer;
 use model::ValueAnswer;
 ghost use Prim.Native.Nat.{_≤_};
-ghost use Rattle.model.specs.Contract.{told, toldRepeat, toldValue};
+ghost use Rattle.model.specs.Contract.{told, toldGrade, toldRepeat, toldValue};
 ghost use Rattle.model.specs.Form.{over};
 ghost use Rattle.typed.specs.Typed.{Told};
 ghost use lib.ListN.{length};
@@ -58,6 +59,20 @@ pub fn put_values(answer: ValueAnswer, counts: &mut [u64]) -> u32
         ValueAnswer::Refused(k) => k as u32,
         ValueAnswer::Counts { rows, null_rows } => {
             let ns = [rows as u64, null_rows as u64];
+            put_counts(&ns, counts);
+            0
+        }
+    }
+}
+
+pub fn put_grade(answer: GradeAnswer, counts: &mut [u64]) -> u32
+    requires { ⌜ 1 ≤ length (now counts) ⌝ }
+    ensures { λ n. ⌜ Told (toldGrade answer) n (now (counts .entry)) (now (counts .exit)) ⌝ }
+{
+    match answer {
+        GradeAnswer::Refused(k) => k as u32,
+        GradeAnswer::Rows(rows) => {
+            let ns = [rows as u64];
             put_counts(&ns, counts);
             0
         }

@@ -30,6 +30,16 @@ pub fn station_for(counts: usize, tally: usize, station: u32) -> u32
     station
 }
 
+// The k that a recipe is graded by: 0 where the call cannot be told, so that 12 leaves output and tally as they are and only the trays are cleared.
+pub fn k_for(counts: usize, tally: usize, k: u64) -> u64
+    ensures { λ j. ⌜ j ≡ pick (ltb counts 4 || ltb tally 32) 0 k ⌝ }
+{
+    if is_short(counts, tally) {
+        return 0;
+    }
+    k
+}
+
 // The number at a place, 0 past the end.
 fn count_at(s: &[u64], i: usize) -> u64
     ensures { λ n. ⌜ n ≡ getD (now (s .entry)) i 0 ⌝ }

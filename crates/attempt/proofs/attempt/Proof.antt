@@ -22,7 +22,8 @@ use Rattle.column.proofs.AnswerLaws.{list-refused}
 use Rattle.column.proofs.CutLaws.{part, part-count, part-readable}
 use Rattle.column.proofs.WalkLaws.{readable}
 use Rattle.set_checks.proofs.RefusalLaws.{both-formed}
-use Rattle.step.specs.Step.{Beside, front}
+use Rattle.column.specs.Front.{front}
+use Rattle.step.specs.Step.{Beside}
 use Rattle.recipe_refusal.specs.Refused.{recipe, recipeRefusal}
 use Rattle.recipe_refusal.proofs.RefusalLaws.{Passed, passed}
 use Rattle.attempt.proofs.ArgumentLaws.{skips, left-over, rest-covers, rest-shown}

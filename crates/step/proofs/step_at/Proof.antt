@@ -3,7 +3,7 @@ use native.Mathlib.Omega.{arith}
 use Rattle.model.specs.Bitmap.{from}
 use Rattle.model.specs.Widths.{used}
 use Rattle.model.specs.Column.{Column, column}
-use Rattle.step.specs.Step.{front}
+use Rattle.column.specs.Front.{front}
 use Rattle.step.proofs.StepLaws.{taken-first, taken-later}
 use Rattle.step.proofs.step_at.Statement.{statement}
 use Rattle.step.proofs.step_at.Tie as tie

@@ -9,7 +9,7 @@ use Rattle.model.specs.Bitmap.{from}
 use Rattle.model.specs.Column.{column, rowCount}
 use Rattle.model.specs.Widths.{used}
 use Rattle.column.specs.Put.{Readable}
-use Rattle.step.specs.Step.{front}
+use Rattle.column.specs.Front.{front}
 use Rattle.model.proofs.WidthLaws.{used-below}
 use Rattle.step.proofs.StepLaws.{front-offsets, front-narrow, front-wide, front-is}
 use Rattle.step.proofs.step_from.Statement.{statement}

@@ -14,7 +14,8 @@ use Rattle.model.specs.Recipe.{Step, stepAt}
 use Rattle.model.proofs.WidthLaws.{used-kept}
 use Rattle.column.proofs.AnswerLaws.{list-refused}
 use Rattle.one_list.specs.Uses.{columnAt}
-use Rattle.step.specs.Step.{front, rowsTaken}
+use Rattle.step.specs.Step.{rowsTaken}
+use Rattle.column.specs.Front.{front}
 use Rattle.steps.proofs.ChainLaws.{answer-refused, rows-kept, chain-last, chain-refused, chain-on, Carried, carries, taken-rows, taken-next, next-rows, same-room, step-fits, step-there, none-left, more-left, next-steps}
 use borrow.Fn.Kinds.{In}
 use borrow.Fn.PlainCycle.{Measures, is, falls, and}

@@ -1,4 +1,4 @@
--- The front of a tray that a column was written into in result form shows the rows that it was written from.
+-- The front of slices that a column was written into in result form shows the rows that it was written from.
 use mathlib.Core.Path.{_≡_, sym, ap, _∙_}
 use mathlib.Core.List.{List, map}
 use Prim.Native.Nat.{ℕ, _+_}
@@ -11,8 +11,8 @@ use Rattle.model.specs.Column.{Row, rowsOf}
 use Rattle.model.specs.Form.{isVal, valueOf, isRow, lengthOf, flat, formOffsets, formRows, formValues, formElements, over}
 use Rattle.model.proofs.TabLaws.{length-map}
 use Rattle.model.proofs.FormLaws.{length-pack, length-offsets}
+use Rattle.column.specs.Front.{front, AtFront}
 use Rattle.column.proofs.ReadLaws.{formed, shows, formed-readable}
-use Rattle.step.specs.Step.{front, AtFront}
 
 module _ (ws : List Row) (d₁ : List ℤ) (d₂ : List ℕ) (d₃ : List ℤ) (d₄ : List ℕ) (n m : ℕ) (e : n ≡ length ws) (f : m ≡ length (flat ws)) where
   front-over : front (over (formOffsets ws) d₁) (over (formRows ws) d₂) (over (formValues (flat ws)) d₃) (over (formElements (flat ws)) d₄) n m ≡ formed ws

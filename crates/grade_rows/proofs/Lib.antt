@@ -1,0 +1,3 @@
+pub mod CallLaws
+pub mod RunLaws
+pub mod FrontLaws

@@ -1,6 +1,6 @@
 //! Time of typed calls, beside the same calls in plain safe Rust in place, beside a plain copy of the
-//! bytes that the result has, beside the byte entries, and beside calls of large lists; all from one
-//! driver, in turns, in the same buffers, which are not cleared between calls. A benchmark, and no
+//! bytes that the result has, beside the byte entries, beside calls of large lists, and of operations
+//! with a work area beside those without; all from one driver, in turns, in the same buffers, which are not cleared between calls. A benchmark, and no
 //! test.
 
 use crate::decoded;
@@ -12,7 +12,7 @@ use crate::numbers::{bytes_of, bytes_of_mut};
 use crate::plain;
 use crate::recipe_generate::recipe_input;
 use crate::rng::Rng;
-use crate::typed::Typed;
+use crate::typed::{Hashed, Typed};
 use std::hint::black_box;
 use std::ops::Range;
 use std::time::{Duration, Instant};
@@ -223,6 +223,8 @@ enum Side<'a> {
     Typed(&'a Typed<i32>),
     /// A call of large lists.
     Large(&'a Typed<i64>),
+    /// A call with a work area.
+    Hashed(&'a Hashed),
     Bytes(&'a Library),
     /// Copies the bytes that the result has.
     Memcpy,
@@ -280,6 +282,9 @@ impl Bench {
                 }
                 Side::Large(large) => {
                     large.call(self.typed_entry, lent, starts, &mut outputs, counts)
+                }
+                Side::Hashed(hashed) => {
+                    hashed.call(self.typed_entry, lent, starts, &mut outputs, counts)
                 }
                 Side::Bytes(library) => {
                     let (lent, starts) = (&lent[..inputs], &starts[..bitmaps]);
@@ -453,11 +458,79 @@ pub fn print(port: &Library, wanted: Option<&str>) {
     println!("bytes: the byte entry of the port, which decodes and encodes");
     println!("decoded: plain safe Rust that decodes and encodes as the byte entry does");
     println!("start: the starting bit of all bitmaps lent");
+    if let Some(hashed) = &port.hashed {
+        print_hashed(hashed, typed, wanted);
+    }
     let subjects = subjects(wanted);
+    if subjects.is_empty() {
+        return;
+    }
     print_small(&subjects, port, typed, plain);
     print_large(&subjects, typed, plain);
     if let Some(large) = &port.large {
         print_widths(&subjects, large, typed);
+    }
+}
+
+/// What is lent to an operation with a work area, and how many times the plain call's time it may take.
+struct HashedLoad {
+    name: &'static str,
+    rows: Vec<Row>,
+    right: Vec<Row>,
+    nulls: Nulls,
+    most: f64,
+}
+
+/// A row of the levels 1 to 4000 against itself; and rows of eight, without nulls and with them.
+fn hashed_loads() -> Vec<HashedLoad> {
+    let levels: Vec<Row> = vec![Some((1..=4000).map(Some).collect())];
+    let (name, right) = ("levels 1 to 4000", levels.clone());
+    let long = HashedLoad { name, rows: levels, right, nulls: Nulls::NoBitmaps, most: 0.1 };
+    let of_eight = |(name, nulls): (&'static str, Nulls)| {
+        let mut rng = Rng::new(1, "bench");
+        let load = Load { values: MOST_VALUES, length: 8, nulls, start: 0 };
+        let rows = rows_of(Entry::of(Operation::Union, Width::Narrow), load, &mut rng);
+        let right = right_of(&rows, nulls, &mut rng);
+        HashedLoad { name, rows, right, nulls, most: 1.2 }
+    };
+    let eights = [("rows of 8", Nulls::NoBitmaps), ("rows of 8, nulls", Nulls::OneInEight)];
+    [long].into_iter().chain(eights.map(of_eight)).collect()
+}
+
+/// Distinct, union and intersect with a work area beside the same without one.
+fn print_hashed(hashed: &Hashed, typed: &Typed<i32>, wanted: Option<&str>) {
+    let names = |entry: Entry| [entry.name(), entry.without_area().name()];
+    let is_wanted = |entry: &Entry| wanted.is_none_or(|name| names(*entry).contains(&name));
+    let entries: Vec<Entry> = Entry::HASHED.into_iter().filter(is_wanted).collect();
+    if entries.is_empty() {
+        return;
+    }
+    println!("\nwith a work area and without, microseconds a call:\n");
+    println!("| Operation | Lent | hashed | typed | hashed / typed | to be at most |");
+    println!("|---|---|---|---|---|---|");
+    for entry in entries {
+        for load in hashed_loads() {
+            let lists: Vec<Vec<Row>> =
+                [&load.rows, &load.right].into_iter().take(entry.lists()).cloned().collect();
+            let shown = Shown { lists, arguments: Vec::new() };
+            let nulls = load.nulls;
+            let layout = layout_of(Load { values: 0, length: 0, nulls, start: 0 });
+            let mut rng = Rng::new(1, "bench");
+            let calls = [entry, entry.without_area()].map(|entry| {
+                let input = input_of(entry, &shown, &[layout], &mut Rng::new(1, "bench"));
+                lend_typed(&input, Room::Exact, &mut rng)
+            });
+            let sides = [Side::Hashed(hashed), Side::Typed(typed)];
+            let mut benches = [0, 1].map(|at| Bench::new(&calls[at], sides[at]));
+            let results = benches.each_ref().map(|bench| bench.result.iter().map(Words::bytes));
+            let [result, plain_result] = results;
+            assert!(result.eq(plain_result), "both sides of the benchmark agree");
+            let times = least(2, false, |side, repeats| benches[side].time(sides[side], repeats));
+            let (one, other) = (times[0] / 1000.0, times[1] / 1000.0);
+            let (name, most) = (load.name, load.most);
+            let ratio = one / other;
+            println!("| {} | {name} | {one:.2} | {other:.2} | {ratio:.3} | {most} |", entry.name());
+        }
     }
 }
 

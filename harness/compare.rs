@@ -8,6 +8,7 @@ use crate::entry::{decode_i64, decode_offsets, decode_tally, decode_u32};
 use crate::entry::{Case, Content, Entry, Expected, Input, Route, SliceKind};
 use crate::entry::{TALLY, TALLY_BYTES};
 use crate::generate::untaken_column;
+use crate::hash_coverage;
 use crate::lending;
 use crate::library::Library;
 use crate::model::{is_valid, ArgumentColumn, Tally, Width, UNDER_NULL};
@@ -244,7 +245,7 @@ impl<'a> Checker<'a> {
         observed.expect("a call is made in one way at least")
     }
 
-    /// Makes a call of large lists, of ListView columns or of a window, which have typed entries alone.
+    /// Makes a call that has a typed entry alone.
     fn check_typed_only(&mut self, case: &Case) -> Observed {
         self.begin_call();
         let typed_case = self.typed_case(case);
@@ -417,6 +418,9 @@ impl<'a> Checker<'a> {
         if let (true, Some(views)) = (entry.is_view(), &library.views) {
             return views.call(entry, lent, starts, outputs, counts);
         }
+        if let (true, Some(hashed)) = (entry.is_hashed(), &library.hashed) {
+            return hashed.call(entry, lent, starts, outputs, counts);
+        }
         if let (true, Some(windows)) = (entry.is_window(), &library.windows) {
             return windows.call(entry, lent, starts, outputs, counts);
         }
@@ -509,6 +513,11 @@ impl<'a> Checker<'a> {
         }
         if case.entry.is_window() {
             return self.record_window(case, expected);
+        }
+        if case.entry.is_hashed() {
+            for (kind, subject) in hash_coverage::met(case, expected.number) {
+                self.covered(case, kind, subject);
+            }
         }
         if !matches!(expected.number, 0 | 3..=9) {
             return;
@@ -709,7 +718,7 @@ fn show(kind: SliceKind, bytes: &[u8]) -> String {
         Content::Offsets | Content::ViewOffsets | Content::Sizes => {
             format!("{:?}", decode_offsets(bytes, Width::Narrow))
         }
-        Content::Numbers => format!("{:?}", decode_u32(bytes)),
+        Content::Numbers | Content::Area => format!("{:?}", decode_u32(bytes)),
         Content::Values | Content::RowValues => format!("{:?}", decode_i64(bytes)),
         Content::Tally if bytes.len() >= TALLY_BYTES => {
             format!("{:?} and bytes {:02x?}", decode_tally(bytes), &bytes[TALLY_BYTES..])

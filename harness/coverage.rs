@@ -11,6 +11,7 @@ use crate::entry::{Case, Content, Entry, Expected, Input, Kind, SliceKind};
 use crate::entry::{NOT_SERVED, TALLY, TALLY_BYTES, TRAYS};
 use crate::generate::{Column, Harm};
 use crate::grade_coverage;
+use crate::hash_coverage;
 use crate::library::Library;
 use crate::model::{
     self, is_valid, ArgumentColumn, Bitmap, Element, ListColumn, Made, Operation, Role, Row, Shown,
@@ -381,7 +382,7 @@ pub fn demanded_null_slots() -> Vec<(&'static str, String)> {
 pub const OUTPUT_LENGTHS: [&str; 3] = ["exactly long enough", "longer", "counts longer"];
 
 pub fn output_lengths(case: &Case, expected: &Expected) -> Vec<&'static str> {
-    let mut lengths = case.outputs.iter().zip(&expected.written);
+    let mut lengths = case.outputs.iter().zip(&expected.written).take(case.entry.results().len());
     let holds = [
         lengths.clone().all(|(lent, written)| lent.len() == written.len()),
         lengths.all(|(lent, written)| lent.len() > written.len()),
@@ -1416,6 +1417,7 @@ pub fn answers(entry: Entry) -> Vec<u32> {
     let mut answers = vec![0, 13, 1, 2];
     answers.extend(others.then_some(3));
     answers.extend(entry.refusals().iter().filter(|_| operation != Operation::Union));
+    answers.extend(entry.is_hashed().then_some(14));
     answers.extend([9, 100]);
     if !entry.is_typed_only() {
         answers.push(101);
@@ -1430,7 +1432,11 @@ fn demanded_orders(entry: Entry) -> Vec<String> {
     let mut orders = Vec::new();
     let answers = answers(entry);
     let of_rows = |number: u32| (4..=8).contains(&number);
-    let rank = |number: u32| [102, 100, 101, 13].iter().position(|one| *one == number).unwrap_or(4);
+    let rank = |number: u32| match number {
+        14 => 5,
+        4..=9 => 6,
+        _ => [102, 100, 101, 13].iter().position(|one| *one == number).unwrap_or(4),
+    };
     for first in answers.iter().copied().filter(|one| *one != 0) {
         for then in answers.iter().copied().filter(|one| *one != 0 && *one != first) {
             let comes_first = (rank(first), first) < (rank(then), then);
@@ -1469,7 +1475,7 @@ pub fn demanded_column_orders(entry: Entry) -> Vec<String> {
 
 /// The answers that pairs of layouts must share: all but 13, 1, 2 and the entry's own.
 fn shared_answers(entry: Entry) -> Vec<u32> {
-    answers(entry).into_iter().filter(|number| matches!(number, 0 | 3..=9)).collect()
+    answers(entry).into_iter().filter(|number| matches!(number, 0 | 3..=9 | 14)).collect()
 }
 
 fn demanded_shared(entry: Entry) -> Vec<String> {
@@ -1477,7 +1483,7 @@ fn demanded_shared(entry: Entry) -> Vec<String> {
     let mut all: Vec<String> = numbers.map(|number| number.to_string()).collect();
     let others = Column::all(entry).into_iter().skip(1);
     all.extend(others.map(|column| shared_3(column, entry)));
-    all.extend(entry.outputs().iter().map(|kind| shared_9(kind.name)));
+    all.extend(entry.outputs()[entry.results()].iter().map(|kind| shared_9(kind.name)));
     all
 }
 
@@ -1505,14 +1511,16 @@ fn demanded(entry: Entry) -> Vec<(&'static str, String)> {
     add("row", demanded_of_rows(entry));
     if entry.is_wide() {
         add("beside the narrow call", vec!["equal rows".to_string()]);
-    } else if !entry.is_view() {
+    } else if !entry.is_typed_only() {
         add("ragged", vec!["counts".to_string()]);
     }
     all.extend(demanded_no_offsets(entry));
     all.extend(demanded_null_slots());
     all.extend(demanded_starts(entry, &shared_answers(entry)));
     all.extend(demanded_typed(entry, &answers(entry)));
-    if !entry.is_view() {
+    if entry.is_hashed() {
+        all.extend(hash_coverage::demanded(entry));
+    } else if !entry.is_view() {
         all.extend(demanded_lending(entry));
     }
     all
@@ -1537,7 +1545,7 @@ impl Coverage {
     pub fn missing(&self, library: &Library) -> Vec<String> {
         let mut missing = Vec::new();
         let others = [Entry::IMPORT, Entry::EXPORT, Entry::RECIPE_ROWS].into_iter();
-        let others = others.filter(|entry| library.has(*entry));
+        let others = others.chain(Entry::HASHED).filter(|entry| library.has(*entry));
         for entry in library.operations().chain(others) {
             let demanded = match entry {
                 Entry::IMPORT => view_coverage::demanded(),
@@ -1579,6 +1587,7 @@ impl Coverage {
         println!("covered, as calls by operation:");
         let rows = |entry: Entry| (entry.name(), demanded_of_rows(entry));
         let entries = Width::ALL.into_iter().flat_map(Entry::all).chain([Entry::EXPORT]);
+        let entries = entries.chain(Entry::HASHED);
         let rows: BTreeMap<&str, Vec<String>> = entries.map(rows).collect();
         let mut line = String::new();
         let mut last = ("", "");

@@ -20,6 +20,7 @@ pub const LIBRARY: Library = Library {
     grades: None,
     views: None,
     windows: None,
+    hashed: None,
 };
 
 fn decode_i32<'a>(bytes: &[u8], array: &'a mut [i32]) -> &'a [i32] {

@@ -1,9 +1,10 @@
 //! The names of the deliberately wrong versions of the library, which mock.rs, mock_rows.rs,
-//! mock_recipe.rs, mock_typed.rs, mock_lending.rs, mock_views.rs, mock_windows.rs and mock_grades.rs
-//! ask for.
+//! mock_recipe.rs, mock_typed.rs, mock_lending.rs, mock_views.rs, mock_windows.rs, mock_grades.rs and
+//! mock_hashed.rs ask for.
 
 use crate::entry::{Content, Entry};
 use crate::mock_grades::{COLUMN_DEFECTS as GRADE_DEFECTS, RECIPE_DEFECTS as GRADE_RECIPE_DEFECTS};
+use crate::mock_hashed::{HASHED_DEFECTS, HASHED_DISTINCT_DEFECTS, HASHED_LISTS_DEFECTS};
 use crate::mock_views::{EXPORT_DEFECTS, IMPORT_DEFECTS};
 use crate::mock_windows::WINDOW_DEFECTS;
 use crate::model::Width;
@@ -270,6 +271,12 @@ const TYPED_DEFECTS: &[(By, &str, &[&str])] = &[
     (By::Typed, "import view", IMPORT_DEFECTS),
     (By::Typed, "export view", EXPORT_DEFECTS),
     (By::Typed, "recipe rows", WINDOW_DEFECTS),
+    (By::Typed, "distinct hashed", HASHED_DEFECTS),
+    (By::Typed, "distinct hashed", HASHED_DISTINCT_DEFECTS),
+    (By::Typed, "union hashed", HASHED_DEFECTS),
+    (By::Typed, "union hashed", HASHED_LISTS_DEFECTS),
+    (By::Typed, "intersect hashed", HASHED_DEFECTS),
+    (By::Typed, "intersect hashed", HASHED_LISTS_DEFECTS),
 ];
 
 const LARGE_SLICE_DEFECTS: &[&str] = &[

@@ -1,12 +1,13 @@
 //! The C entries: which slices each takes, how columns lie in them, and the answers that an entry
 //! gives by itself: over bytes 100, 101 and 102, typed 100 alone. A case is one call, as bytes; the
-//! bytes of whole numbers are what a typed call is lent. Large lists, ListView columns and a recipe
-//! over some of its rows have typed entries alone.
+//! bytes of whole numbers are what a typed call is lent. Large lists, ListView columns, a recipe over
+//! some of its rows and the operations that use a work area have typed entries alone.
 //!
 //! An operation is added by its line in `OPERATIONS`, an entry by its arm in each function of
 //! `Entry`. The recipe's entry reaches no operation of its own; its trays and its tally, which go
-//! in and come back, stand among the outputs.
+//! in and come back, stand among the outputs, and so does a work area.
 
+use crate::hashed;
 use crate::model::{
     self, ArgumentColumn, Bitmap, ListColumn, Operation, Recipe, RecipeRefusal, ResultForm, Role,
     Shown, Slots, Tally, Width,
@@ -47,7 +48,8 @@ pub struct Entry {
 }
 
 /// Which entry it is, with the operation code that it is given; a recipe's with its station and the
-/// number of its argument columns, or with the rows that are looked at.
+/// number of its argument columns, or with the rows that are looked at. Those that are hashed use a
+/// work area.
 #[derive(Clone, Copy, PartialEq, Eq, Debug)]
 pub enum Kind {
     List(u32),
@@ -60,6 +62,8 @@ pub enum Kind {
     RecipeRows { window: Window, columns: usize },
     ImportView,
     ExportView,
+    DistinctHashed,
+    ListsHashed(u32),
 }
 
 impl Kind {
@@ -110,6 +114,8 @@ pub enum Content {
     /// The offsets of views, one a row, and their sizes.
     ViewOffsets,
     Sizes,
+    /// The slots of a work area.
+    Area,
 }
 
 /// One slice of an entry: bytes a slot, and the most slots that the entry takes (bitmaps and the
@@ -207,6 +213,18 @@ const LIST_OF_LISTS_ANSWER: [SliceKind; 6] = [
     bits("output elements"),
 ];
 
+/// A list answer, and the work area, of which any number of slots may be lent.
+const HASHED_OUTPUTS: [SliceKind; 5] = [
+    LIST_ANSWER[0],
+    LIST_ANSWER[1],
+    LIST_ANSWER[2],
+    LIST_ANSWER[3],
+    SliceKind { name: "work area", content: Content::Area, width: 4, most: None },
+];
+
+/// The place of the work area among them.
+pub const AREA: usize = 4;
+
 const VIEW: [SliceKind; 5] = [
     views("offsets", Content::ViewOffsets),
     views("sizes", Content::Sizes),
@@ -289,6 +307,13 @@ impl Entry {
     pub const IMPORT: Entry = Kind::ImportView.at(Width::Narrow);
     pub const EXPORT: Entry = Kind::ExportView.at(Width::Narrow);
 
+    /// The entries that use a work area.
+    pub const HASHED: [Entry; 3] = [
+        Kind::DistinctHashed.at(Width::Narrow),
+        Kind::ListsHashed(9).at(Width::Narrow),
+        Kind::ListsHashed(10).at(Width::Narrow),
+    ];
+
     /// The entry of recipes over some of their rows, for none of them and without columns.
     pub const RECIPE_ROWS: Entry =
         Kind::RecipeRows { window: Window { begin: 0, end: 0 }, columns: 0 }.at(Width::Narrow);
@@ -306,8 +331,18 @@ impl Entry {
         if self.kind == Kind::ExportView {
             return Some(Operation::ExportView);
         }
-        let line = OPERATIONS.iter().find(|(kind, ..)| *kind == self.kind);
+        let line = OPERATIONS.iter().find(|(kind, ..)| *kind == self.without_area().kind);
         line.map(|(_, operation, ..)| *operation)
+    }
+
+    /// The entry of the same operation that uses no work area.
+    pub fn without_area(self) -> Entry {
+        let kind = match self.kind {
+            Kind::DistinctHashed => Kind::List(1),
+            Kind::ListsHashed(code) => Kind::Lists(code),
+            kind => kind,
+        };
+        kind.at(self.width)
     }
 
     /// The operation that the typed entry does by this code: one entry has all those on one list.
@@ -354,9 +389,14 @@ impl Entry {
         matches!(self.kind, Kind::ImportView | Kind::ExportView)
     }
 
+    /// Whether it uses a work area.
+    pub fn is_hashed(self) -> bool {
+        matches!(self.kind, Kind::DistinctHashed | Kind::ListsHashed(_))
+    }
+
     /// Whether there is no such entry over bytes.
     pub fn is_typed_only(self) -> bool {
-        self.is_wide() || self.is_view() || self.is_window()
+        self.is_wide() || self.is_view() || self.is_window() || self.is_hashed()
     }
 
     /// Whether its typed entry serves it, by its code if it takes one.
@@ -403,6 +443,9 @@ impl Entry {
             _ if self.is_window() => ["recipe rows", "large recipe rows"],
             _ if self.kind == Kind::ImportView => ["import view", "large import view"],
             _ if self.kind == Kind::ExportView => ["export view", "large export view"],
+            _ if self == Entry::HASHED[0] => ["distinct hashed", "large distinct hashed"],
+            _ if self == Entry::HASHED[1] => ["union hashed", "large union hashed"],
+            _ if self == Entry::HASHED[2] => ["intersect hashed", "large intersect hashed"],
             Some((_, _, name, large)) => [*name, *large],
             None => ["unknown", "large unknown"],
         };
@@ -411,7 +454,7 @@ impl Entry {
 
     /// The name by the code alone, whichever entry has it.
     pub fn typed_name(self) -> &'static str {
-        let operation = self.typed_operation();
+        let operation = self.typed_operation().filter(|_| !self.is_hashed());
         operation.map_or(self.name(), |operation| Entry::of(operation, self.width).name())
     }
 
@@ -421,6 +464,8 @@ impl Entry {
             Kind::List(_) => Kind::List(code),
             Kind::Lists(_) => Kind::Lists(code),
             Kind::ListWith(_) => Kind::ListWith(code),
+            Kind::ListsHashed(_) => Kind::ListsHashed(code),
+            Kind::DistinctHashed => return None,
             Kind::AnyValue | Kind::Element | Kind::ListRepeat => return None,
             Kind::Recipe { .. } | Kind::RecipeRows { .. } => return None,
             Kind::ImportView | Kind::ExportView => return None,
@@ -432,6 +477,7 @@ impl Entry {
     pub fn lists(self) -> usize {
         match self.kind {
             Kind::Lists(_) | Kind::Recipe { .. } | Kind::RecipeRows { .. } => 2,
+            Kind::ListsHashed(_) => 2,
             _ => 1,
         }
     }
@@ -450,6 +496,7 @@ impl Entry {
             Kind::Recipe { .. } | Kind::RecipeRows { .. } => &RECIPE_INPUTS[9..],
             Kind::List(_) | Kind::AnyValue | Kind::Lists(_) => &[],
             Kind::ImportView | Kind::ExportView => &[],
+            Kind::DistinctHashed | Kind::ListsHashed(_) => &[],
         }
     }
 
@@ -502,6 +549,7 @@ impl Entry {
             (Kind::Recipe { .. }, Width::Wide) => &LARGE_RECIPE_OUTPUTS,
             (Kind::RecipeRows { .. }, _) => &RECIPE_OUTPUTS[..TALLY],
             (Kind::ExportView, _) => &VIEW_ANSWER,
+            (Kind::DistinctHashed | Kind::ListsHashed(_), _) => &HASHED_OUTPUTS,
             (_, Width::Narrow) => &LIST_ANSWER,
             (_, Width::Wide) => &LARGE_LIST_ANSWER,
         }
@@ -511,6 +559,8 @@ impl Entry {
     pub fn results(self) -> Range<usize> {
         if self.has_steps() {
             RECIPE_RESULT
+        } else if self.is_hashed() {
+            0..AREA
         } else {
             0..self.outputs().len()
         }
@@ -782,7 +832,7 @@ impl Case {
                     let start = *starts.next().expect("a starting bit for each bitmap");
                     bitmaps.push((kind.name, bytes.as_slice(), start, positions));
                 }
-                Content::Numbers | Content::Tally | Content::Sizes => (),
+                Content::Numbers | Content::Tally | Content::Sizes | Content::Area => (),
             }
         }
         bitmaps.truncate(self.entry.taken_bitmaps().len());
@@ -854,10 +904,11 @@ impl Case {
         }
         let input = self.decode();
         let (lists, arguments) = (&input.lists, input.taken());
+        let end = if self.entry.is_hashed() { AREA + 1 } else { self.entry.results().end };
         model::are_well_formed(lists, arguments).then(|| Start {
             entry: self.entry,
             shown: model::shown(lists, arguments),
-            lengths: self.lengths(0..self.entry.results().end),
+            lengths: self.lengths(0..end),
             tally: self.entry.is_recipe().then(|| self.tally()),
             numbers: input.numbers.clone(),
         })
@@ -900,6 +951,9 @@ impl Case {
         if self.entry.is_window() {
             return self.expected_of_window(own);
         }
+        if self.entry.is_hashed() {
+            return self.expected_of_hashed(own, operation);
+        }
         if let Some(number) = own {
             return Expected::refusal(number);
         }
@@ -916,6 +970,30 @@ impl Case {
             Ok(form) => Expected::accepted(&form, self.entry.width),
             Err(number) => Expected::refusal(number),
         }
+    }
+
+    /// The work area is all zero after any call.
+    fn expected_of_hashed(&self, own: Option<u32>, operation: Option<Operation>) -> Expected {
+        let lengths = self.lengths(0..AREA + 1);
+        let outcome = match (own, operation) {
+            (None, Some(operation)) => {
+                hashed::outcome(operation, &self.decode().lists, &lengths[..AREA], lengths[AREA])
+            }
+            (own, _) => Err(own.expect("a code that the entry knows")),
+        };
+        self.with_area(match outcome {
+            Ok(form) => Expected::accepted(&form, self.entry.width),
+            Err(number) => Expected::refusal(number),
+        })
+    }
+
+    /// What is expected of a call, and the zeros in its work area, if it has one.
+    pub fn with_area(&self, mut expected: Expected) -> Expected {
+        if self.entry.is_hashed() {
+            expected.written.resize(AREA, Vec::new());
+            expected.written.push(vec![0; self.outputs[AREA].len()]);
+        }
+        expected
     }
 
     /// The trays are all zero after any call; the tally stays where the entry itself answers, and

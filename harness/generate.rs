@@ -1,7 +1,8 @@
 //! Makes columns and cases: rows at random, rows laid out in many ways, damage, and outputs lent
 //! exactly long enough, longer, or one slot short.
 
-use crate::entry::{Case, Entry, Input, SliceKind, MOST_INNER_ROWS, MOST_VALUES};
+use crate::entry::{Case, Content, Entry, Input, SliceKind, MOST_INNER_ROWS, MOST_VALUES};
+use crate::hashed;
 use crate::model::{self, bitmap_bytes, ArgumentColumn, Bitmap, Element, ListColumn, Made};
 use crate::model::{Operation, Role, Row, Shown, Width, MOST_HELD, UNDER_NULL};
 use crate::recipe_generate::{lend_recipe, lend_recipe_within};
@@ -966,6 +967,9 @@ pub enum Room {
 /// The longest bitmap that is lent for a result: enough for the most values, and some more.
 pub const MOST_BITMAP_BYTES: usize = 4096;
 
+/// The longest work area that is lent: enough for two rows of the most values, and some more.
+const MOST_AREA_SLOTS: usize = 4 * MOST_VALUES + 16;
+
 /// Slots for a result that no slice has room for: few, or all that the byte entry takes.
 fn too_few(most: usize, rng: &mut Rng) -> usize {
     if most < MOST_HELD && rng.chance(1, 32) {
@@ -975,9 +979,18 @@ fn too_few(most: usize, rng: &mut Rng) -> usize {
     }
 }
 
-/// The slots that the result takes in each output; where the columns are refused, slots that
-/// would be enough for a copy.
+/// The slots that the result takes in each output, and those that a work area must have; where the
+/// columns are refused, slots that would be enough for a copy.
 pub fn needed_slots(input: &Input) -> Vec<usize> {
+    let mut slots = slots_of_result(input);
+    if input.entry.is_hashed() {
+        let shown = hashed::shown(input.entry.known_operation(), &input.lists);
+        slots.push(shown.map_or(7, |shown| hashed::least_area(&shown.lists)));
+    }
+    slots
+}
+
+fn slots_of_result(input: &Input) -> Vec<usize> {
     let made = match input.entry.operation() {
         Some(operation) => {
             model::rows_made(input.entry.width, operation, &input.lists, input.taken())
@@ -990,7 +1003,7 @@ pub fn needed_slots(input: &Input) -> Vec<usize> {
     let list = &input.lists[0];
     let rows = list.row_count() as u64;
     let counts = [rows, list.values.len() as u64, 0, 0, rows, 0];
-    input.entry.written_slots(&counts[..input.entry.outputs().len()])
+    input.entry.written_slots(&counts[..input.entry.results().len()])
 }
 
 pub fn room_for(needed: usize, slice: usize, room: Room, rng: &mut Rng) -> usize {
@@ -1013,7 +1026,11 @@ pub fn lend(input: &Input, room: Room, rng: &mut Rng) -> Case {
     if input.entry.has_steps() {
         return lend_recipe(input, room, rng);
     }
-    lend_within(input, room, |kind| kind.most.unwrap_or(MOST_BITMAP_BYTES), rng)
+    let most_free = |kind: &SliceKind| match kind.content {
+        Content::Area => MOST_AREA_SLOTS,
+        _ => MOST_BITMAP_BYTES,
+    };
+    lend_within(input, room, |kind| kind.most.unwrap_or(most_free(kind)), rng)
 }
 
 /// The same with outputs as long as a typed call needs them.

@@ -3,12 +3,13 @@
 
 use crate::compare::Checker;
 use crate::entry::{encode_offsets, Case, Content, Entry, Input, Kind, SliceKind};
-use crate::entry::{MOST_ROWS, MOST_VALUES, TALLY, TALLY_BYTES};
+use crate::entry::{AREA, MOST_ROWS, MOST_VALUES, TALLY, TALLY_BYTES};
 use crate::exhaustive::{every_argument, every_limit_length, every_sum};
 use crate::exhaustive::{short_columns, short_offsets};
 use crate::generate::*;
 use crate::grade_groups;
 use crate::grades;
+use crate::hash_groups;
 use crate::large;
 use crate::lending_groups;
 use crate::library::Library;
@@ -181,6 +182,7 @@ pub fn all() -> Vec<Group> {
         let name = format!("{}: {name}", Entry::RECIPE_ROWS.name());
         groups.push(Group::new(Entry::RECIPE_ROWS, name, run, shares, true));
     }
+    groups.extend(of_hashed());
     groups
 }
 
@@ -238,6 +240,30 @@ fn of_grades() -> Vec<Group> {
     let typed = TYPED_OF_RECIPES.into_iter();
     for (name, run) in typed.filter(|(name, _)| grade_groups::GRADED_RECIPES.contains(name)) {
         add(recipes, name, run, 0);
+    }
+    groups
+}
+
+/// The groups of operations with a work area, all of whose calls are typed: those of the operation
+/// without one, but for what nothing is asked about, and their own.
+fn of_hashed() -> Vec<Group> {
+    let mut groups = Vec::new();
+    for entry in Entry::HASHED {
+        let mut add = |name: &str, run: Run, shares: u64| {
+            let name = format!("{}: {name}", entry.name());
+            groups.push(Group::new(entry, name, run, shares, true));
+        };
+        for (name, run, shares) in hash_groups::ALL {
+            add(name, run, shares);
+        }
+        let own = FOR_EACH.into_iter().filter(|(name, ..)| *name != OWN_ANSWERS);
+        for (name, _, run, shares) in own.filter(|(_, applies, ..)| applies(entry)) {
+            add(name, run, shares / 2);
+        }
+        let typed = TYPED_FOR_EACH.into_iter().filter(|(name, _)| !name.contains(" to lend, "));
+        for (name, run) in typed {
+            add(name, run, 0);
+        }
     }
     groups
 }
@@ -417,7 +443,9 @@ fn order_of_refusals(checker: &mut Checker, entry: Entry, rng: &mut Rng, calls: 
         checker.check(&case);
         let mut refused = Refused { shown, layout, input, case, holding: Vec::new() };
         let of_rows = rng.pick(&[&[0][..], entry.refusals()].concat());
-        for number in [9, of_rows, 3, 2, 1, 13, 101, 100, 102] {
+        let of_area: &[u32] = if entry.is_hashed() { &[14] } else { &[] };
+        let numbers = [&[9, of_rows], of_area, &[3, 2, 1, 13, 101, 100, 102]].concat();
+        for number in numbers {
             if !rng.chance(1, 3) && refused.add(number, rng) {
                 let entry = refused.input.entry;
                 check_first(checker, entry, &refused.case, &refused.holding);
@@ -455,6 +483,7 @@ impl Refused {
             }
             4..=8 => self.refuse_some_row(number, rng),
             9 => shorten_an_output(&mut self.case, rng),
+            14 => shorten_area(&mut self.case, rng),
             100 if self.case.entry.is_typed_only() => not_served(&mut self.case, rng),
             101 | 102 if self.case.entry.is_typed_only() => false,
             100 => make_ragged(&mut self.case, rng),
@@ -511,12 +540,21 @@ pub fn damage_some_column(input: &mut Input, number: u32, rng: &mut Rng) -> Opti
 
 /// Cuts one output, which was lent exactly, by one slot or to nothing.
 fn shorten_an_output(case: &mut Case, rng: &mut Rng) -> bool {
-    let mut slices: Vec<usize> = (0..case.outputs.len()).collect();
+    let mut slices: Vec<usize> = case.entry.results().collect();
     slices.retain(|slice| !case.outputs[*slice].is_empty());
     let slice = rng.pick(&slices);
     let less = case.outputs[slice].len() - case.entry.outputs()[slice].width;
     case.outputs[slice].truncate(rng.pick(&[less, less, 0]));
     true
+}
+
+/// The same of a work area.
+fn shorten_area(case: &mut Case, rng: &mut Rng) -> bool {
+    let area = &mut case.outputs[AREA];
+    let less = area.len().saturating_sub(4);
+    let is_short = !area.is_empty();
+    area.truncate(rng.pick(&[less, less, 0]));
+    is_short
 }
 
 /// Two rows are refused, each with a number of its own: the first decides.
@@ -566,7 +604,8 @@ fn check_lengths(checker: &mut Checker, input: &Input, rng: &mut Rng) {
         for more in [0, 2] {
             let case = lend(input, Room::Short(slice, more), rng);
             checker.check(&case);
-            checker.require(case.expected().number == 9, &case, "too short, and yet accepted");
+            let number = if kind.content == Content::Area { 14 } else { 9 };
+            checker.require(case.expected().number == number, &case, "too short, and yet accepted");
             checker.covered(&case, "one slot short", kind.name);
         }
     }
@@ -855,7 +894,7 @@ pub fn random_slice(kind: SliceKind, rows: usize, rng: &mut Rng) -> Vec<u8> {
         }
         Content::Numbers => recipe_groups::random_numbers(rng),
         Content::ViewOffsets | Content::Sizes => random_views(rows, rng),
-        Content::Tally => unreachable!("a tally is no input"),
+        Content::Tally | Content::Area => unreachable!("a tally or an area is no input"),
     };
     let more = ragged_end(kind, rng);
     bytes.extend(rng.bytes(more));

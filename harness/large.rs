@@ -4,8 +4,8 @@
 //! that the operations which compare elements stay linear.
 
 use crate::compare::Checker;
-use crate::entry::{Case, Entry, Expected, Input, Kind};
-use crate::generate::{lend_typed, Damage, Harm, Room};
+use crate::entry::{Case, Entry, Expected, Input, Kind, AREA};
+use crate::generate::{lend_typed, needed_slots, Damage, Harm, Room};
 use crate::model::{self, ArgumentColumn, Bitmap, ListColumn, Operation, ResultForm};
 use crate::model::{Role, Slots, Width, UNDER_NULL};
 use crate::rng::Rng;
@@ -218,7 +218,11 @@ fn lend_for(input: &Input, form: &ResultForm, more: usize, short: usize, rng: &m
         let slots = slots_of(slots) + more;
         rng.bytes(kind.width * if at == short { slots.saturating_sub(more + 1) } else { slots })
     });
-    let outputs = outputs.collect();
+    let mut outputs: Vec<Vec<u8>> = outputs.collect();
+    if input.entry.is_hashed() {
+        let slots = needed_slots(input)[AREA] + more;
+        outputs.push(rng.bytes(4 * slots));
+    }
     Case::new(input, outputs, rng.bytes(input.entry.count_bytes() + 8))
 }
 
@@ -232,7 +236,8 @@ fn check_large(checker: &mut Checker, input: &Input, more: usize, rng: &mut Rng)
         return checker.require(false, &case, "a large column that is refused");
     };
     let case = lend_for(input, form, more, NONE, rng);
-    checker.check_typed_as(&case, &Expected::accepted(form, input.entry.width));
+    let expected = case.with_area(Expected::accepted(form, input.entry.width));
+    checker.check_typed_as(&case, &expected);
 }
 
 /// Every kind of large column, and columns from every starting bit; as large lists fewer and smaller.
@@ -291,9 +296,9 @@ pub fn refused(checker: &mut Checker, entry: Entry, rng: &mut Rng, _calls: u64) 
         }
     }
     if let Ok(form) = form_of(&input) {
-        for short in 0..entry.outputs().len() {
+        for short in entry.results() {
             let case = lend_for(&input, &form, 1, short, rng);
-            checker.check_typed_as(&case, &Expected::refusal(9));
+            checker.check_typed_as(&case, &case.with_area(Expected::refusal(9)));
         }
     }
 }

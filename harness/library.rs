@@ -1,5 +1,6 @@
 //! A library under test: the byte entries as safe functions on byte slices, and the typed entries,
-//! those of large lists, of ListView columns, of recipes over some of their rows and of grades too.
+//! those of large lists, of ListView columns, of recipes over some of their rows, of grades and of
+//! operations with a work area too.
 //! The port, the plain Rust and the mock each give one of these. A function on bytes takes the code,
 //! if there is one, or the station and the number of columns of a recipe, then the input slices and
 //! the output slices in the order in which `entry.rs` lists them, then the counts; between them come
@@ -8,7 +9,7 @@
 use crate::entry::{Entry, Kind};
 use crate::grades::Grades;
 use crate::model::Width;
-use crate::typed::{Typed, Views, Windows};
+use crate::typed::{Hashed, Typed, Views, Windows};
 
 /// An entry of so many input slices, bitmaps among them, and output slices.
 type Plain<const I: usize, const S: usize, const O: usize> =
@@ -32,6 +33,7 @@ pub struct Library {
     pub grades: Option<Grades>,
     pub views: Option<Views>,
     pub windows: Option<Windows>,
+    pub hashed: Option<Hashed>,
 }
 
 fn inputs<'a, const N: usize>(slices: &[&'a [u8]]) -> [&'a [u8]; N] {
@@ -76,6 +78,7 @@ impl Library {
         grades: None,
         views: None,
         windows: None,
+        hashed: None,
     };
 
     pub fn has(&self, entry: Entry) -> bool {
@@ -90,6 +93,7 @@ impl Library {
             Kind::Recipe { .. } => self.recipe.is_some(),
             Kind::ImportView | Kind::ExportView => self.views.is_some(),
             Kind::RecipeRows { .. } => self.windows.is_some(),
+            Kind::DistinctHashed | Kind::ListsHashed(_) => self.hashed.is_some(),
         }
     }
 
@@ -98,12 +102,13 @@ impl Library {
         Width::ALL.into_iter().flat_map(Entry::all).filter(|entry| self.has(*entry))
     }
 
-    /// Names the operations that the library has no entry for, if there are any, or recipes, over
-    /// all their rows or some, ListView columns or grades.
+    /// Names the operations that the library has no entry for, if there are any, with a work area or
+    /// without, or recipes, over all their rows or some, ListView columns or grades.
     pub fn print_absent(&self) {
         let of_width = |width: Width| Entry::all(width).chain([Entry::recipes(width)]);
         let entries = Width::ALL.into_iter().flat_map(of_width);
         let entries = entries.chain([Entry::IMPORT, Entry::EXPORT, Entry::RECIPE_ROWS]);
+        let entries = entries.chain(Entry::HASHED);
         let absent = entries.filter(|entry| !self.has(*entry)).map(Entry::name);
         let absent: Vec<&str> = absent.chain(self.grades.is_none().then_some("grade")).collect();
         if !absent.is_empty() {
@@ -145,6 +150,7 @@ impl Library {
             }
             Kind::ImportView | Kind::ExportView => panic!("views have no entry over bytes"),
             Kind::RecipeRows { .. } => panic!("windows have no entry over bytes"),
+            Kind::DistinctHashed | Kind::ListsHashed(_) => panic!("areas have none over bytes"),
         }
     }
 }

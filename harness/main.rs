@@ -16,7 +16,7 @@
 //!     harness --trace                names each call before it is made
 //!     harness --apart                lends each slice as an allocation of its own, for memcheck
 //!     harness groups | bench | example
-//!     harness bench NAME             the benchmark of one operation
+//!     harness bench NAME             the benchmark of one operation, as 'union' or 'union hashed'
 //!
 //! An operation is added in model.rs (its argument columns, its refusals, what a row becomes),
 //! entry.rs (its line), plain.rs, coverage.rs (what its rows must meet), worked.rs and defects.rs
@@ -58,6 +58,11 @@
 //! graded calls are made there; their groups are in grade_groups.rs, beside which columns of export
 //! and recipes of other groups are graded. What these must reach is in grade_coverage.rs, the wrong
 //! versions are in mock_grades.rs. `--operation grade` and `--operation 'grade recipe'` run them.
+//!
+//! Distinct, union and intersect with a work area are entries of their own, typed alone. What they alone
+//! refuse is read in hashed.rs; they have the groups of their operation and those in hash_groups.rs, what
+//! these must reach is in hash_coverage.rs, and the wrong versions are in mock_hashed.rs.
+//! `--operation 'union hashed'` runs the groups of one.
 
 mod bench;
 mod compare;
@@ -75,6 +80,9 @@ mod grade_groups;
 mod grade_port;
 mod grades;
 mod groups;
+mod hash_coverage;
+mod hash_groups;
+mod hashed;
 mod large;
 mod lending;
 mod lending_groups;
@@ -83,6 +91,8 @@ mod library;
 mod mock;
 #[cfg(mock)]
 mod mock_grades;
+#[cfg(mock)]
+mod mock_hashed;
 #[cfg(mock)]
 mod mock_lending;
 #[cfg(mock)]

@@ -6,6 +6,7 @@
 use crate::defects::{defect, is, NULL_ROWS};
 use crate::library::Library;
 use crate::mock_grades::GRADES;
+use crate::mock_hashed::HASHED;
 use crate::mock_recipe::recipe;
 use crate::mock_rows::{
     distinct, intersect, is_beyond, place_of, pop, remove, replace, resize, reverse, slice, union,
@@ -32,6 +33,7 @@ pub const LIBRARY: Library = Library {
     grades: Some(GRADES),
     views: Some(VIEWS),
     windows: Some(WINDOWS),
+    hashed: Some(HASHED),
 };
 
 /// How many lists an entry takes, with argument columns behind them, the kind of its answer, and the

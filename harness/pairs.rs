@@ -4,7 +4,7 @@
 
 use crate::compare::{Checker, Observed};
 use crate::coverage;
-use crate::entry::{Case, Entry, Input, MOST_ARGUMENTS, TALLY, TALLY_BYTES, TRAYS};
+use crate::entry::{Case, Entry, Input, AREA, MOST_ARGUMENTS, TALLY, TALLY_BYTES, TRAYS};
 use crate::generate::*;
 use crate::model::{self, RecipeShown, Role, Row, Shown, Width};
 use crate::recipe_generate::*;
@@ -20,6 +20,8 @@ enum Wanted {
     Unequal(Column),
     /// A refusal of a row; in a recipe behind so many steps, and with so many behind it.
     Refused(u32, [usize; 2]),
+    /// 14, by a work area one slot short.
+    ShortArea,
     /// 9, by this output alone; in a recipe perhaps at this of four steps, or at 0 without steps.
     Short(usize, Option<usize>),
     /// 10, malformed in this one way, and with the condition of 3 or without it.
@@ -41,7 +43,7 @@ impl Wanted {
         let (numbers, steps, slices) = if entry.is_recipe() {
             (refusals_of_steps(entry.width).to_vec(), &STEPS[..], TALLY)
         } else {
-            (coverage::answers(entry), &STEPS[..1], entry.outputs().len())
+            (coverage::answers(entry), &STEPS[..1], entry.results().len())
         };
         let mut all = vec![Wanted::Accepted];
         all.extend(Column::all(entry).into_iter().skip(1).map(Wanted::Unequal));
@@ -49,6 +51,7 @@ impl Wanted {
             all.extend(steps.iter().map(|at| Wanted::Refused(number, *at)));
         }
         all.extend((0..slices).map(|slice| Wanted::Short(slice, None)));
+        all.extend(entry.is_hashed().then_some(Wanted::ShortArea));
         if entry.is_recipe() {
             all.extend(VALUES_AT.map(|(slice, step)| Wanted::Short(slice, Some(step))));
             let ways = 0..WAYS.len();
@@ -65,6 +68,7 @@ impl Wanted {
             Wanted::Unequal(_) => Some(3),
             Wanted::Refused(number, _) => Some(number),
             Wanted::Short(..) => Some(9),
+            Wanted::ShortArea => Some(14),
             Wanted::Malformed(..) => Some(10),
             Wanted::NoStation(_) => Some(15),
         }
@@ -75,6 +79,7 @@ impl Wanted {
             Wanted::Any => rng.pick(&[Room::Exact, Room::Longer(3), Room::Any]),
             Wanted::Accepted | Wanted::Refused(..) => rng.pick(&[Room::Exact, Room::Longer(3)]),
             Wanted::Short(slice, _) => Room::Short(slice, rng.pick(&[0, 2])),
+            Wanted::ShortArea => Room::Short(AREA, rng.pick(&[0, 2])),
             Wanted::Unequal(_) | Wanted::Malformed(..) | Wanted::NoStation(_) => Room::Any,
         }
     }
@@ -154,6 +159,7 @@ fn operation_shown(entry: Entry, wanted: Wanted, rng: &mut Rng) -> Shown {
         Wanted::Any => random_shown_or_refused(entry, shape, rng),
         Wanted::Refused(number, _) => refused_shown(entry, number, rng),
         Wanted::Short(slice, _) => filling_shown(entry, slice, rng),
+        Wanted::ShortArea => filling_shown(entry, AREA, rng),
         Wanted::Unequal(column) => {
             let mut shown = random_shown(entry, shape, rng);
             make_unequal(entry, &mut shown, column, rng);
@@ -223,6 +229,7 @@ fn recipe_call(width: Width, wanted: Wanted, rng: &mut Rng) -> RecipeCall {
             make_call_unequal(&mut call, column, rng);
             call
         }
+        Wanted::ShortArea => unreachable!("a recipe has no work area"),
         Wanted::Malformed(way, both) => malformed_call(width, way, both, rng),
         Wanted::NoStation(malformed) => {
             let mut call = RecipeCall::new(&random_recipe(width, shape, rng), rng);

@@ -7,8 +7,8 @@
 use crate::library::Library;
 use crate::numbers::{bytes_of, Number};
 use crate::plain_grades::GRADES;
+use crate::typed::{Hashed, RowsOfRecipe, View, ViewRoom, Views, Windows};
 use crate::typed::{Lending, List, OuterRoom, Recipe, Room, Typed, Values};
-use crate::typed::{RowsOfRecipe, View, ViewRoom, Views, Windows};
 use crate::windows::Window;
 use std::collections::HashSet;
 use std::hash::Hash;
@@ -27,6 +27,7 @@ pub const LIBRARY: Library = Library {
     grades: Some(GRADES),
     views: Some(VIEWS),
     windows: Some(WINDOWS),
+    hashed: Some(HASHED),
 };
 
 type Bytes4 = [u8; 4];
@@ -1969,4 +1970,46 @@ fn recipe_rows(
     });
     clear([one, two]);
     number
+}
+
+// Operations with a work area.
+
+pub const HASHED: Hashed = Hashed { distinct: distinct_hashed, lists: lists_hashed };
+
+/// The plain operation with another test before its rows; the area is zeroed, and not used.
+fn with_area(call: &Call<i32, i64>, room: Room<i32>, area: &mut [u32], counts: &mut [u64]) -> u32 {
+    let slots = area.len();
+    area.fill(0);
+    tell(counts, || {
+        call.refusal().map_or(Ok(()), Err)?;
+        let length = |row: usize| match call.right {
+            Some(right) => Some(call.list.row(row)?.len() + right.row(row)?.len()),
+            None => Some(call.list.row(row)?.len()),
+        };
+        let longest = (0..call.list.row_count()).filter_map(length).max().unwrap_or(0);
+        if slots < 2 * longest {
+            return Err(14);
+        }
+        write_rows(call, room)
+    })
+}
+
+fn distinct_hashed(list: List<i32>, room: Room<i32>, area: &mut [u32], counts: &mut [u64]) -> u32 {
+    let call = Call { code: DISTINCT, list, right: None, arguments: &[] };
+    with_area(&call, room, area, counts)
+}
+
+fn lists_hashed(
+    code: u32,
+    [list, right]: [List<i32>; 2],
+    room: Room<i32>,
+    area: &mut [u32],
+    counts: &mut [u64],
+) -> u32 {
+    if code != UNION && code != INTERSECT {
+        area.fill(0);
+        return NOT_SERVED;
+    }
+    let call = Call { code, list, right: Some(right), arguments: &[] };
+    with_area(&call, room, area, counts)
 }

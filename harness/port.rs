@@ -13,7 +13,7 @@ use crate::grade_port::GRADES;
 #[cfg(not(mock))]
 use crate::library::Library;
 #[cfg(not(mock))]
-use crate::typed_port::{large, narrow, VIEWS, WINDOWS};
+use crate::typed_port::{large, narrow, HASHED, VIEWS, WINDOWS};
 
 /// The safe function of an entry: the code, if it takes one, or the station and the number of
 /// columns, then the names of its input slices, those of bitmaps with that of their starting bit,
@@ -119,6 +119,7 @@ macro_rules! archive {
             grades: Some(GRADES),
             views: Some(VIEWS),
             windows: Some(WINDOWS),
+            hashed: Some(HASHED),
             ..Library::EMPTY
         };
     };

@@ -57,6 +57,14 @@ pub struct Windows {
     pub recipe_rows: fn(RowsOfRecipe, [Room<i32>; 3], &mut [u64]) -> u32,
 }
 
+/// The entries that use a work area, whose lists have offsets of 32 bits; the area comes before the
+/// counts.
+#[derive(Clone, Copy)]
+pub struct Hashed {
+    pub distinct: fn(List<i32>, Room<i32>, &mut [u32], &mut [u64]) -> u32,
+    pub lists: fn(u32, [List<i32>; 2], Room<i32>, &mut [u32], &mut [u64]) -> u32,
+}
+
 /// A recipe as it is lent: its station, its numbers, how many argument columns it has, its lists,
 /// and the one slice of its arguments.
 #[derive(Clone, Copy)]
@@ -153,6 +161,7 @@ impl<O: Number> Lending<O> {
             }
             Kind::ImportView | Kind::ExportView => panic!("nothing is asked of views"),
             Kind::RecipeRows { .. } => panic!("nothing is asked of windows"),
+            Kind::DistinctHashed | Kind::ListsHashed(_) => panic!("nothing is asked of areas"),
         }
     }
 }
@@ -202,6 +211,29 @@ impl<O: Number> Typed<O> {
             }
             Kind::ImportView | Kind::ExportView => panic!("views have entries of their own"),
             Kind::RecipeRows { .. } => panic!("windows have an entry of their own"),
+            Kind::DistinctHashed | Kind::ListsHashed(_) => panic!("areas have their own entries"),
+        }
+    }
+}
+
+impl Hashed {
+    /// Calls an entry in the same way.
+    pub fn call(
+        &self,
+        entry: Entry,
+        lent: &[&[u8]],
+        starts: &[usize],
+        results: &mut [&mut [u8]],
+        counts: &mut [u8],
+    ) -> u32 {
+        let [a, b, c, d, area] = outputs(results);
+        let (out, area, counts) = (room([a, b, c, d]), of_bytes_mut(area), of_bytes_mut(counts));
+        match entry.kind {
+            Kind::ListsHashed(code) => {
+                let both = [list(lent, starts), list(&lent[4..], &starts[2..])];
+                (self.lists)(code, both, out, area, counts)
+            }
+            _ => (self.distinct)(list(lent, starts), out, area, counts),
         }
     }
 }

@@ -41,7 +41,7 @@ fn codes() -> Vec<u32> {
 /// Whether the typed entry of this one serves a code, by the table of codes.
 fn is_served(entry: Entry, code: u32) -> bool {
     match entry.kind {
-        Kind::Lists(_) => matches!(code, 9 | 10),
+        Kind::Lists(_) | Kind::ListsHashed(_) => matches!(code, 9 | 10),
         _ => matches!(code, 0..=8 | 11),
     }
 }
@@ -289,7 +289,7 @@ pub fn over_sizes(checker: &mut Checker, entry: Entry, rng: &mut Rng, _calls: u6
         let input = input_of(entry, &shown, &layouts, rng);
         let room = if round % 2 == 0 { Room::Exact } else { Room::Longer(3) };
         require_over(checker, &lend_typed(&input, room, rng), 0, "over size, and yet refused");
-        let slice = round % entry.outputs().len();
+        let slice = round % entry.results().len();
         if needed_slots(&input)[slice] > 0 {
             let case = lend_typed(&input, Room::Short(slice, 1), rng);
             require_over(checker, &case, 9, "too short, and yet accepted");

@@ -1,11 +1,11 @@
-//! The port's typed C entries behind safe functions, those of large lists, of ListView columns and of
-//! recipes over some of their rows too.
+//! The port's typed C entries behind safe functions, those of large lists, of ListView columns, of
+//! recipes over some of their rows and of operations with a work area too.
 //!
 //! A slice passes as a pointer and a length in numbers, a bitmap of a column with its starting bit
 //! behind them. The entries demand of their caller what the byte entries do, and that each pointer is
 //! aligned for its numbers; Rust's slices give all of it, empty ones too.
 
-use crate::typed::{List, Recipe, Room, RowsOfRecipe, View, ViewRoom, Views, Windows};
+use crate::typed::{Hashed, List, Recipe, Room, RowsOfRecipe, View, ViewRoom, Views, Windows};
 use crate::windows::Window;
 
 #[link(name = "duthlan", kind = "static")]
@@ -380,5 +380,41 @@ fn recipe_rows(of: RowsOfRecipe, rooms: [Room<i32>; 3], counts: &mut [u64]) -> u
         one.offsets, one.rows, one.values, one.elements,
         two.offsets, two.rows, two.values, two.elements,
         out.offsets, out.rows, out.values, out.elements, counts,
+    )
+}
+
+// Operations with a work area.
+
+pub const HASHED: Hashed = Hashed { distinct: distinct_hashed, lists: lists_hashed };
+
+entry!(
+    duthlan_typed_distinct_hashed ()
+    [offsets: i32; rows: u8, rows_start; values: i64; elements: u8, elements_start]
+    [out_offsets: i32, out_rows: u8, out_values: i64, out_elements: u8, area: u32, counts: u64]
+);
+
+entry!(
+    duthlan_typed_lists_hashed (op: u32)
+    [l_offsets: i32; l_rows: u8, l_rows_start; l_values: i64; l_elements: u8, l_elements_start;
+     r_offsets: i32; r_rows: u8, r_rows_start; r_values: i64; r_elements: u8, r_elements_start]
+    [out_offsets: i32, out_rows: u8, out_values: i64, out_elements: u8, area: u32, counts: u64]
+);
+
+#[rustfmt::skip]
+fn distinct_hashed(l: List<i32>, out: Room<i32>, area: &mut [u32], counts: &mut [u64]) -> u32 {
+    duthlan_typed_distinct_hashed(
+        l.offsets, l.rows, l.rows_start, l.values, l.elements, l.elements_start,
+        out.offsets, out.rows, out.values, out.elements, area, counts,
+    )
+}
+
+#[rustfmt::skip]
+fn lists_hashed(
+    op: u32, [l, r]: [List<i32>; 2], out: Room<i32>, area: &mut [u32], counts: &mut [u64],
+) -> u32 {
+    duthlan_typed_lists_hashed(
+        op, l.offsets, l.rows, l.rows_start, l.values, l.elements, l.elements_start,
+        r.offsets, r.rows, r.rows_start, r.values, r.elements, r.elements_start,
+        out.offsets, out.rows, out.values, out.elements, area, counts,
     )
 }

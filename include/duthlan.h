@@ -155,8 +155,8 @@ typedef struct duthlan_tally {
     uint64_t refused[16];
 } duthlan_tally;
 
-/* The numbers that a call returns. They are tested in the order 15, 10, 13, 1, 2, 3, 16, then those of the rows, and 9 last; where grades
- * are asked for, 12 comes before all of them, and right after it 9 for the grades. */
+/* The numbers that a call returns. They are tested in the order 15, 10, 13, 1, 2, 3, 16, 14, then those of the rows, and 9 last; where
+ * grades are asked for, 12 comes before all of them, and right after it 9 for the grades. */
 enum duthlan_number {
     DUTHLAN_ACCEPTED = 0,
     DUTHLAN_BAD_OFFSETS = 1,        /* The first offset is negative, one falls, or the last lies past the values. */
@@ -173,6 +173,7 @@ enum duthlan_number {
     DUTHLAN_VIEW_OUTSIDE = 11,      /* The offset of a view, its size or their sum is below 0 or over the number of values. */
     DUTHLAN_ZERO_RUN = 12,          /* The run that gives a row grade 2 is to have at least 0 elements. */
     DUTHLAN_BAD_STARTING_BIT = 13,  /* A starting bit is over 7, also beside a bitmap of no bytes. */
+    DUTHLAN_SHORT_AREA = 14,        /* A work area has fewer slots than twice the elements of the longest valid row, or pair of rows. */
     DUTHLAN_NO_SUCH_STATION = 15,   /* The station is over 15. */
     DUTHLAN_ROWS_OUTSIDE = 16,      /* The rows to be looked at begin behind their end, or end behind the last row. */
     DUTHLAN_BAD_CALL = 100          /* A raw entry got a code that it does not serve, or too few places for what it tells. */
@@ -228,6 +229,20 @@ static inline uint32_t duthlan_union(
 /* Gives each common element once, in the order of the longer row, the left one where they are equally long. */
 static inline uint32_t duthlan_intersect(
     const duthlan_list *left, const duthlan_list *right, const duthlan_out *out, duthlan_counts *counts);
+
+/* Distinct, union and intersect for rows of thousands of elements, where each is compared with few others by a table in a lent work
+ * area. They answer and write as duthlan_distinct, duthlan_union and duthlan_intersect do, but for DUTHLAN_SHORT_AREA, which comes
+ * after 3: an area has at least twice as many slots as the longest valid row has elements, or of two lists the longest pair of rows
+ * that are valid on both sides, the two lengths added. What it held has no effect, and after every call, a refused one too, it is
+ * all zero. It may be NULL with no slots. */
+static inline uint32_t duthlan_distinct_hashed(
+    const duthlan_list *list, uint32_t *area, size_t area_slots, const duthlan_out *out, duthlan_counts *counts);
+static inline uint32_t duthlan_union_hashed(
+    const duthlan_list *left, const duthlan_list *right, uint32_t *area, size_t area_slots,
+    const duthlan_out *out, duthlan_counts *counts);
+static inline uint32_t duthlan_intersect_hashed(
+    const duthlan_list *left, const duthlan_list *right, uint32_t *area, size_t area_slots,
+    const duthlan_out *out, duthlan_counts *counts);
 
 /* Gives the first valid element of each row, or null. */
 static inline uint32_t duthlan_any_value(
@@ -444,6 +459,25 @@ uint32_t duthlan_typed_lists(
     int64_t *out_values, size_t out_value_count, uint8_t *out_elements, size_t out_element_bytes,
     uint64_t *counts, size_t count_places);
 
+/* Runs distinct with a work area. */
+uint32_t duthlan_typed_distinct_hashed(
+    const int32_t *offsets, size_t offset_count, const uint8_t *rows, size_t row_bytes, size_t rows_start,
+    const int64_t *values, size_t value_count, const uint8_t *elements, size_t element_bytes, size_t elements_start,
+    int32_t *out_offsets, size_t out_offset_count, uint8_t *out_rows, size_t out_row_bytes,
+    int64_t *out_values, size_t out_value_count, uint8_t *out_elements, size_t out_element_bytes,
+    uint32_t *area, size_t area_slots, uint64_t *counts, size_t count_places);
+
+/* Runs an operation on two lists with a work area by its code: 9 union, 10 intersect. */
+uint32_t duthlan_typed_lists_hashed(
+    uint32_t op,
+    const int32_t *l_offsets, size_t l_offset_count, const uint8_t *l_rows, size_t l_row_bytes, size_t l_rows_start,
+    const int64_t *l_values, size_t l_value_count, const uint8_t *l_elements, size_t l_element_bytes, size_t l_elements_start,
+    const int32_t *r_offsets, size_t r_offset_count, const uint8_t *r_rows, size_t r_row_bytes, size_t r_rows_start,
+    const int64_t *r_values, size_t r_value_count, const uint8_t *r_elements, size_t r_element_bytes, size_t r_elements_start,
+    int32_t *out_offsets, size_t out_offset_count, uint8_t *out_rows, size_t out_row_bytes,
+    int64_t *out_values, size_t out_value_count, uint8_t *out_elements, size_t out_element_bytes,
+    uint32_t *area, size_t area_slots, uint64_t *counts, size_t count_places);
+
 /* Runs any-value. */
 uint32_t duthlan_typed_any_value(
     const int32_t *offsets, size_t offset_count, const uint8_t *rows, size_t row_bytes, size_t rows_start,
@@ -631,6 +665,11 @@ static inline uint8_t *duthlan_out_u8(uint8_t *p, size_t n) {
     return !p && n == 0 ? &nothing : p;
 }
 
+static inline uint32_t *duthlan_out_u32(uint32_t *p, size_t n) {
+    static uint32_t nothing;
+    return !p && n == 0 ? &nothing : p;
+}
+
 static inline int32_t *duthlan_out_i32(int32_t *p, size_t n) {
     static int32_t nothing;
     return !p && n == 0 ? &nothing : p;
@@ -697,6 +736,17 @@ static inline uint32_t duthlan_two_lists_(
         told, counts);
 }
 
+static inline uint32_t duthlan_two_lists_hashed_(
+    uint32_t op, const duthlan_list *left, const duthlan_list *right, uint32_t *area, size_t area_slots,
+    const duthlan_out *out, duthlan_counts *counts) {
+    uint64_t told[4] = {0, 0, 0, 0};
+    return duthlan_told_(
+        duthlan_typed_lists_hashed(
+            op, DUTHLAN_LIST_(left), DUTHLAN_LIST_(right), DUTHLAN_ROWS_(out), DUTHLAN_ELEMENTS_(out),
+            DUTHLAN_OUTPUT_(u32, area, area_slots), told, 4),
+        told, counts);
+}
+
 static inline uint32_t duthlan_reverse(const duthlan_list *list, const duthlan_out *out, duthlan_counts *counts) {
     return duthlan_one_list_(0, list, 0, 0, 0, out, counts);
 }
@@ -745,6 +795,27 @@ static inline uint32_t duthlan_union(
 static inline uint32_t duthlan_intersect(
     const duthlan_list *left, const duthlan_list *right, const duthlan_out *out, duthlan_counts *counts) {
     return duthlan_two_lists_(10, left, right, out, counts);
+}
+
+static inline uint32_t duthlan_distinct_hashed(
+    const duthlan_list *list, uint32_t *area, size_t area_slots, const duthlan_out *out, duthlan_counts *counts) {
+    uint64_t told[4] = {0, 0, 0, 0};
+    return duthlan_told_(
+        duthlan_typed_distinct_hashed(
+            DUTHLAN_LIST_(list), DUTHLAN_ROWS_(out), DUTHLAN_ELEMENTS_(out), DUTHLAN_OUTPUT_(u32, area, area_slots), told, 4),
+        told, counts);
+}
+
+static inline uint32_t duthlan_union_hashed(
+    const duthlan_list *left, const duthlan_list *right, uint32_t *area, size_t area_slots,
+    const duthlan_out *out, duthlan_counts *counts) {
+    return duthlan_two_lists_hashed_(9, left, right, area, area_slots, out, counts);
+}
+
+static inline uint32_t duthlan_intersect_hashed(
+    const duthlan_list *left, const duthlan_list *right, uint32_t *area, size_t area_slots,
+    const duthlan_out *out, duthlan_counts *counts) {
+    return duthlan_two_lists_hashed_(10, left, right, area, area_slots, out, counts);
 }
 
 static inline uint32_t duthlan_any_value(
@@ -1049,6 +1120,7 @@ static inline const char *duthlan_refusal(uint32_t number) {
     case DUTHLAN_VIEW_OUTSIDE: return "a view that lies outside the values";
     case DUTHLAN_ZERO_RUN: return "a run of at least 0 elements to grade by";
     case DUTHLAN_BAD_STARTING_BIT: return "a starting bit over 7";
+    case DUTHLAN_SHORT_AREA: return "a work area of fewer slots than twice the longest row, or pair of rows";
     case DUTHLAN_NO_SUCH_STATION: return "a station over 15";
     case DUTHLAN_ROWS_OUTSIDE: return "rows to be looked at that begin behind their end, or end behind the last row";
     case DUTHLAN_BAD_CALL: return "an unknown code, or too few places for what is told";

@@ -545,7 +545,7 @@ static void asked_recipes(void) {
 }
 
 static void sentences(void) {
-    static const uint32_t named[] = {0, 1, 2, 3, 4, 5, 6, 7, 8, 9, 10, 11, 12, 13, 15, 16, 100};
+    static const uint32_t named[] = {0, 1, 2, 3, 4, 5, 6, 7, 8, 9, 10, 11, 12, 13, 14, 15, 16, 100};
     const char *unnamed = duthlan_refusal(99);
     size_t i;
     int have_words = 1;
@@ -626,7 +626,7 @@ static void nothing(void) {
     duthlan_repeat_lengths repeat_need = {9, 9, 9, 9, 9, 9};
     duthlan_limits limit = {9, 9, 9};
     check("a pointer for NULL", duthlan_in_u8(0, 0) && duthlan_in_u32(0, 0) && duthlan_in_i32(0, 0) && duthlan_in_i64(0, 0) &&
-                                    duthlan_out_u8(0, 0) && duthlan_out_i32(0, 0) && duthlan_out_i64(0, 0));
+                                    duthlan_out_u8(0, 0) && duthlan_out_u32(0, 0) && duthlan_out_i32(0, 0) && duthlan_out_i64(0, 0));
     offsets[0] = 9;
     check("no rows, no room", duthlan_reverse(&no_rows, &no_room, 0) == DUTHLAN_SHORT_OUTPUT && offsets[0] == 9);
     check("no rows", duthlan_reverse(&no_rows, &one_slot, 0) == DUTHLAN_ACCEPTED && offsets[0] == 0);
@@ -895,6 +895,90 @@ static void raw_views(void) {
                                  told[0] == 0 && told[3] == 0 && told[4] == 5);
 }
 
+/* Distinct, union and intersect with a work area. */
+
+enum { AREA = 40 };
+
+static uint32_t area[AREA];
+
+/* Whether so many slots of the work area are zero and the others as they were; all are filled again. */
+static int cleared(size_t slots) {
+    size_t i;
+    int is_right = 1;
+    for (i = 0; i < AREA; i++) {
+        is_right &= area[i] == (i < slots ? 0 : 0x55555555);
+        area[i] = 0x55555555;
+    }
+    return is_right;
+}
+
+static void areas(void) {
+    static const duthlan_out short_out = {offsets, ROOM, rows, ROOM, values, 1, elements, ROOM};
+    static const int64_t long_values[] = {7, -8, 9};
+    static const int32_t long_offsets[] = {0, 3, 3, 3, 3};
+    static const uint8_t no_row[] = {0};
+    const duthlan_list nulls = {long_offsets, 5, {no_row, 1, 0}, long_values, 3, {0, 0, 0}};
+    const duthlan_list no_rows = {0, 0, {0, 0, 0}, 0, 0, {0, 0, 0}};
+    const duthlan_out one_slot = {offsets, 1, 0, 0, 0, 0, 0, 0};
+    size_t slots;
+    cleared(0);
+    for (slots = 0; slots < 9; slots++) { /* The longest row has three elements, the longest pair five. */
+        const uint32_t number = duthlan_distinct_hashed(&shifted, area, slots, &out, &counts);
+        check("distinct hashed", slots < 6 ? number == DUTHLAN_SHORT_AREA : made(number, "[12,-3,null] null [] [7,9]"));
+        check("its area", cleared(slots));
+    }
+    for (slots = 0; slots < 13; slots++) {
+        uint32_t number = duthlan_union_hashed(&shifted, &other, area, slots, &out, &counts);
+        check("union hashed", slots < 10 ? number == DUTHLAN_SHORT_AREA : made(number, "[12,-3,null,9] null [3] [7,9]"));
+        check("its area", cleared(slots));
+        number = duthlan_intersect_hashed(&shifted, &other, area, slots, &out, &counts);
+        check("intersect hashed", slots < 10 ? number == DUTHLAN_SHORT_AREA : made(number, "[12] null [] [7]"));
+        check("its area", cleared(slots));
+    }
+    check("union with itself", made(duthlan_union_hashed(&list, &list, area, AREA, &out, &counts), "[12,-3,null] null [] [7,9]"));
+    check("counts not wanted", duthlan_intersect_hashed(&other, &list, area, AREA, &out, 0) == DUTHLAN_ACCEPTED);
+    check("null rows need no area", made(duthlan_distinct_hashed(&nulls, 0, 0, &out, &counts), "null null null null") &&
+                                        made(duthlan_union_hashed(&list, &nulls, 0, 0, &out, &counts), "null null null null"));
+    check("no rows need no area", duthlan_distinct_hashed(&no_rows, 0, 0, &one_slot, 0) == DUTHLAN_ACCEPTED &&
+                                      duthlan_union_hashed(&no_rows, &no_rows, 0, 0, &one_slot, 0) == DUTHLAN_ACCEPTED);
+    cleared(0);
+    memset(&counts, 85, sizeof counts);
+    memset(offsets, 85, sizeof offsets);
+    check("1 before 14", duthlan_distinct_hashed(&bad_offsets, area, 1, &out, &counts) == DUTHLAN_BAD_OFFSETS && cleared(1));
+    check("2 before 14", duthlan_union_hashed(&list, &short_bitmap, area, 2, &out, &counts) == DUTHLAN_SHORT_BITMAP && cleared(2));
+    check("13 before 14", duthlan_intersect_hashed(&bad_start, &list, area, 3, &out, &counts) == DUTHLAN_BAD_STARTING_BIT && cleared(3));
+    check("3 before 14", duthlan_union_hashed(&list, &no_rows, area, 4, &out, &counts) == DUTHLAN_ROW_COUNTS_DIFFER && cleared(4));
+    check("14 before 9", duthlan_distinct_hashed(&list, area, 5, &short_out, &counts) == DUTHLAN_SHORT_AREA && cleared(5));
+    check("9", duthlan_distinct_hashed(&list, area, 6, &short_out, &counts) == DUTHLAN_SHORT_OUTPUT && cleared(6) &&
+                   duthlan_union_hashed(&list, &other, area, 10, &short_out, &counts) == DUTHLAN_SHORT_OUTPUT && cleared(10));
+    check("kept by refusals", kept(&counts, sizeof counts) && kept(offsets, sizeof offsets));
+}
+
+/* What only the raw entries can say of them. */
+static void raw_areas(void) {
+#define NO_ROWS &zero, 1, &bits, 0, 0, &none, 0, &bits, 0, 0
+#define ROOM_FOR_ROWS offsets, ROOM, rows, ROOM, values, ROOM, elements, ROOM
+    uint64_t told[5] = {5, 5, 5, 5, 5};
+    const int32_t zero = 0;
+    const int64_t none = 0;
+    const uint8_t bits = 0;
+    uint32_t code;
+    size_t places;
+    cleared(0);
+    for (code = 0; code < 13; code++) {
+        const uint32_t number = duthlan_typed_lists_hashed(code, NO_ROWS, NO_ROWS, ROOM_FOR_ROWS, area, 7, told, 3 + (code == 9 || code == 10));
+        check("100, a code beside an area", number == (code == 9 || code == 10 ? DUTHLAN_ACCEPTED : DUTHLAN_BAD_CALL) && cleared(7));
+    }
+    for (places = 3; places < 6; places++) {
+        uint32_t number = duthlan_typed_distinct_hashed(NO_ROWS, ROOM_FOR_ROWS, area, 8, told, places);
+        check("100, counts beside an area", number == (places < 4 ? DUTHLAN_BAD_CALL : DUTHLAN_ACCEPTED) && cleared(8) && told[4] == 5);
+        number = duthlan_typed_lists_hashed(10, NO_ROWS, NO_ROWS, ROOM_FOR_ROWS, area, AREA, told, places);
+        check("100, counts beside an area", number == (places < 4 ? DUTHLAN_BAD_CALL : DUTHLAN_ACCEPTED) && cleared(AREA) && told[4] == 5);
+    }
+#undef NO_ROWS
+#undef ROOM_FOR_ROWS
+}
+
 /* Recipes over some of their rows. */
 
 static int32_t tray_offsets[ROOM];
@@ -1010,6 +1094,8 @@ int main(void) {
     raw_grades();
     views();
     raw_views();
+    areas();
+    raw_areas();
     windows();
     raw_windows();
 #endif

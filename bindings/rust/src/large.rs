@@ -1,7 +1,7 @@
 //! Large lists: the same operations on columns with signed 64-bit offsets, which Arrow calls LargeList.
 //!
-//! All that the crate has, but for ListView columns, recipes for some rows and grades, is here under the
-//! same name, over `i64` offsets; the functions are the same, and take columns of either width.
+//! All that the crate has, but for ListView columns, work areas, recipes for some rows and grades, is here
+//! under the same name, over `i64` offsets; the functions are the same, and take columns of either width.
 //!
 //! ```
 //! use duthlan::large::{reverse, List, ListOut};

@@ -36,14 +36,16 @@
 //! - A [`Recipe`] chains list operations through two trays; [`run_recipe`] runs it, [`run_recipe_rows`]
 //!   runs it for some rows, and [`recipe_limits`] tells how many elements the trays and the output must
 //!   hold.
+//! - For rows of thousands of elements, [`distinct_hashed`], [`union_hashed`] and [`intersect_hashed`] do
+//!   the same as the three without the ending, with a lent work area.
 //! - A ListView column is a [`View`]; [`import_view`] reads it into a list column, and [`export_view`]
 //!   writes a list column to a [`ViewOut`].
 //! - [`grade`] writes a [`Grade`] for each row of a list, by runs of equal elements, and [`grade_recipe`]
 //!   for each row of a recipe's result.
 //! - With the feature `std`, which is on by default, [`owned`] has columns in vectors, built from rows
 //!   and read back as rows. Without it the crate is `no_std` and has no heap.
-//! - With the feature `large`, also on by default, [`large`] has all of this but ListView columns and
-//!   recipes for some rows and grades, for columns with 64-bit offsets.
+//! - With the feature `large`, also on by default, [`large`] has all of this but ListView columns, work
+//!   areas, recipes for some rows and grades, for columns with 64-bit offsets.
 //!
 //! The crate links `libduthlan.a`, and for large lists `libduthlan_large.a`, from the folder that
 //! `DUTHLAN_LIB_DIR` names, by an absolute path, when the crate is built; or from `target/staticlib` of
@@ -57,6 +59,7 @@ extern crate std;
 
 mod columns;
 mod grades;
+mod hashed;
 #[cfg(feature = "large")]
 pub mod large;
 mod lengths;
@@ -74,6 +77,7 @@ mod views;
 pub use columns::{Bits, Elements, List, NestedList, OuterRows, Rows, Values};
 pub use columns::{ListOf, NestedListOf, OuterRowsOf, RowsOf};
 pub use grades::{grade, grade_recipe, Grade};
+pub use hashed::{distinct_hashed, intersect_hashed, union_hashed};
 pub use lengths::{
     any_value_lengths, distinct_lengths, element_lengths, intersect_lengths, list_repeat_lengths,
     pop_back_lengths, pop_front_lengths, recipe_limits, remove_lengths, replace_lengths,

@@ -2,9 +2,9 @@ use core::fmt;
 
 /// Why a call was refused. A refused call changes no output.
 ///
-/// They are tested in the order 15, 10, 13, 1, 2, 3, 16, then those of the rows, where the first bad
-/// row decides, and 9 last; where grades are asked for, 12 comes before all of them, and right after it 9
-/// for the grades.
+/// They are tested in the order 15, 10, 13, 1, 2, 3, 16, 14, then those of the rows, where the first
+/// bad row decides, and 9 last; where grades are asked for, 12 comes before all of them, and right after
+/// it 9 for the grades.
 #[derive(Clone, Copy, Debug, PartialEq, Eq, Hash)]
 #[non_exhaustive]
 pub enum Refusal {
@@ -38,6 +38,9 @@ pub enum Refusal {
     ZeroRun,
     /// 13: a starting bit is over 7, also beside a bitmap of no bytes.
     BadStartingBit,
+    /// 14: a work area has fewer slots than twice the elements of the longest valid row, or of the
+    /// longest pair of rows that are valid on both sides.
+    ShortArea,
     /// 15: the station is over 15; the call counts for nobody.
     NoSuchStation,
     /// 16: the rows to be looked at begin behind their end, or end behind the last row.
@@ -63,6 +66,7 @@ impl Refusal {
             11 => Refusal::ViewOutside,
             12 => Refusal::ZeroRun,
             13 => Refusal::BadStartingBit,
+            14 => Refusal::ShortArea,
             15 => Refusal::NoSuchStation,
             16 => Refusal::RowsOutside,
             // 100, a fault of the call itself, cannot come from here: the crate passes only codes
@@ -92,6 +96,7 @@ impl Refusal {
             Refusal::ViewOutside => 11,
             Refusal::ZeroRun => 12,
             Refusal::BadStartingBit => 13,
+            Refusal::ShortArea => 14,
             Refusal::NoSuchStation => 15,
             Refusal::RowsOutside => 16,
             Refusal::Other(number) => number,
@@ -115,6 +120,9 @@ impl fmt::Display for Refusal {
             Refusal::ViewOutside => "a view that lies outside the values",
             Refusal::ZeroRun => "a run of at least 0 elements to grade by",
             Refusal::BadStartingBit => "a starting bit over 7",
+            Refusal::ShortArea => {
+                "a work area of fewer slots than twice the longest row, or pair of rows"
+            }
             Refusal::NoSuchStation => "a station over 15",
             Refusal::RowsOutside => {
                 "rows to be looked at that begin behind their end, or end behind the last row"

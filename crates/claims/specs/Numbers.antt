@@ -38,6 +38,11 @@ pub record ListTyped (x : End) (n : ℕ) (o : Slices) (c : Slice ℕ) : Type 0 w
   pub values : Holds (numbersIn x 1) (o .values)
   pub elements : Holds (bitmapIn x 1) (o .elements)
 
+-- of a list answer with a work area w
+pub record HashTyped (x : End) (n : ℕ) (o : Slices) (w c : Slice ℕ) : Type 0 where
+  pub list : ListTyped x n o c
+  pub area : x .area ≡ given (now (w .exit))
+
 -- of a view written
 pub record ViewTyped (x : End) (n : ℕ) (o : ViewSlices) (c : Slice ℕ) : Type 0 where
   pub answer : AnswerTyped x n c

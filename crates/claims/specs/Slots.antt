@@ -11,12 +11,13 @@ use Rattle.model.specs.Form.{Room, ValueRoom, RepeatRoom}
 use Rattle.model.specs.Rows.{ListCall}
 use Rattle.model.specs.Column.{Column, Arguments}
 use Rattle.model.specs.View.{View, ViewRoom}
+use Rattle.model.specs.Hash.{Hashed}
 use Rattle.view_checks.specs.Views.{lentView}
-use Rattle.model.specs.Call.{Call, list, recipe, window, importView, exportView, gradeColumn, gradeRecipe}
+use Rattle.model.specs.Call.{Call, list, recipe, window, importView, exportView, gradeColumn, gradeRecipe, hashed}
 use Rattle.model.specs.Contract.{Slice, roomOf, valueRoom, repeatRoomOf, viewRoom}
 use Rattle.model.specs.Inner.{lentFrom, lentArgumentsFrom}
 use Rattle.model.specs.Recipe.{Recipe}
-use Rattle.model.specs.Run.{Run, listRunEnd, valueRunEnd, repeatRunEnd, recipeRunEnd, viewRunEnd, gradeRunEnd, gradedRunEnd}
+use Rattle.model.specs.Run.{Run, listRunEnd, valueRunEnd, repeatRunEnd, recipeRunEnd, viewRunEnd, gradeRunEnd, gradedRunEnd, hashedRunEnd}
 use Rattle.model.specs.declared.GradeAnswer.{GradeAnswer}
 use Rattle.model.specs.declared.ListAnswer.{ListAnswer}
 use Rattle.model.specs.declared.RepeatAnswer.{RepeatAnswer}
@@ -175,6 +176,10 @@ WindowRuns p a b c d x l m o w =
     (now (l .offsets .exit)) (now (l .rows .exit)) (now (l .values .exit)) (now (l .elements .exit))
     (now (m .offsets .exit)) (now (m .rows .exit)) (now (m .values .exit)) (now (m .elements .exit))
     absent)
+
+-- with a work area w
+abbrev pub HashRuns : Hashed Column → ListAnswer → Slices → Slice ℕ → Type 0
+HashRuns h a o w = Run narrow (hashed h (length (now (w .entry))) (slicesRoom o)) (hashedRunEnd a (now (o .offsets .exit)) (now (o .rows .exit)) (now (o .values .exit)) (now (o .elements .exit)) (now (w .exit)))
 
 -- an import, and an export, that answered a
 abbrev pub ImportRuns : View → ListAnswer → Slices → Type 0

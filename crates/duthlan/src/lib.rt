@@ -5,6 +5,7 @@
 // Beside each stands how much to lend for it (`.._lengths`, and `.._limits` of a recipe): the refusal that the call would give before 9, or
 // the lengths of its output slices, in their order, at the front of `lengths`; nothing else is written.
 pub mod grade;
+pub mod hash;
 pub mod lengths;
 pub mod view;
 pub mod window;

@@ -7,6 +7,8 @@ use Rattle.model.specs.Lengths.{listLengths}
 use Rattle.model.specs.Limits.{Limits, narrow}
 use Rattle.model.specs.Column.{Column, Arguments}
 use Rattle.model.specs.Rows.{unary, setOp, onLent}
+use Rattle.model.specs.Hash.{hashedOutcome}
+use Rattle.model.specs.Hash as H
 use Rattle.model.specs.Outcome.{listOutcome}
 use Rattle.model.specs.declared.Unary.{Unary}
 use Rattle.model.specs.declared.SetOp.{SetOp}
@@ -19,7 +21,7 @@ use Rattle.entry_codes.specs.declared.Plain.{Plain}
 use Rattle.entry_codes.specs.declared.Plain.the-variants as P
 use Rattle.entry_codes.specs.declared.Taking.{Taking}
 use Rattle.entry_codes.specs.declared.Taking.the-variants as T
-use Rattle.entry_codes.specs.Calls.{plainLent, takingLent, plainOf, plainIn, unaryOf, unaryCall, setIn, setOf, setCall, takingOf, takingIn, withOf, withCall, oneIn, oneOf, oneCall, oneLengths, setLengths}
+use Rattle.entry_codes.specs.Calls.{plainLent, takingLent, plainOf, plainIn, unaryOf, unaryCall, setIn, setOf, setCall, hashedCall, takingOf, takingIn, withOf, withCall, oneIn, oneOf, oneCall, oneLengths, setLengths}
 
 -- r is what the code found: the operation, or none
 module _ (op : ℕ) {r : Plain} (c : Column) (e : plainLent r ≡ unaryOf op) where
@@ -119,3 +121,16 @@ module _ (code : ℕ) {r : Taking} (e : takingLent r ≡ oneOf code) where
   pub taking-none : r ≡ T.None → absent ≡ withOf code
   unfolding withOf takingIn takingLent
   taking-none q = rw (← e, q)
+
+module _ (op : ℕ) {r : Operation} (c d : Column) (n : ℕ) (e : r ≡ operationOf op) where
+  pub one-hashed : {k : ListOp} → r ≡ S.One k → hashedCall op c d n ≡ absent
+  unfolding hashedCall onLent setOf setIn
+  one-hashed h = rw (← e, h)
+
+  pub no-hashed : r ≡ S.None → hashedCall op c d n ≡ absent
+  unfolding hashedCall onLent setOf setIn
+  no-hashed h = rw (← e, h)
+
+  pub hashed-code : {k : SetOp} → r ≡ S.Two k → hashedCall op c d n ≡ given (hashedOutcome narrow (H.setOf k c d) n)
+  unfolding hashedCall onLent setOf setIn
+  hashed-code h = rw (← e, h)

@@ -8,6 +8,8 @@ use Rattle.model.specs.Column.{Row, Column, Arguments}
 use Rattle.model.specs.Form.{Room}
 use Rattle.model.specs.Lengths.{listLengths}
 use Rattle.model.specs.Rows.{unary, setOp, onLent}
+use Rattle.model.specs.Hash.{hashedOutcome}
+use Rattle.model.specs.Hash as H
 use Rattle.model.specs.Outcome.{Outcome, listOutcome}
 use Rattle.model.specs.declared.Unary.{Unary}
 use Rattle.model.specs.declared.SetOp.{SetOp}
@@ -70,6 +72,10 @@ setCall N op c d = onLent (λ k. listOutcome N (setOp k c d)) (setOf op)
 
 unfoldable pub setLengths : Limits → ℕ → Column → Column → Lent (Outcome Room)
 setLengths N op c d = onLent (λ k. listLengths N (setOp k c d)) (setOf op)
+
+-- with a work area of n slots
+unfoldable pub hashedCall : ℕ → Column → Column → ℕ → Lent (Room → Outcome (List Row))
+hashedCall op c d n = onLent (λ k. hashedOutcome narrow (H.setOf k c d) n) (setOf op)
 
 -- ---- one list, with argument columns or without
 

@@ -7,12 +7,13 @@ use Rattle.model.specs.Basics.{Lent}
 use Rattle.model.specs.Limits.{Limits}
 use Rattle.model.specs.Column.{Column, Arguments, rowsOf, shownBy, EqualRows}
 use Rattle.model.specs.View.{View, importOutcome, exportOutcome}
+use Rattle.model.specs.Hash.{Hashed, onHashed, hashedOutcome}
 use Rattle.model.specs.Rows.{ListCall, onLent, onCall}
 use Rattle.model.specs.Outcome.{listOutcome, anyValueOutcome, elementOutcome, repeatOutcome}
 use Rattle.model.specs.Recipe.{recipeShown, recipeOutcome}
 use Rattle.model.specs.Window.{windowShown, windowOutcome}
 use Rattle.model.specs.Lengths.{listLengths, anyValueLengths, elementLengths, repeatLengths, recipeLimits, recipeLimitsShown}
-use Rattle.model.specs.Call.{Call, list, anyValue, element, listRepeat, recipe, measureList, measureAnyValue, measureElement, measureRepeat, limitRecipe, window, importView, exportView, End, shown, listsOf, argumentsOf, viewsOf, end, endShown, Formed, SameLent, sameAbsent, sameGiven, SameCall, sameUnary, sameSetOp, sameSlice, sameResize, sameReplace, sameRemove, Alike, alikeList, alikeAnyValue, alikeElement, alikeListRepeat, alikeRecipe, alikeMeasureList, alikeMeasureAnyValue, alikeMeasureElement, alikeMeasureRepeat, alikeLimitRecipe, alikeWindow, alikeImport, alikeExport, gradeColumn, gradeRecipe, alikeGradeColumn, alikeGradeRecipe}
+use Rattle.model.specs.Call.{Call, list, anyValue, element, listRepeat, recipe, measureList, measureAnyValue, measureElement, measureRepeat, limitRecipe, window, importView, exportView, End, shown, listsOf, argumentsOf, viewsOf, end, endShown, Formed, SameLent, sameAbsent, sameGiven, SameCall, sameUnary, sameSetOp, sameSlice, sameResize, sameReplace, sameRemove, Alike, alikeList, alikeAnyValue, alikeElement, alikeListRepeat, alikeRecipe, alikeMeasureList, alikeMeasureAnyValue, alikeMeasureElement, alikeMeasureRepeat, alikeLimitRecipe, alikeWindow, alikeImport, alikeExport, gradeColumn, gradeRecipe, alikeGradeColumn, alikeGradeRecipe, hashed, SameHashed, sameDistinctOf, sameSetOf, alikeHashed}
 use Rattle.model.specs.Grade.{gradeShown, gradeOutcome}
 use Rattle.model.specs.Run.{Run}
 use Rattle.model.proofs.ColumnLaws.{same-rows, same-arguments, no-units}
@@ -35,6 +36,11 @@ same-call (sameResize e f h) = cc (same-rows e, same-arguments f, same-lent h)
 same-call (sameReplace e f g h) = cc (same-rows e, same-arguments f, same-arguments g, same-arguments h)
 same-call (sameRemove e f h) = cc (same-rows e, same-arguments f, same-arguments h)
 
+same-hashed : {h h′ : Hashed Column} → SameHashed h h′ → onHashed rowsOf h ≡ onHashed rowsOf h′
+unfolding onHashed
+same-hashed (sameDistinctOf e) = cc (same-rows e)
+same-hashed (sameSetOf k e f) = cc (same-rows e, same-rows f)
+
 same-shown : {q q′ : Call Column Arguments View} → Alike q q′ → shown q ≡ shown q′
 unfolding shown
 same-shown (alikeList l s) = cc (same-call s)
@@ -52,10 +58,11 @@ same-shown (alikeImport l e) = cc (same-views e)
 same-shown (alikeExport l e) = cc (same-rows e)
 same-shown (alikeGradeColumn k g e) = cc (same-rows e)
 same-shown (alikeGradeRecipe k s p a b o g t e f h) = cc (same-rows e, same-rows f, same-arguments h)
+same-shown (alikeHashed n l s) = cc (same-hashed s)
 
 -- a call on well-formed columns ends in what they show
 from-shown : (L : Limits) (q : Call Column Arguments View) → Formed q → end L q ≡ endShown L (shown q)
-unfolding end endShown shown listsOf argumentsOf viewsOf importOutcome exportOutcome listOutcome anyValueOutcome elementOutcome repeatOutcome recipeOutcome recipeShown listLengths anyValueLengths elementLengths repeatLengths recipeLimits recipeLimitsShown windowOutcome windowShown gradeOutcome gradeShown
+unfolding end endShown shown listsOf argumentsOf viewsOf importOutcome exportOutcome listOutcome anyValueOutcome elementOutcome repeatOutcome recipeOutcome recipeShown listLengths anyValueLengths elementLengths repeatLengths recipeLimits recipeLimitsShown windowOutcome windowShown gradeOutcome gradeShown hashedOutcome
 from-shown L (list q l) f = rw (gate-open _ _ (formed-columns (f .lists) (f .arguments)))
 from-shown L (anyValue c l) f = rw (gate-open _ _ (formed-columns (f .lists) (f .arguments)))
 from-shown L (element c a l) f = rw (gate-open _ _ (formed-columns (f .lists) (f .arguments)))
@@ -71,6 +78,7 @@ from-shown L (importView v l) f = rw (gate-open _ _ (formed-view (f .views)))
 from-shown L (exportView c l) f = rw (gate-open _ _ (formed-columns (f .lists) (f .arguments)))
 from-shown L (gradeColumn k c g) f = rw (gate-open _ _ (formed-columns (f .lists) (f .arguments)))
 from-shown L (gradeRecipe k s p c d e a b o g t) f = rw (gate-open _ _ (formed-columns (f .lists) (f .arguments)))
+from-shown L (hashed h n l) f = rw (gate-open _ _ (formed-columns (f .lists) (f .arguments)))
 
 -- what demand 3 says of two calls that are alike, the first of which ends in e and the second in e′
 pub record Agree (L : Limits) (q q′ : Call Column Arguments View) (e e′ : End) : Type 0 where

@@ -7,7 +7,7 @@ use borrow.Author.Tests.{ne-eqb}
 use lib.Dec.{eqb}
 use lib.IntN.{pos}
 use lib.ListN.{replicate}
-use Rattle.model.specs.Basics.{pick, given}
+use Rattle.model.specs.Basics.{pick, given, absent}
 use Rattle.model.specs.Limits.{Limits}
 use Rattle.model.specs.Column.{Column, Arguments, rowsOf}
 use Rattle.model.specs.Form.{Room}
@@ -28,6 +28,7 @@ module _ (L : Limits) (k s : ℕ) (p : Recipe) (c d : Column) (e : Arguments) (a
         tray-bitmaps = replicate (a .rows) 0 ∷ replicate (a .elements) 0 ∷ replicate (b .rows) 0 ∷ replicate (b .elements) 0 ∷ [];
         tally = given t;
         grades = [];
+        area = absent;
       }
   unfolding end gradedEnd recipeEnd traysEnd graded gate gradedMove moved answerOf listNumbers listBitmaps written
   not-graded h = rw (ne-eqb _ _ h)

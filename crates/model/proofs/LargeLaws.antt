@@ -11,6 +11,7 @@ use Rattle.model.specs.Basics.{pick, tab, any}
 use Rattle.model.specs.Limits.{wide, largest}
 use Rattle.model.specs.Column.{Elem, nul, val, Row, nullRow, listRow, Column, Arguments, rowsOf, shownBy, refusal13, refusal13ᵃ, refusal1, refusal2, refusal2ᵃ}
 use Rattle.model.specs.View.{View, ViewRoom, viewRows, refusal13ᵛ, refusal2ᵛ, refusal3ᵛ, refusal11, viewRefusal, fitsView, importShown, importOutcome, exportShown, exportOutcome}
+use Rattle.model.specs.Hash.{Hashed, plainOf, onHashed, shortArea, hashedShown, hashedOutcome}
 use Rattle.model.specs.Form.{flat, Room, ValueRoom, RepeatRoom, Outer, fitsIn, fitsValues, fitsRepeat}
 use Rattle.model.specs.Slice.{fits, fromPlace, inRow, fromBound, toPlace, toBound, Bound, unfit, outside, place, Plan, refuse, empty, places, isZero, against, strided, between, slicePlan, stepCount}
 use Rattle.model.specs.Rows.{ListCall, unary, setOp, slice, resize, replace, remove, onCall, listsIn, argumentsIn, planned, strideOf, sliceRow, madeOf, rowOf, argumentOf, atRow, rowsIn, rowByRow, rowsMade, anyValueOf}
@@ -19,7 +20,7 @@ use Rattle.model.specs.Outcome.{Outcome, refused, made, gate, columnsRef
 use Rattle.model.specs.Lengths.{roomOfRows, roomOfValues, roomOfOuter, listLengthsShown, anyValueLengthsShown, elementLengthsShown, repeatLengthsShown, listLengths, anyValueLengths, elementLengths, repeatLengths, formedLimits, recipeLimits}
 use Rattle.model.specs.Recipe.{Step, Recipe, columnOf, malformed, recipeUnequal, stepCall, thenOn, carried, stepped, formedRecipe, recipeShown, recipeOutcome, stationed, stepsOf}
 use Rattle.model.specs.Window.{noWindow, formedWindow, windowOutcome}
-use Rattle.model.specs.Call.{Call, list, anyValue, element, listRepeat, recipe, measureList, measureAnyValue, measureElement, measureRepeat, limitRecipe, window, importView, exportView, Answer, refusal, counts, answerOf, end, listEnd, valueEnd, repeatEnd, traysEnd, recipeEnd, windowEnd, viewEnd, gradeColumn, gradeRecipe, gradeEnd, gradedEnd}
+use Rattle.model.specs.Call.{Call, list, anyValue, element, listRepeat, recipe, measureList, measureAnyValue, measureElement, measureRepeat, limitRecipe, window, importView, exportView, Answer, refusal, counts, answerOf, end, listEnd, valueEnd, repeatEnd, traysEnd, recipeEnd, windowEnd, viewEnd, gradeColumn, gradeRecipe, gradeEnd, gradedEnd, hashed, hashedEnd}
 use Rattle.model.specs.Grade.{gradeRefusal, graded, gradeOutcome}
 use Rattle.model.specs.declared.SetOp.the-variants.{Union, Intersect}
 use Rattle.model.proofs.BoolLaws.{never}
@@ -301,13 +302,20 @@ grade-spared : (k : ℕ) (c : Column) (g : ℕ) → Spared (gradeOutcome k c g)
 unfolding gradeOutcome
 grade-spared k c g = graded-spared k (rowsOf c) g _ (spared-gate _ _ (columns-neither _ _) (spared-made (rowsOf c)))
 
+hashed-spared : (h : Hashed Column) (n : ℕ) (l : Room) → Spared (hashedOutcome wide h n l)
+unfolding hashedOutcome hashedShown
+hashed-spared h n l =
+    let s = onHashed rowsOf h in
+    spared-gate _ _ (columns-neither _ _)
+    (spared-gate _ _ (three-or (unequal (plainOf s))) (spared-gate _ _ (zero-or (shortArea n s) 14 (λ e. omega arith, λ e. omega arith)) (three-spared (plainOf s) l)))
+
 answered : {A : Type 0} (f : A → List ℕ) (x : Outcome A) (k : ℕ) → Spared x → answerOf f x ≡ refusal k → Neither k
 unfolding answerOf
 answered f (refused j) k h e = let q : j ≡ k = cc in rw (← q) (h .neither j refl)
 answered f (made a) k h e = never cc
 
 pub no-four-or-six : (q : Call Column Arguments View) (k : ℕ) → end wide q .answer ≡ refusal k → Neither k
-unfolding end listEnd valueEnd repeatEnd traysEnd recipeEnd windowEnd viewEnd gradeEnd gradedEnd
+unfolding end listEnd valueEnd repeatEnd traysEnd recipeEnd windowEnd viewEnd gradeEnd gradedEnd hashedEnd
 no-four-or-six (list q l) k e = answered _ _ k (list-spared q l) e
 no-four-or-six (anyValue c l) k e = answered _ _ k (any-spared c l) e
 no-four-or-six (element c a l) k e = answered _ _ k (element-spared c a l) e
@@ -323,3 +331,4 @@ no-four-or-six (importView v l) k e = answered _ _ k (import-spared v l) e
 no-four-or-six (exportView c l) k e = answered _ _ k (export-spared c l) e
 no-four-or-six (gradeColumn j c g) k e = answered _ _ k (grade-spared j c g) e
 no-four-or-six (gradeRecipe j s p c d x a b o g t) k e = answered _ _ k (graded-spared j (rowsOf c) g _ (stationed-spared s _ (recipe-spared p c d x a b o))) e
+no-four-or-six (hashed h n l) k e = answered _ _ k (hashed-spared h n l) e

@@ -20,3 +20,5 @@ pub mod AskedLaws
 pub mod WidthLaws
 pub mod LargeLaws
 pub mod WindowLaws
+pub mod HashLaws
+pub mod HashCases

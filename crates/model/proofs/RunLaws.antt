@@ -15,9 +15,9 @@ use Rattle.model.specs.Grade.{gradeOf, gradesOf, graded, gradedMove}
 use Rattle.model.specs.Tally.{Tally, moved, moveOf, tallied}
 use Rattle.model.specs.Form.{Room, isVal, isRow, valueOf, Outer, isOuter, outerLength, inner, flat, lengthOf, over, offsetsFrom, formOffsets, formRows, formValues, formElements}
 use Rattle.model.specs.Outcome.{Outcome, refused, made}
-use Rattle.model.specs.Call.{Call, answerOf, written, End, listNumbers, listBitmaps, listEnd, valueEnd, repeatEnd, traysEnd, recipeEnd, windowEnd, viewEnd, measureEnd, end, gradeEnd, gradedEnd}
-use Rattle.model.specs.Contract.{told, toldValue, toldRepeat, ListMeets, ViewMeets, ValueMeets, RepeatMeets, Zeroed, toldGrade, GradeMeets, Grades}
-use Rattle.model.specs.Run.{listRunEnd, valueRunEnd, repeatRunEnd, recipeRunEnd, Run, listRun, anyValueRun, elementRun, repeatRun, recipeRun, measureListRun, measureAnyValueRun, measureElementRun, measureRepeatRun, limitRecipeRun, windowRun, viewRunEnd, importRun, exportRun, gradeRunEnd, gradesTaken, gradedRunEnd, gradeColumnRun, gradeRecipeRun}
+use Rattle.model.specs.Call.{Call, answerOf, written, End, listNumbers, listBitmaps, listEnd, valueEnd, repeatEnd, traysEnd, recipeEnd, windowEnd, viewEnd, measureEnd, end, gradeEnd, gradedEnd, hashedEnd}
+use Rattle.model.specs.Contract.{told, toldValue, toldRepeat, ListMeets, ViewMeets, ValueMeets, RepeatMeets, Zeroed, toldGrade, GradeMeets, Grades, HashMeets}
+use Rattle.model.specs.Run.{listRunEnd, valueRunEnd, repeatRunEnd, recipeRunEnd, Run, listRun, anyValueRun, elementRun, repeatRun, recipeRun, measureListRun, measureAnyValueRun, measureElementRun, measureRepeatRun, limitRecipeRun, windowRun, viewRunEnd, importRun, exportRun, gradeRunEnd, gradesTaken, gradedRunEnd, gradeColumnRun, gradeRecipeRun, hashedRunEnd, hashedRun}
 use Rattle.model.specs.declared.ListAnswer.{ListAnswer}
 use Rattle.model.specs.declared.ListAnswer.the-variants as L
 use Rattle.model.specs.declared.GradeAnswer.{GradeAnswer}
@@ -108,6 +108,13 @@ module _ {o o′ s s′ : List ℤ} {r r′ : List ℕ} {v v′ : List ℤ} {e e
       let elements = taken (formElements (flat ws)) e e′ (bytesFor m) (h .elements) (omega (arith, length-pack (map isVal (flat ws)), length-map isVal (flat ws))) in
       cc
 
+-- ---- an answer with a work area
+
+module _ {o o′ : List ℤ} {r r′ : List ℕ} {v v′ : List ℤ} {e e′ w : List ℕ} where
+  hashed-run : (x : Outcome (List Row)) (n : ℕ) (a : ListAnswer) → HashMeets x n a o o′ r r′ v v′ e e′ w → hashedRunEnd a o′ r′ v′ e′ w ≡ hashedEnd x n
+  unfolding hashedRunEnd hashedEnd listEnd
+  hashed-run x n a h = rw (list-run x a (h .list), h .area)
+
 -- ---- a recipe's answer, trays and tally
 
 module _ {o o′ : List ℤ} {r r′ : List ℕ} {v v′ : List ℤ} {e e′ : List ℕ} {ao : List ℤ} {ar : List ℕ} {av : List ℤ} {ae : List ℕ} {bo : List ℤ} {br : List ℕ} {bv : List ℤ} {be : List ℕ} where
@@ -166,3 +173,4 @@ run-ends L (importRun h) = list-run _ _ h
 run-ends L (exportRun h) = view-run _ _ h
 run-ends L (gradeColumnRun h) = grade-run _ _ _ h
 run-ends L (gradeRecipeRun h y z q w) = graded-run _ _ _ _ _ _ _ _ _ _ h y z q w
+run-ends L (hashedRun h) = hashed-run _ _ _ h

@@ -11,7 +11,7 @@ use lib.Dec.{ltb, eqb}
 use lib.IntN.{pos}
 use lib.ListN.{length, getD, replicate, length-set}
 use lib.Seq.{getD-set-same, getD-set-other}
-use Rattle.model.specs.Basics.{pick, given, All, none, more}
+use Rattle.model.specs.Basics.{pick, absent, given, All, none, more}
 use Rattle.model.specs.Limits.{Limits, largest}
 use Rattle.model.specs.Bitmap.{bit}
 use Rattle.model.specs.Column.{Row, Column, Arguments, rowsOf}
@@ -21,7 +21,7 @@ use Rattle.model.specs.Outcome.{Outcome, refused, made, gate}
 use Rattle.model.specs.Recipe.{Recipe, recipeOutcome, stationed}
 use Rattle.model.specs.Grade.{gradeRefusal, graded, gradedMove}
 use Rattle.model.specs.Tally.{Tally, Sixteen, oneMore, countedAt, Move, finishedAt, refusedAt, nobody, moved, named, outcomeAt, moveOf, tallied, Names, movedAll, Below, While, noMore, still, total, asFinished, asRefused, Grown}
-use Rattle.model.specs.Call.{Call, list, anyValue, element, listRepeat, recipe, measureList, measureAnyValue, measureElement, measureRepeat, limitRecipe, window, importView, exportView, End, refusal, answerOf, written, listNumbers, listBitmaps, traysEnd, recipeEnd, end, tallyTaken, moveIn, Chain, listCounts, namesStation, accepted, finishedBy, refusedBy, gradeColumn, gradeRecipe, gradedEnd}
+use Rattle.model.specs.Call.{Call, list, anyValue, element, listRepeat, recipe, measureList, measureAnyValue, measureElement, measureRepeat, limitRecipe, window, importView, exportView, End, refusal, answerOf, written, listNumbers, listBitmaps, traysEnd, recipeEnd, end, tallyTaken, moveIn, Chain, listCounts, namesStation, accepted, finishedBy, refusedBy, gradeColumn, gradeRecipe, gradedEnd, hashed}
 use Rattle.model.specs.Call as C
 use Rattle.model.specs.Run.{Run}
 use Rattle.model.proofs.BoolLaws.{never}
@@ -47,6 +47,7 @@ pub fifteen : (L : Limits) (s : ℕ) (p : Recipe) (c d : Column) (e : Arguments)
       tray-bitmaps = replicate (a .rows) 0 ∷ replicate (a .elements) 0 ∷ replicate (b .rows) 0 ∷ replicate (b .elements) 0 ∷ [];
       tally = given t;
       grades = [];
+      area = absent;
     }
 unfolding end recipeEnd traysEnd stationed gate answerOf listNumbers listBitmaps written moveOf named moved
 fifteen L s p c d e a b o t h = rw (lt-ltb 15 s h)
@@ -199,6 +200,7 @@ names-in L (importView v l) = tt
 names-in L (exportView c l) = tt
 names-in L (gradeColumn k c g) = tt
 names-in L (gradeRecipe k s p c d e a b o g t) = names-graded k g (rowsOf c) _ (names-of s _)
+names-in L (hashed h n l) = tt
 
 all-name : (L : Limits) (qs : List (Call Column Arguments View)) → All Names (map (moveIn L) qs)
 all-name L [] = none
@@ -222,6 +224,7 @@ end-moves L (importView v l) t h = never cc
 end-moves L (exportView c l) t h = never cc
 end-moves L (gradeColumn k c g) t h = never cc
 end-moves L (gradeRecipe k s p c d e a b o g t′) t h = cc
+end-moves L (hashed h n l) t z = never cc
 
 chain-moves : (L : Limits) {t u : Tally} {qs : List (Call Column Arguments View)} → Chain L t qs u → u ≡ movedAll (map (moveIn L) qs) t
 unfolding movedAll
@@ -260,6 +263,7 @@ module _ (L : Limits) where
       go true false (refused j) = refl
       go true false (made ws) = refl
       go false false x = refl
+  split-finished (hashed h n l) = refl
   split-finished (recipe s p c d e a b o t) = go (ltb 15 s) (stationed s (recipeOutcome L p c d e a b o))
     where
       go : (b : Bool) (x : Outcome (List Row)) → asFinished (pick b nobody (outcomeAt s x)) ≡ bit (not b && accepted (answerOf listCounts x))
@@ -290,6 +294,7 @@ module _ (L : Limits) where
       go true false (refused j) = refl
       go true false (made ws) = refl
       go false false x = refl
+  split-refused (hashed h n l) = refl
   split-refused (recipe s p c d e a b o t) = go (ltb 15 s) (stationed s (recipeOutcome L p c d e a b o))
     where
       go : (b : Bool) (x : Outcome (List Row)) → asRefused (pick b nobody (outcomeAt s x)) ≡ bit (not b && not (accepted (answerOf listCounts x)))

@@ -10,6 +10,7 @@ use Rattle.model.specs.Basics.{Lent, absent, given, All}
 use Rattle.model.specs.Limits.{Limits}
 use Rattle.model.specs.Column.{Elem, Row, Column, Arguments, rowsOf, shownBy, WellFormed, WellFormedᵃ, EqualRows, EqualArguments}
 use Rattle.model.specs.View.{View, ViewRoom, viewRows, viewOffsets, viewSizes, WellFormedᵛ, EqualViews, importShown, importOutcome, exportShown, exportOutcome}
+use Rattle.model.specs.Hash.{Hashed, distinctOf, setOf, onHashed, listsHashed, hashedShown, hashedOutcome}
 use Rattle.model.specs.Form.{Room, ValueRoom, RepeatRoom, Outer, isOuter, outerLength, inner, flat, offsetsFrom, formOffsets, formRows, formValues, formElements, nullRows, nullElems}
 use Rattle.model.specs.Bitmap.{bit, pack, nulls}
 use Rattle.model.specs.Rows.{ListCall, unary, setOp, slice, resize, replace, remove, onCall, listsIn, argumentsIn}
@@ -45,6 +46,8 @@ pub data Call (C A W : Type 0) : Type 0 where
   -- Note 6 of document 02: a list column graded, by k into a slice of g grades, and a recipe whose result is graded
   gradeColumn : ℕ → C → ℕ → Call C A W
   gradeRecipe : ℕ → ℕ → Recipe → C → C → A → Room → Room → Room → ℕ → Tally → Call C A W
+  -- Note 9 of document 02: distinct, union or intersect with a work area of so many slots
+  hashed : Hashed C → ℕ → Room → Call C A W
 
 -- what is shown of a call
 unfoldable pub shown : Call Column Arguments View → Call (List Row) (List Elem) (List Row)
@@ -63,6 +66,7 @@ shown (importView v l) = importView (viewRows v) l
 shown (exportView c l) = exportView (rowsOf c) l
 shown (gradeColumn k c g) = gradeColumn k (rowsOf c) g
 shown (gradeRecipe k s p c d e a b o g t) = gradeRecipe k s p (rowsOf c) (rowsOf d) (shownBy e) a b o g t
+shown (hashed h n l) = hashed (onHashed rowsOf h) n l
 
 unfoldable pub listsOf : {C A W : Type 0} → Call C A W → List C
 listsOf (list q l) = listsIn q
@@ -80,6 +84,7 @@ listsOf (importView v l) = []
 listsOf (exportView c l) = c ∷ []
 listsOf (gradeColumn k c g) = c ∷ []
 listsOf (gradeRecipe k s p c d e a b o g t) = c ∷ d ∷ []
+listsOf (hashed h n l) = listsHashed h
 
 unfoldable pub argumentsOf : {C A W : Type 0} → Call C A W → List A
 argumentsOf (list q l) = argumentsIn q
@@ -97,6 +102,7 @@ argumentsOf (importView v l) = []
 argumentsOf (exportView c l) = []
 argumentsOf (gradeColumn k c g) = []
 argumentsOf (gradeRecipe k s p c d e a b o g t) = e ∷ []
+argumentsOf (hashed h n l) = []
 
 unfoldable pub viewsOf : {C A W : Type 0} → Call C A W → List W
 viewsOf (list q l) = []
@@ -114,6 +120,7 @@ viewsOf (importView v l) = v ∷ []
 viewsOf (exportView c l) = []
 viewsOf (gradeColumn k c g) = []
 viewsOf (gradeRecipe k s p c d e a b o g t) = []
+viewsOf (hashed h n l) = []
 
 -- an answer: the number of a refusal, or all counts
 pub data Answer : Type 0 where
@@ -160,8 +167,8 @@ unfoldable pub written : {A B : Type 0} → (A → List B) → Outcome A → Lis
 written f (refused k) = []
 written f (made a) = f a
 
--- what a call ends in: the answer; the written results, in slices of numbers and bitmaps; a recipe's trays, all their slots; its tally; and
--- the grades written
+-- what a call ends in: the answer; the written results, in slices of numbers and bitmaps; a recipe's trays, all their slots; its tally; the
+-- grades written; and a work area, all its slots
 pub record End : Type 0 where
   pub answer : Answer
   pub numbers : List (List ℤ)
@@ -170,10 +177,11 @@ pub record End : Type 0 where
   pub tray-bitmaps : List (List ℕ)
   pub tally : Lent Tally
   pub grades : List ℕ
+  pub area : Lent (List ℕ)
 
--- an operation's end: no trays, no tally, no grades
+-- an operation's end: no trays, no tally, no grades, no work area
 abbrev pub operationEnd : Answer → List (List ℤ) → List (List ℕ) → End
-operationEnd a ns bs = record { answer = a; numbers = ns; bitmaps = bs; tray-numbers = []; tray-bitmaps = []; tally = absent; grades = [] }
+operationEnd a ns bs = record { answer = a; numbers = ns; bitmaps = bs; tray-numbers = []; tray-bitmaps = []; tally = absent; grades = []; area = absent }
 
 unfoldable pub listNumbers : Outcome (List Row) → List (List ℤ)
 listNumbers x = written formOffsets x ∷ written (λ ws. formValues (flat ws)) x ∷ []
@@ -204,6 +212,7 @@ traysEnd x a b t =
       tray-bitmaps = replicate (a .rows) 0 ∷ replicate (a .elements) 0 ∷ replicate (b .rows) 0 ∷ replicate (b .elements) 0 ∷ [];
       tally = t;
       grades = [];
+      area = absent;
     }
 
 -- of a call that names station s
@@ -226,7 +235,7 @@ viewEnd x =
 
 -- grades alone
 abbrev pub gradesEnd : Answer → List ℕ → End
-gradesEnd a g = record { answer = a; numbers = []; bitmaps = []; tray-numbers = []; tray-bitmaps = []; tally = absent; grades = g }
+gradesEnd a g = record { answer = a; numbers = []; bitmaps = []; tray-numbers = []; tray-bitmaps = []; tally = absent; grades = g; area = absent }
 
 -- a column graded by k: "one grade byte a row"
 unfoldable pub gradeEnd : ℕ → Outcome (List Row) → End
@@ -245,7 +254,12 @@ gradedEnd k ws g s x a b t =
       tray-bitmaps = y .tray-bitmaps;
       tally = given (moved (gradedMove k ws g (moveOf s x)) t);
       grades = written (gradesOf k) (graded k ws g x);
+      area = absent;
     }
+
+-- "each is zero after every call": of a work area of so many slots
+unfoldable pub hashedEnd : Outcome (List Row) → ℕ → End
+hashedEnd x n = record { answer = answerOf listCounts x; numbers = listNumbers x; bitmaps = listBitmaps x; tray-numbers = []; tray-bitmaps = []; tally = absent; grades = []; area = given (replicate n 0) }
 
 -- what a call ends in, from the columns lent: contracts name the same outcomes
 unfoldable pub end : Limits → Call Column Arguments View → End
@@ -264,6 +278,7 @@ end L (importView v l) = listEnd (importOutcome L v l)
 end L (exportView c l) = viewEnd (exportOutcome c l)
 end L (gradeColumn k c g) = gradeEnd k (gradeOutcome k c g)
 end L (gradeRecipe k s p c d e a b o g t) = gradedEnd k (rowsOf c) g s (stationed s (recipeOutcome L p c d e a b o)) a b t
+end L (hashed h n l) = hashedEnd (hashedOutcome L h n l) n
 
 -- what demand 2's definitions give from what is shown alone
 unfoldable pub endShown : Limits → Call (List Row) (List Elem) (List Row) → End
@@ -282,6 +297,7 @@ endShown L (importView ws l) = listEnd (importShown L ws l)
 endShown L (exportView ws l) = viewEnd (exportShown ws l)
 endShown L (gradeColumn k ws g) = gradeEnd k (gradeShown k ws g)
 endShown L (gradeRecipe k s p ws rs es a b o g t) = gradedEnd k ws g s (stationed s (recipeShown L p ws rs es a b o)) a b t
+endShown L (hashed h n l) = hashedEnd (hashedShown L h n l) n
 
 -- "If they start from well-formed columns"
 pub record Formed (q : Call Column Arguments View) : Type 0 where
@@ -303,8 +319,13 @@ pub data SameCall : ListCall Column Arguments → ListCall Column Arguments → 
   sameReplace : {c d : Column} {a a′ b b′ n n′ : Arguments} → EqualRows c d → EqualArguments a a′ → EqualArguments b b′ → EqualArguments n n′ → SameCall (replace c a b n) (replace d a′ b′ n′)
   sameRemove : {c d : Column} {a a′ n n′ : Arguments} → EqualRows c d → EqualArguments a a′ → EqualArguments n n′ → SameCall (remove c a n) (remove d a′ n′)
 
+-- the same of an operation with a work area
+pub data SameHashed : Hashed Column → Hashed Column → Type 0 where
+  sameDistinctOf : {c d : Column} → EqualRows c d → SameHashed (distinctOf c) (distinctOf d)
+  sameSetOf : {c d c′ d′ : Column} (k : SetOp) → EqualRows c c′ → EqualRows d d′ → SameHashed (setOf k c d) (setOf k c′ d′)
+
 -- two runs of one operation or one recipe on columns "that show equal rows, with equal arguments, equal slice lengths lent for
--- results and trays and an equal tally"; "the two runs of demand 3 name the same" station
+-- results and trays and an equal tally"; "the two runs of demand 3 name the same" station; "two runs are lent equally long work areas"
 pub data Alike : Call Column Arguments View → Call Column Arguments View → Type 0 where
   alikeList : {q q′ : ListCall Column Arguments} (l : Room) → SameCall q q′ → Alike (list q l) (list q′ l)
   alikeAnyValue : {c d : Column} (l : ValueRoom) → EqualRows c d → Alike (anyValue c l) (anyValue d l)
@@ -322,6 +343,7 @@ pub data Alike : Call Column Arguments View → Call Column Arguments View → T
   alikeGradeColumn : {c d : Column} (k g : ℕ) → EqualRows c d → Alike (gradeColumn k c g) (gradeColumn k d g)
   alikeGradeRecipe : {c c′ d d′ : Column} {e e′ : Arguments} (k s : ℕ) (p : Recipe) (a b o : Room) (g : ℕ) (t : Tally) → EqualRows c c′ → EqualRows d d′ → EqualArguments e e′
       → Alike (gradeRecipe k s p c d e a b o g t) (gradeRecipe k s p c′ d′ e′ a b o g t)
+  alikeHashed : {h h′ : Hashed Column} (n : ℕ) (l : Room) → SameHashed h h′ → Alike (hashed h n l) (hashed h′ n l)
 
 -- the tally that a call takes
 unfoldable pub tallyTaken : {C A W : Type 0} → Call C A W → Lent Tally
@@ -340,6 +362,7 @@ tallyTaken (importView v l) = absent
 tallyTaken (exportView c l) = absent
 tallyTaken (gradeColumn k c g) = absent
 tallyTaken (gradeRecipe k s p c d e a b o g t) = given t
+tallyTaken (hashed h n l) = absent
 
 -- what a call does to it
 unfoldable pub moveIn : Limits → Call Column Arguments View → Move
@@ -358,6 +381,7 @@ moveIn L (importView v l) = nobody
 moveIn L (exportView c l) = nobody
 moveIn L (gradeColumn k c g) = nobody
 moveIn L (gradeRecipe k s p c d e a b o g t) = gradedMove k (rowsOf c) g (moveOf s (stationed s (recipeOutcome L p c d e a b o)))
+moveIn L (hashed h n l) = nobody
 
 -- does a call name one of the sixteen stations; "gradings refused by 12 or for their grade slice, are left out"
 unfoldable pub namesStation : Call Column Arguments View → Bool
@@ -376,6 +400,7 @@ namesStation (importView v l) = false
 namesStation (exportView c l) = false
 namesStation (gradeColumn k c g) = false
 namesStation (gradeRecipe k s p c d e a b o g t) = not (ltb 15 s) && eqb (gradeRefusal k (rowsOf c) g) 0
+namesStation (hashed h n l) = false
 
 unfoldable pub accepted : Answer → Bool
 accepted (refusal k) = false

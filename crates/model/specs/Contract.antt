@@ -127,6 +127,17 @@ ListAnswers f a o r v e =
     ListMeets (f (roomOf o r v e)) a
     (now (o .entry)) (now (o .exit)) (now (r .entry)) (now (r .exit)) (now (v .entry)) (now (v .exit)) (now (e .entry)) (now (e .exit))
 
+-- the same with a work area, which had so many slots: they are 0 as the call returns
+pub record HashMeets (x : Outcome (List Row)) (n : ℕ) (a : ListAnswer) (o o′ : List ℤ) (r r′ : List ℕ) (v v′ : List ℤ) (e e′ w : List ℕ) : Type 0 where
+  pub list : ListMeets x a o o′ r r′ v v′ e e′
+  pub area : w ≡ replicate n 0
+
+-- what f gives for the slots of the work area and the lengths lent
+abbrev pub HashAnswers : (ℕ → Room → Outcome (List Row)) → ListAnswer → Slice ℤ → Slice ℕ → Slice ℤ → Slice ℕ → Slice ℕ → Type 0
+HashAnswers f a o r v e w =
+    HashMeets (f (length (now (w .entry))) (roomOf o r v e)) (length (now (w .entry))) a
+    (now (o .entry)) (now (o .exit)) (now (r .entry)) (now (r .exit)) (now (v .entry)) (now (v .exit)) (now (e .entry)) (now (e .exit)) (now (w .exit))
+
 -- the contract of an operation that gives one value a row
 abbrev pub ValueAnswers : (ValueRoom → Outcome (List Elem)) → ValueAnswer → Slice ℤ → Slice ℕ → Type 0
 ValueAnswers f a v r =

@@ -9,6 +9,7 @@ pub mod Rows
 pub mod Refusals
 pub mod Outcome
 pub mod View
+pub mod Hash
 pub mod Recipe
 pub mod Window
 pub mod Tally

@@ -10,11 +10,12 @@ use Rattle.model.specs.Bitmap.{bytesFor}
 use Rattle.model.specs.Limits.{Limits}
 use Rattle.model.specs.Column.{Column, Arguments, rowsOf}
 use Rattle.model.specs.View.{View, ViewRoom, importOutcome, exportOutcome}
+use Rattle.model.specs.Hash.{Hashed, hashedOutcome}
 use Rattle.model.specs.Form.{Room, ValueRoom, RepeatRoom}
 use Rattle.model.specs.Rows.{ListCall}
 use Rattle.model.specs.Outcome.{listOutcome, anyValueOutcome, elementOutcome, repeatOutcome}
-use Rattle.model.specs.Call.{Call, list, anyValue, element, listRepeat, recipe, measureList, measureAnyValue, measureElement, measureRepeat, limitRecipe, window, importView, exportView, End, refusal, counts, operationEnd, measureEnd, gradeColumn, gradeRecipe, gradesEnd}
-use Rattle.model.specs.Contract.{ListMeets, ViewMeets, ValueMeets, RepeatMeets, Zeroed, toldLengths, toldValueLengths, toldRepeatLengths, toldLimits, ListMeasures, ValueMeasures, RepeatMeasures, RecipeLimited, GradeMeets, Grades}
+use Rattle.model.specs.Call.{Call, list, anyValue, element, listRepeat, recipe, measureList, measureAnyValue, measureElement, measureRepeat, limitRecipe, window, importView, exportView, End, refusal, counts, operationEnd, measureEnd, gradeColumn, gradeRecipe, gradesEnd, hashed}
+use Rattle.model.specs.Contract.{ListMeets, ViewMeets, ValueMeets, RepeatMeets, Zeroed, toldLengths, toldValueLengths, toldRepeatLengths, toldLimits, ListMeasures, ValueMeasures, RepeatMeasures, RecipeLimited, GradeMeets, Grades, HashMeets}
 use Rattle.model.specs.Lengths.{listLengths, anyValueLengths, elementLengths, repeatLengths, recipeLimits}
 use Rattle.model.specs.Recipe.{Recipe, recipeOutcome, stationed}
 use Rattle.model.specs.Window.{windowOutcome}
@@ -67,6 +68,7 @@ recipeRunEnd a o r v e ao ar av ae bo br bv be t =
       tray-bitmaps = ar ∷ ae ∷ br ∷ be ∷ [];
       tally = t;
       grades = [];
+      area = absent;
     }
 
 -- a graded column's: as many grades as its answer counts rows
@@ -90,7 +92,14 @@ gradedRunEnd a o r v e ao ar av ae bo br bv be t g =
       tray-bitmaps = y .tray-bitmaps;
       tally = y .tally;
       grades = gradesTaken a g;
+      area = absent;
     }
+
+-- the list answer and output of an operation with a work area, and that area, all its slots
+unfoldable pub hashedRunEnd : ListAnswer → List ℤ → List ℕ → List ℤ → List ℕ → List ℕ → End
+hashedRunEnd a o r v e w =
+    let l = listRunEnd a o r v e in
+    record { answer = l .answer; numbers = l .numbers; bitmaps = l .bitmaps; tray-numbers = []; tray-bitmaps = []; tally = absent; grades = []; area = given w }
 
 -- a run of a call that ended so: the contract of its function holds of it
 pub data Run (L : Limits) : Call Column Arguments View → End → Type 0 where
@@ -124,3 +133,5 @@ pub data Run (L : Limits) : Call Column Arguments View → End → Type 0 where
       → ListMeets (graded k (rowsOf c) j (stationed s (recipeOutcome L p c d x l m n))) a o o′ r r′ v v′ e e′ → Zeroed l ao ar av ae → Zeroed m bo br bv be
       → t′ ≡ moved (gradedMove k (rowsOf c) j (moveOf s (stationed s (recipeOutcome L p c d x l m n)))) t → Grades k (graded k (rowsOf c) j (stationed s (recipeOutcome L p c d x l m n))) g g′
       → Run L (gradeRecipe k s p c d x l m n j t) (gradedRunEnd a o′ r′ v′ e′ ao ar av ae bo br bv be t′ g′)
+  hashedRun : {h : Hashed Column} {n : ℕ} {l : Room} {a : ListAnswer} {o o′ : List ℤ} {r r′ : List ℕ} {v v′ : List ℤ} {e e′ w : List ℕ}
+      → HashMeets (hashedOutcome L h n l) n a o o′ r r′ v v′ e e′ w → Run L (hashed h n l) (hashedRunEnd a o′ r′ v′ e′ w)

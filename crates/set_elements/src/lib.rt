@@ -15,7 +15,7 @@ pub fn same_value(a: i64, b: i64) -> bool
 }
 
 // Whether element i of one column and element j of another are the same: two nulls, or one value.
-fn same_elem(
+pub fn same_elem(
     values: &[i64],
     elements: &[u8],
     estart: usize,

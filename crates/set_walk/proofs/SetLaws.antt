@@ -10,7 +10,7 @@ use lib.Dec.{ltb}
 use lib.ListN.{length}
 use Rattle.model.specs.Basics.{tab, pick}
 use Rattle.model.specs.Bitmap.{Bits, validAt}
-use Rattle.model.specs.Column.{Elem, Row, nullRow, listRow, Column, rowsOf, elemAt, offsetAt, rowCount}
+use Rattle.model.specs.Column.{Elem, Row, nullRow, listRow, Column, rowAt, rowsOf, elemAt, offsetAt, rowCount}
 use Rattle.model.specs.Elements.{setElems}
 use Rattle.model.specs.Form.{Room, isRow, elemsOf, flat}
 use Rattle.model.specs.Lengths.{roomFor, listLengths}
@@ -49,21 +49,22 @@ unfolding isRow
 isRow-if true es = refl
 isRow-if false es = refl
 
-made-le : (op : SetOp) (E F : ℕ → Elem) (a b c d : ℕ) → a ≤ b → c ≤ d → length (setElems op (tab E a (b - a)) (tab F c (d - c))) ≤ boundOf op b d - boundOf op a c
+pub made-le : (op : SetOp) (E F : ℕ → Elem) (a b c d : ℕ) → a ≤ b → c ≤ d → length (setElems op (tab E a (b - a)) (tab F c (d - c))) ≤ boundOf op b d - boundOf op a c
 unfolding boundOf
 made-le Union E F a b c d h k = omega (arith, set-le Union (tab E a (b - a)) (tab F c (d - c)), length-tab E a (b - a), length-tab F c (d - c))
 made-le Intersect E F a b c d h k = omega (arith, intersect-le-left (tab E a (b - a)) (tab F c (d - c)), length-tab E a (b - a))
 
-module _ (op : SetOp) (lb rb : Bits) (E F : ℕ → Elem) (r a b c d : ℕ) where
+-- whatever f makes of the elements of both
+module _ (f : List Elem → List Elem → List Elem) (lb rb : Bits) (E F : ℕ → Elem) (r a b c d : ℕ) where
   abbrev pairFrom : Row
-  pairFrom = onRows (setElems op) (rowFrom lb E r a b) (rowFrom rb F r c d)
+  pairFrom = onRows f (rowFrom lb E r a b) (rowFrom rb F r c d)
 
   abbrev made : List Elem
-  made = setElems op (tab E a (b - a)) (tab F c (d - c))
+  made = f (tab E a (b - a)) (tab F c (d - c))
 
   pair-from : pairFrom ≡ pick (validAt lb r && validAt rb r) (listRow made) nullRow
   unfolding rowFrom
-  pair-from = pair-if (setElems op) (validAt lb r) (validAt rb r) (tab E a (b - a)) (tab F c (d - c))
+  pair-from = pair-if f (validAt lb r) (validAt rb r) (tab E a (b - a)) (tab F c (d - c))
 
   module _ (v : Bool) (e : v ≡ (validAt lb r && validAt rb r)) where
     pub elems-pair : elemsOf pairFrom ≡ pick v made []
@@ -76,8 +77,8 @@ module _ (op : SetOp) (lb rb : Bits) (E F : ℕ → Elem) (r a b c d : ℕ) wher
   none-or true = omega arith
   none-or false = omega arith
 
-  pub pair-le : a ≤ b → c ≤ d → length (elemsOf pairFrom) ≤ boundOf op b d - boundOf op a c
-  pair-le h k = rw (elems-pair (validAt lb r && validAt rb r) refl) (omega (arith, none-or (validAt lb r && validAt rb r), made-le op E F a b c d h k))
+  pub pair-le : (k : ℕ) → length made ≤ k → length (elemsOf pairFrom) ≤ k
+  pair-le k h = rw (elems-pair (validAt lb r && validAt rb r) refl) (omega (arith, none-or (validAt lb r && validAt rb r)))
 
 -- a bound grows with its parts, and an index can hold it
 pub bound-grows : (op : SetOp) {a b c d : ℕ} → a ≤ b → c ≤ d → boundOf op a c ≤ boundOf op b d
@@ -94,9 +95,9 @@ bound-small Union h = omega arith
 bound-small Intersect h = omega arith
 
 -- rows between the offsets are the columns' rows
-pub same-pair : (op : SetOp) (c d : Column) (r p q u v : ℕ) → p ≡ offsetAt (c .offsets) r → q ≡ offsetAt (c .offsets) (r + 1) → u ≡ offsetAt (d .offsets) r → v ≡ offsetAt (d .offsets) (r + 1)
-    → onRows (setElems op) (rowFrom (c .rows) (elemAt (c .values) (c .elements)) r p q) (rowFrom (d .rows) (elemAt (d .values) (d .elements)) r u v) ≡ pairAt op c d r
-same-pair op c d r p q u v hp hq hu hv = rw (row-from c r p q hp hq, row-from d r u v hu hv)
+pub same-pair : (f : List Elem → List Elem → List Elem) (c d : Column) (r p q u v : ℕ) → p ≡ offsetAt (c .offsets) r → q ≡ offsetAt (c .offsets) (r + 1) → u ≡ offsetAt (d .offsets) r → v ≡ offsetAt (d .offsets) (r + 1)
+    → onRows f (rowFrom (c .rows) (elemAt (c .values) (c .elements)) r p q) (rowFrom (d .rows) (elemAt (d .values) (d .elements)) r u v) ≡ onRows f (rowAt c r) (rowAt d r)
+same-pair f c d r p q u v hp hq hu hv = rw (row-from c r p q hp hq, row-from d r u v hu hv)
 
 -- ---- the call
 

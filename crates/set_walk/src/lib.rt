@@ -194,7 +194,7 @@ pub fn after_three<'a>(
 
 // Refusals 13, 1, 2 and 3 of an operation on two lists; 0 where none applies, and both can be read.
 #[rattlefmt::skip]
-fn early(
+pub fn early(
     loffsets: &[i32], lrows: &[u8], l_rstart: usize, lvalues: &[i64], lelements: &[u8], l_estart: usize,
     roffsets: &[i32], rrows: &[u8], r_rstart: usize, rvalues: &[i64], relements: &[u8], r_estart: usize,
     width: Width, llarge: &[i64], rlarge: &[i64],

@@ -3,13 +3,14 @@ use mathlib.Core.Path.{_≡_, refl, ap, _∙_}
 use mathlib.Core.Bool.{Bool, true, false}
 use mathlib.Core.List.{List, [], _∷_}
 use Prim.Native.Nat.{ℕ}
+use lib.ListN.{replicate}
 use lib.IntN.{ℤ}
 use Rattle.model.specs.Basics.{pick, Lent, absent, given}
 use Rattle.model.specs.Column.{Elem, Row}
 use Rattle.model.specs.Form.{Outer, over}
 use Rattle.model.specs.Outcome.{Outcome, refused, gate}
 use Rattle.model.specs.Call.{listCounts, valueCounts, repeatCounts, rowCounts, written}
-use Rattle.model.specs.Contract.{told, toldValue, toldRepeat, toldGrade, ListMeets, ValueMeets, RepeatMeets, ViewMeets, GradeMeets}
+use Rattle.model.specs.Contract.{told, toldValue, toldRepeat, toldGrade, ListMeets, ValueMeets, RepeatMeets, ViewMeets, GradeMeets, HashMeets}
 use Rattle.model.specs.declared.GradeAnswer.{GradeAnswer}
 use Rattle.model.specs.declared.GradeAnswer.the-variants as G
 use Rattle.model.specs.declared.ListAnswer.{ListAnswer}
@@ -21,7 +22,7 @@ use Rattle.model.specs.declared.RepeatAnswer.the-variants as R
 use Rattle.entry.specs.Entry.{numberOf}
 use Rattle.entry.specs.Inner.{numberIn, countsIn}
 use Rattle.entry.proofs.AnswerLaws.{number-of, counts-of}
-use Rattle.typed.specs.Typed.{served, Told, TypedList, TypedValues, TypedRepeat, TypedView, TypedGrades}
+use Rattle.typed.specs.Typed.{served, Told, TypedList, TypedValues, TypedRepeat, TypedView, TypedGrades, TypedHash}
 
 -- ---- an answer is told
 
@@ -89,6 +90,14 @@ list-told {x = x} {c = c} h m t =
       elements = m .elements;
       counts = t .counts ∙ ap (λ w. over w c) (ap countsIn (m .answer) ∙ counts-of listCounts x);
     })
+
+-- ---- the same with a work area: it is zero in both cases
+
+pub hash-unserved : {x : Outcome (List Row)} {n : ℕ} {o v : List ℤ} {r e c w : List ℕ} → x ≡ refused 100 → w ≡ replicate n 0 → TypedHash x 100 n o o r r v v e e w c c
+hash-unserved h z = record { list = list-unserved h; area = z }
+
+pub hash-told : {n slots : ℕ} {x y : Outcome (List Row)} {a : ListAnswer} {o o′ v v′ : List ℤ} {r r′ e e′ c c′ w : List ℕ} → y ≡ x → HashMeets x slots a o o′ r r′ v v′ e e′ w → Told (told a) n c c′ → TypedHash y n slots o o′ r r′ v v′ e e′ w c c′
+hash-told h m t = record { list = list-told h (m .list) t; area = m .area }
 
 -- ---- a view's answer
 

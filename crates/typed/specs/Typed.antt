@@ -3,7 +3,7 @@ use Prim.Native.Nat.{ℕ}
 use mathlib.Core.Bool.{Bool}
 use mathlib.Core.Path.{_≡_}
 use mathlib.Core.List.{List, map}
-use lib.ListN.{length}
+use lib.ListN.{length, replicate}
 use lib.Dec.{ltb}
 use lib.IntN.{ℤ}
 use denote.Ref.{now}
@@ -46,6 +46,11 @@ pub record TypedList (x : Outcome (List Row)) (n : ℕ) (o o′ : List ℤ) (r r
   pub elements : e′ ≡ after (λ ws. formElements (flat ws)) x e
   pub counts : c′ ≡ after listCounts x c
 
+-- of a list answer with a work area, which had so many slots: they are 0, whatever is returned
+pub record TypedHash (x : Outcome (List Row)) (n slots : ℕ) (o o′ : List ℤ) (r r′ : List ℕ) (v v′ : List ℤ) (e e′ w c c′ : List ℕ) : Type 0 where
+  pub list : TypedList x n o o′ r r′ v v′ e e′ c c′
+  pub area : w ≡ replicate slots 0
+
 -- of a value answer
 pub record TypedValues (x : Outcome (List Elem)) (n : ℕ) (v v′ : List ℤ) (r r′ c c′ : List ℕ) : Type 0 where
   pub number : n ≡ numberOf x
@@ -86,6 +91,12 @@ abbrev pub ListServed : Lent (Room → Outcome (List Row)) → ℕ → Slice ℤ
 ListServed f n o r v e c =
     TypedList (served f (short 4 c) (roomOf o r v e)) n
     (now (o .entry)) (now (o .exit)) (now (r .entry)) (now (r .exit)) (now (v .entry)) (now (v .exit)) (now (e .entry)) (now (e .exit)) (now (c .entry)) (now (c .exit))
+
+-- the operation takes the slots of the work area too
+abbrev pub HashServed : (ℕ → Lent (Room → Outcome (List Row))) → ℕ → Slice ℤ → Slice ℕ → Slice ℤ → Slice ℕ → Slice ℕ → Slice ℕ → Type 0
+HashServed f n o r v e w c =
+    TypedHash (served (f (length (now (w .entry)))) (short 4 c) (roomOf o r v e)) n (length (now (w .entry)))
+    (now (o .entry)) (now (o .exit)) (now (r .entry)) (now (r .exit)) (now (v .entry)) (now (v .exit)) (now (e .entry)) (now (e .exit)) (now (w .exit)) (now (c .entry)) (now (c .exit))
 
 abbrev pub ValueServed : (ValueRoom → Outcome (List Elem)) → ℕ → Slice ℤ → Slice ℕ → Slice ℕ → Type 0
 ValueServed f n v r c =

@@ -95,7 +95,7 @@ fn from_i32(z: i32) -> u32
     }
 }
 
-fn from_i64(z: i64) -> u64
+pub fn from_i64(z: i64) -> u64
     ensures { λ r. ⌜ r ≡ ofZ w64 z ⌝ }
 {
     if z < 0 {

@@ -2,6 +2,7 @@ use borrow.Author.Tests.{not-true, not-false}
 use native.Mathlib.Omega.{arith}
 use Rattle.model.specs.Bitmap.{from}
 use Rattle.model.specs.Column.{elemAt}
+use Rattle.model.specs.Elements.{setElems}
 use Rattle.set_walk.proofs.SetLaws.{elems-pair}
 use Rattle.set_walk.proofs.measure_pair.Statement.{statement}
 use Rattle.set_walk.proofs.measure_pair.Tie as tie
@@ -12,7 +13,7 @@ are-valid-requires c κs = search
 returns : tie.Need-returns
 returns c =
     let a = c .before .before .before .before .before .before .args in
-    rw (elems-pair (a .op) (from (a .l-rstart) (a .lrows .now)) (from (a .r-rstart) (a .rrows .now)) (elemAt (a .lvalues .now) (from (a .l-estart) (a .lelements .now))) (elemAt (a .rvalues .now) (from (a .r-estart) (a .relements .now))) (a .r) (a .a) (a .b) (a .c) (a .d) (c .before .are-valid .result) (c .before .are-valid .ensures), not-true (c .before .are-valid .result) (c .if1 .taken))
+    rw (elems-pair (setElems (a .op)) (from (a .l-rstart) (a .lrows .now)) (from (a .r-rstart) (a .rrows .now)) (elemAt (a .lvalues .now) (from (a .l-estart) (a .lelements .now))) (elemAt (a .rvalues .now) (from (a .r-estart) (a .relements .now))) (a .r) (a .a) (a .b) (a .c) (a .d) (c .before .are-valid .result) (c .before .are-valid .ensures), not-true (c .before .are-valid .result) (c .if1 .taken))
 
 sub-measure-set : tie.Need-sub-measure-set
 sub-measure-set c = search
@@ -28,7 +29,7 @@ measure-set-requires c κs =
 returns-2 : tie.Need-returns-2
 returns-2 c =
     let a = c .before .before .before .before .before .before .before .args in
-    rw (elems-pair (a .op) (from (a .l-rstart) (a .lrows .now)) (from (a .r-rstart) (a .rrows .now)) (elemAt (a .lvalues .now) (from (a .l-estart) (a .lelements .now))) (elemAt (a .rvalues .now) (from (a .r-estart) (a .relements .now))) (a .r) (a .a) (a .b) (a .c) (a .d) (c .before .before .are-valid .result) (c .before .before .are-valid .ensures), not-false (c .before .before .are-valid .result) (c .before .if1 .left)) (c .measure-set .ensures)
+    rw (elems-pair (setElems (a .op)) (from (a .l-rstart) (a .lrows .now)) (from (a .r-rstart) (a .rrows .now)) (elemAt (a .lvalues .now) (from (a .l-estart) (a .lelements .now))) (elemAt (a .rvalues .now) (from (a .r-estart) (a .relements .now))) (a .r) (a .a) (a .b) (a .c) (a .d) (c .before .before .are-valid .result) (c .before .before .are-valid .ensures), not-false (c .before .before .are-valid .result) (c .before .if1 .left)) (c .measure-set .ensures)
 
 pub measure-pair-spec : {M : Type 1} → statement M
 measure-pair-spec =

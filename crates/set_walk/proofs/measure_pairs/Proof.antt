@@ -4,13 +4,14 @@ use native.Mathlib.Omega.{arith}
 use lib.ListN.{length}
 use Rattle.model.specs.Bitmap.{from}
 use Rattle.model.specs.Column.{Row, Column, column, elemAt, offsetAt}
+use Rattle.model.specs.Elements.{setElems}
 use Rattle.model.specs.Form.{elemsOf}
 use Rattle.model.specs.Widths.{limitsAt, used}
 use Rattle.model.proofs.WidthLaws.{limits-fit}
 use Rattle.column.specs.Rows.{ReadableRowˡ}
 use Rattle.column.proofs.WalkLaws.{Summing, between, sum-begun, sum-more, sum-done}
 use Rattle.set_walk.specs.Pairs.{boundOf, pairAt, pairRows}
-use Rattle.set_walk.proofs.SetLaws.{bound-grows, bound-same, bound-small, pair-le, same-pair}
+use Rattle.set_walk.proofs.SetLaws.{bound-grows, bound-same, bound-small, made-le, pair-le, same-pair}
 use Rattle.set_walk.proofs.measure_pairs.Statement.{statement}
 use Rattle.set_walk.proofs.measure_pairs.Tie as tie
 
@@ -86,8 +87,8 @@ more m =
     let d = q .offset-at4 in
     let e = m .measure-pair .ensures in
     sum-more (pairAt o (C (S l)) (D (S l))) (l .before .row-count .result) (boundOf o (limitsAt (S l .args .width) .offset) (limitsAt (S l .args .width) .offset)) (m .measure-pair .result) (boundOf o (a .result) (c .result)) (boundOf o (b .result) (d .result)) (l .loop .inv) (q .before .before .before .before .loop-test .taken)
-    (e ∙ ap (λ (x : Row). length (elemsOf x)) (same-pair o (C (S l)) (D (S l)) (l .loop .r) (a .result) (b .result) (c .result) (d .result) (a .ensures .0) (b .ensures .0) (c .ensures .0) (d .ensures .0)))
-    (rw e (pair-le o (C (S l) .rows) (D (S l) .rows) (elemAt (C (S l) .values) (C (S l) .elements)) (elemAt (D (S l) .values) (D (S l) .elements)) (l .loop .r) (a .result) (b .result) (c .result) (d .result) (lefts q .rises) (rights q .rises)))
+    (e ∙ ap (λ (x : Row). length (elemsOf x)) (same-pair (setElems o) (C (S l)) (D (S l)) (l .loop .r) (a .result) (b .result) (c .result) (d .result) (a .ensures .0) (b .ensures .0) (c .ensures .0) (d .ensures .0)))
+    (rw e (pair-le (setElems o) (C (S l) .rows) (D (S l) .rows) (elemAt (C (S l) .values) (C (S l) .elements)) (elemAt (D (S l) .values) (D (S l) .elements)) (l .loop .r) (a .result) (b .result) (c .result) (d .result) _ (made-le o (elemAt (C (S l) .values) (C (S l) .elements)) (elemAt (D (S l) .values) (D (S l) .elements)) (a .result) (b .result) (c .result) (d .result) (lefts q .rises) (rights q .rises))))
     (bound-grows o (lefts q .rises) (rights q .rises)) (bound-same o (a .ensures .0) (c .ensures .0)) (bound-grows o (b .ensures .1) (d .ensures .1))
 
 add-found : tie.Need-add-found Inv-loop μ-loop

@@ -3,6 +3,7 @@ use borrow.Author.Tests.{not-true, not-false}
 use native.Mathlib.Omega.{arith}
 use Rattle.model.specs.Bitmap.{from}
 use Rattle.model.specs.Column.{elemAt}
+use Rattle.model.specs.Elements.{setElems}
 use Rattle.set_walk.proofs.SetLaws.{elems-pair, isRow-pair}
 use Rattle.set_walk.proofs.put_pair.Statement.{statement}
 use Rattle.set_walk.proofs.put_pair.Tie as tie
@@ -20,10 +21,10 @@ returns : tie.Need-returns
 unfolding pushBits
 returns c =
     let a = c .before .before .before .before .before .before .before .before .before .before .before .before .args in
-    let e = elems-pair (a .op) (from (a .l-rstart) (a .lrows .now)) (from (a .r-rstart) (a .rrows .now)) (elemAt (a .lvalues .now) (from (a .l-estart) (a .lelements .now))) (elemAt (a .rvalues .now) (from (a .r-estart) (a .relements .now))) (a .r) (a .a) (a .b) (a .c) (a .d) (c .before .before .before .before .before .are-valid .result) (c .before .before .before .before .before .are-valid .ensures) in
+    let e = elems-pair (setElems (a .op)) (from (a .l-rstart) (a .lrows .now)) (from (a .r-rstart) (a .rrows .now)) (elemAt (a .lvalues .now) (from (a .l-estart) (a .lelements .now))) (elemAt (a .rvalues .now) (from (a .r-estart) (a .relements .now))) (a .r) (a .a) (a .b) (a .c) (a .d) (c .before .before .before .before .before .are-valid .result) (c .before .before .before .before .before .are-valid .ensures) in
     let f = not-true (c .before .before .before .before .before .are-valid .result) (c .before .before .before .before .if1 .taken) in
     record {
-      rows = rw (isRow-pair (a .op) (from (a .l-rstart) (a .lrows .now)) (from (a .r-rstart) (a .rrows .now)) (elemAt (a .lvalues .now) (from (a .l-estart) (a .lelements .now))) (elemAt (a .rvalues .now) (from (a .r-estart) (a .relements .now))) (a .r) (a .a) (a .b) (a .c) (a .d) (c .before .before .before .before .before .are-valid .result) (c .before .before .before .before .before .are-valid .ensures), f) (c .before .before .push-bit .ensures);
+      rows = rw (isRow-pair (setElems (a .op)) (from (a .l-rstart) (a .lrows .now)) (from (a .r-rstart) (a .rrows .now)) (elemAt (a .lvalues .now) (from (a .l-estart) (a .lelements .now))) (elemAt (a .rvalues .now) (from (a .r-estart) (a .relements .now))) (a .r) (a .a) (a .b) (a .c) (a .d) (c .before .before .before .before .before .are-valid .result) (c .before .before .before .before .before .are-valid .ensures), f) (c .before .before .push-bit .ensures);
       values = rw (e, f);
       elements = rw (e, f);
       place = rw (e, f) (omega arith);
@@ -39,7 +40,7 @@ write-set-requires : tie.Need-write-set-requires
 write-set-requires c κs =
     let s = c .before .before .before .before .before .before .before .before .before .before in
     let a = s .args in
-    let e = elems-pair (a .op) (from (a .l-rstart) (a .lrows .now)) (from (a .r-rstart) (a .rrows .now)) (elemAt (a .lvalues .now) (from (a .l-estart) (a .lelements .now))) (elemAt (a .rvalues .now) (from (a .r-estart) (a .relements .now))) (a .r) (a .a) (a .b) (a .c) (a .d) (c .before .before .before .are-valid .result) (c .before .before .before .are-valid .ensures) in
+    let e = elems-pair (setElems (a .op)) (from (a .l-rstart) (a .lrows .now)) (from (a .r-rstart) (a .rrows .now)) (elemAt (a .lvalues .now) (from (a .l-estart) (a .lelements .now))) (elemAt (a .rvalues .now) (from (a .r-estart) (a .relements .now))) (a .r) (a .a) (a .b) (a .c) (a .d) (c .before .before .before .are-valid .result) (c .before .before .before .are-valid .ensures) in
     let f = not-false (c .before .before .before .are-valid .result) (c .before .before .if1 .left) in
     (record { inside = omega (arith, s .pre .0 .rises, s .pre .0 .inside); bits = s .pre .0 .elements }, (record { inside = omega (arith, s .pre .1 .0 .rises, s .pre .1 .0 .inside); bits = s .pre .1 .0 .elements }, record { values = rw (e, f) at (s .pre .1 .1 .values); elements = rw (e, f) at (s .pre .1 .1 .elements) }))
 
@@ -58,11 +59,11 @@ same-length-4 c = search
 returns-2 : tie.Need-returns-2
 returns-2 c =
     let a = c .before .before .before .before .before .before .before .before .before .before .before .before .before .before .before .before .before .before .args in
-    let e = elems-pair (a .op) (from (a .l-rstart) (a .lrows .now)) (from (a .r-rstart) (a .rrows .now)) (elemAt (a .lvalues .now) (from (a .l-estart) (a .lelements .now))) (elemAt (a .rvalues .now) (from (a .r-estart) (a .relements .now))) (a .r) (a .a) (a .b) (a .c) (a .d) (c .before .before .before .before .before .before .before .before .before .before .before .are-valid .result) (c .before .before .before .before .before .before .before .before .before .before .before .are-valid .ensures) in
+    let e = elems-pair (setElems (a .op)) (from (a .l-rstart) (a .lrows .now)) (from (a .r-rstart) (a .rrows .now)) (elemAt (a .lvalues .now) (from (a .l-estart) (a .lelements .now))) (elemAt (a .rvalues .now) (from (a .r-estart) (a .relements .now))) (a .r) (a .a) (a .b) (a .c) (a .d) (c .before .before .before .before .before .before .before .before .before .before .before .are-valid .result) (c .before .before .before .before .before .before .before .before .before .before .before .are-valid .ensures) in
     let f = not-false (c .before .before .before .before .before .before .before .before .before .before .before .are-valid .result) (c .before .before .before .before .before .before .before .before .before .before .if1 .left) in
     let w = c .before .before .before .before .before .before .before .write-set .ensures in
     record {
-      rows = rw (isRow-pair (a .op) (from (a .l-rstart) (a .lrows .now)) (from (a .r-rstart) (a .rrows .now)) (elemAt (a .lvalues .now) (from (a .l-estart) (a .lelements .now))) (elemAt (a .rvalues .now) (from (a .r-estart) (a .relements .now))) (a .r) (a .a) (a .b) (a .c) (a .d) (c .before .before .before .before .before .before .before .before .before .before .before .are-valid .result) (c .before .before .before .before .before .before .before .before .before .before .before .are-valid .ensures), f) (c .before .before .push-bit2 .ensures);
+      rows = rw (isRow-pair (setElems (a .op)) (from (a .l-rstart) (a .lrows .now)) (from (a .r-rstart) (a .rrows .now)) (elemAt (a .lvalues .now) (from (a .l-estart) (a .lelements .now))) (elemAt (a .rvalues .now) (from (a .r-estart) (a .relements .now))) (a .r) (a .a) (a .b) (a .c) (a .d) (c .before .before .before .before .before .before .before .before .before .before .before .are-valid .result) (c .before .before .before .before .before .before .before .before .before .before .before .are-valid .ensures), f) (c .before .before .push-bit2 .ensures);
       values = rw (e, f) (w .values);
       elements = rw (e, f) (w .elements);
       place = rw (e, f) (w .next);

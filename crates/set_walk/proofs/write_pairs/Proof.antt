@@ -99,7 +99,7 @@ abbrev made : (q : tie.After-offset-at4 Inv-loop μ-loop) → Row
 made q = let l = L q in onRows (setElems (S l .args .op)) (rowFrom (C (S l) .rows) (elemAt (C (S l) .values) (C (S l) .elements)) (l .loop .r) (q .before .before .before .offset-at .result) (q .before .before .offset-at2 .result)) (rowFrom (D (S l) .rows) (elemAt (D (S l) .values) (D (S l) .elements)) (l .loop .r) (q .before .offset-at3 .result) (q .offset-at4 .result))
 
 same-row : (q : tie.After-offset-at4 Inv-loop μ-loop) → made q ≡ W (L q) (L q .loop .r)
-same-row q = let l = L q in same-pair (S l .args .op) (C (S l)) (D (S l)) (l .loop .r) (q .before .before .before .offset-at .result) (q .before .before .offset-at2 .result) (q .before .offset-at3 .result) (q .offset-at4 .result) (q .before .before .before .offset-at .ensures .0) (q .before .before .offset-at2 .ensures .0) (q .before .offset-at3 .ensures .0) (q .offset-at4 .ensures .0)
+same-row q = let l = L q in same-pair (setElems (S l .args .op)) (C (S l)) (D (S l)) (l .loop .r) (q .before .before .before .offset-at .result) (q .before .before .offset-at2 .result) (q .before .offset-at3 .result) (q .offset-at4 .result) (q .before .before .before .offset-at .ensures .0) (q .before .before .offset-at2 .ensures .0) (q .before .offset-at3 .ensures .0) (q .offset-at4 .ensures .0)
 
 row-count-requires : tie.Need-row-count-requires Inv-loop μ-loop
 row-count-requires c κs = search

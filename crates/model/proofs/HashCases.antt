@@ -5,8 +5,9 @@ use mathlib.Core.Bool.{true}
 use mathlib.Core.List.{List, [], _∷_, map}
 use Rattle.model.specs.Basics.{tab, any}
 use Rattle.model.specs.Limits.{Limits, narrow}
-use Rattle.model.specs.Bitmap.{validAt, shortBits}
-use Rattle.model.specs.Column.{Column, count, elemAt, rowAt, rowsOf, falls, badOffsets, refusal13, refusal2}
+use lib.IntN.{pos}
+use Rattle.model.specs.Bitmap.{from, validAt, shortBits}
+use Rattle.model.specs.Column.{Column, column, count, elemAt, rowAt, rowsOf, falls, badOffsets, refusal13, refusal2}
 use Rattle.model.specs.Form.{Room, elemsOf, flat}
 use Rattle.model.specs.Elements.{eqZ, sameElem, isIn, firsts, unaryElems, common, setElems}
 use Rattle.model.specs.Rows.{onRow, onRows, madeOf, atRow, rowsIn, rowByRow, rowMade, rowsMade}
@@ -59,6 +60,7 @@ table =
     ∷ gives (setOf Union longer (row 1 (3 ∷ []) [])) 0 3
     ∷ gives (distinctOf (lists (0 ∷ 1 ∷ []) [] (1 ∷ 1 ∷ 1 ∷ 1 ∷ 1 ∷ 1 ∷ 1 ∷ 1 ∷ 1 ∷ []) (255 ∷ []))) 0 2
     ∷ gives (distinctOf (lists (1 ∷ 0 ∷ []) [] (1 ∷ []) [])) 0 1
+    ∷ gives (distinctOf (column (pos 0 ∷ pos 1 ∷ []) (from 9 []) (pos 1 ∷ []) (from 0 []))) 0 13
     ∷ []
 
 -- the number of a refusal, or 0

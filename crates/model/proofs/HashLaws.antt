@@ -1,5 +1,5 @@
 -- Note 9 of document 02. `as-plain` and `ends-as-plain`: "Except for 14, their answers and outputs equal the plain ones on every input".
--- `plain-or-fourteen`: there is nothing else. `fourteen-first`: 14 comes "after 3 and before 8". `zero-after`: the work area "is zero after
+-- `plain-or-fourteen`: there is nothing else. `earlier-as-plain`, `three-as-plain` and `fourteen-first`: 14 comes "after 3 and before 8". `zero-after`: the work area "is zero after
 -- every call". `enough`: how many slots rule 14 out.
 use Prim.Native.Nat.{ℕ, _+_, _≤_}
 use mathlib.Core.Path.{_≡_, refl, sym, _∙_}
@@ -53,12 +53,12 @@ module _ (L : Limits) (n : ℕ) (l : Room) where
   fourteen-first h c u e = rw (c, u, e)
 
   -- 13, 1, 2 and 3 come as the plain operation gives them
-  earlier-as-plain : (h : Hashed Column) → (columnsRefusal (listsHashed h) [] ≡ 0 → ⊥) → hashedOutcome L h n l ≡ listOutcome L (plainOf h) l
+  pub earlier-as-plain : (h : Hashed Column) → (columnsRefusal (listsHashed h) [] ≡ 0 → ⊥) → hashedOutcome L h n l ≡ listOutcome L (plainOf h) l
   unfolding hashedOutcome listOutcome plainOf listsHashed listsIn argumentsIn
   earlier-as-plain (distinctOf c) e = gate-shut _ _ e ∙ sym (gate-shut _ _ e)
   earlier-as-plain (setOf k c d) e = gate-shut _ _ e ∙ sym (gate-shut _ _ e)
 
-  three-as-plain : (h : Hashed Column) → unequal (plainOf (onHashed rowsOf h)) ≡ true → hashedOutcome L h n l ≡ listOutcome L (plainOf h) l
+  pub three-as-plain : (h : Hashed Column) → unequal (plainOf (onHashed rowsOf h)) ≡ true → hashedOutcome L h n l ≡ listOutcome L (plainOf h) l
   unfolding hashedOutcome hashedShown listOutcome listShown plainOf onHashed onCall listsHashed listsIn argumentsIn gate unequal
   three-as-plain (distinctOf c) e = never-true (sym e)
   three-as-plain (setOf k c d) e = rw e

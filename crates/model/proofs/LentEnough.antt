@@ -413,7 +413,7 @@ stepped-late L [] ws rs col a b o k h = go (holds (roomOfRows ws) o) h
 stepped-late L (s ∷ ss) ws rs col a b o k h = steps-late L s ss ws rs col a b o k h
 
 -- the limits and the run refuse alike before the first step
-refused-alike : {A B : Type 0} (k j : ℕ) (x : Outcome A) (y : Outcome B) → (x ≡ refused j → y ≡ refused j) → gate k x ≡ refused j → gate k y ≡ refused j
+pub refused-alike : {A B : Type 0} (k j : ℕ) (x : Outcome A) (y : Outcome B) → (x ≡ refused j → y ≡ refused j) → gate k x ≡ refused j → gate k y ≡ refused j
 unfolding gate
 refused-alike k j x y f h = go (eqb k 0) h
   where

@@ -87,6 +87,15 @@ Apart k (finishedAt s) = k ≡ s → ⊥
 Apart k (refusedAt s) = k ≡ s → ⊥
 Apart k nobody = Unit
 
+pub apart-of : {A : Type 0} (s k : ℕ) (x : Outcome A) → (k ≡ s → ⊥) → Apart k (moveOf s x)
+unfolding moveOf named outcomeAt Apart
+apart-of s k x h = go (ltb 15 s) x
+  where
+    go : {A : Type 0} (b : Bool) (x : Outcome A) → Apart k (pick b nobody (outcomeAt s x))
+    go true x = tt
+    go false (made a) = h
+    go false (refused j) = h
+
 pub others-stay-long : (k : ℕ) (ms : List Move) (t : Tally) → All (Apart k) ms → (getD (movedAll ms t .finished) k 0 ≡ getD (t .finished) k 0) × (getD (movedAll ms t .refused) k 0 ≡ getD (t .refused) k 0)
 unfolding movedAll moved Apart
 others-stay-long k [] t none = (refl, refl)

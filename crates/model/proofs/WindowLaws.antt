@@ -1,4 +1,5 @@
--- Laws of a window: what is cut, that looking at all rows is the run itself (`window-whole`), and where 16 comes (`sixteen-last`).
+-- Laws of a window. `window-whole`: looking at all rows is the run itself. `window-copy` and `ends-as-copy`: "The answer and output are those of the
+-- same recipe on a copy that holds just these rows of both lists and all arguments." `before-sixteen` and `sixteen-last`: 16 comes "after 3".
 use Prim.Native.Nat.{ℕ, zero, suc, _+_, _-_, _*_, _<_, _≤_}
 use mathlib.Core.Path.{_≡_, refl, sym, ap, fun-ext, _∙_}
 use mathlib.Core.Bool.{Bool, true, false, not, _||_}
@@ -9,15 +10,20 @@ use borrow.Author.Tests.{eq-eqb, eqb-true, ltb-true, ltb-false, le-ltb, lt-ltb}
 use lib.Dec.{eqb, ltb}
 use lib.ListN.{length, getD, take, drop, length-append, length-drop, List·getD-append, List·getD-eq-default}
 use lib.Seq.{getD-take, getD-drop, getD-append-add, length-take-le, take-all, ext-getD}
-use Rattle.model.specs.Basics.{pick, tab}
+use Rattle.model.specs.Basics.{pick, tab, absent}
 use Rattle.model.specs.Limits.{Limits}
 use Rattle.model.specs.Column.{Elem, nul, Row, Column, Arguments, rowsOf, shownBy}
 use Rattle.model.specs.Form.{Room}
 use Rattle.model.specs.Outcome.{Outcome, refused, gate, columnsRefusal}
 use Rattle.model.specs.Recipe.{Recipe, columnOf, stepsOf, malformed, stepped, recipeUnequal, formedRecipe, recipeShown, recipeOutcome}
 use Rattle.model.specs.Window.{cut, joined, cutColumns, noWindow, formedWindow, windowShown, windowOutcome}
-use Rattle.model.proofs.BoolLaws.{or-none}
+use Rattle.model.proofs.BoolLaws.{or-none, never}
 use Rattle.model.proofs.OutcomeLaws.{gate-open, gate-shut}
+use Rattle.model.specs.Call.{End, recipe, window, traysEnd, recipeEnd, windowEnd, end}
+use Rattle.model.specs.Lengths.{formedLimits, recipeLimits}
+use Rattle.model.specs.Tally.{Tally}
+use Rattle.model.proofs.LentEnough.{refused-alike}
+use Rattle.model.proofs.Stations.{station-named}
 use Rattle.model.proofs.TabLaws.{length-tab, getD-tab, tab-ext}
 
 -- ---- a cut
@@ -161,3 +167,41 @@ pub window-whole : (L : Limits) (p : Recipe) (c d : Column) (e : Arguments) (l m
 unfolding windowOutcome recipeOutcome
 window-whole L p c d e l m o =
     gate-same _ _ _ (λ f. gate-same _ _ _ (λ g. formed-whole L p (rowsOf c) (rowsOf d) (shownBy e) l m o (or-zero (malformed p) 10 (λ z. omega arith) f)))
+
+-- ---- a copy, and 16
+
+module _ (L : Limits) (p : Recipe) (a b : ℕ) (c d : Column) (e : Arguments) (l m o : Room) where
+  -- 10, 13, 1, 2 and 3 come as the recipe's limits, and its run, give them, whichever rows are asked for
+  pub before-sixteen : (k : ℕ) → recipeLimits L p c d e ≡ refused k → windowOutcome L p a b c d e l m o ≡ refused k
+  unfolding recipeLimits formedLimits windowOutcome formedWindow
+  before-sixteen k h =
+      refused-alike (pick (malformed p) 10 0) k _ _
+      (refused-alike (columnsRefusal (c ∷ d ∷ []) (e ∷ [])) k _ _ (refused-alike (pick (recipeUnequal (p .columns) (rowsOf c) (rowsOf d) (shownBy e)) 3 0) k _ _ (λ q. never cc))) h
+
+  module _ (f : malformed p ≡ false) (g : columnsRefusal (c ∷ d ∷ []) (e ∷ []) ≡ 0) (u : recipeUnequal (p .columns) (rowsOf c) (rowsOf d) (shownBy e) ≡ false) where
+    -- and 16 where none of those comes
+    pub sixteen-last : noWindow a b (length (rowsOf c)) ≡ true → windowOutcome L p a b c d e l m o ≡ refused 16
+    unfolding windowOutcome formedWindow gate
+    sixteen-last w = rw (f, g, u, w)
+
+    -- c′, d′ and e′ are well-formed and show what the copy holds
+    module _ (w : noWindow a b (length (rowsOf c)) ≡ false) (c′ d′ : Column) (e′ : Arguments) (g′ : columnsRefusal (c′ ∷ d′ ∷ []) (e′ ∷ []) ≡ 0)
+        (rc : rowsOf c′ ≡ cut a b (rowsOf c)) (rd : rowsOf d′ ≡ cut a b (rowsOf d)) (re : shownBy e′ ≡ cutColumns (p .columns) (length (rowsOf c)) a b (shownBy e)) where
+      pub window-copy : windowOutcome L p a b c d e l m o ≡ recipeOutcome L p c′ d′ e′ l m o
+      unfolding windowOutcome formedWindow recipeOutcome recipeShown gate
+      window-copy = rw (f, g, u, w, g′, rc, rd, re)
+
+      -- of the calls: all but the tally, which the window takes none of
+      pub ends-as-copy : (s : ℕ) (t : Tally) → s ≤ 15
+          → let run : End = end L (recipe s p c′ d′ e′ l m o t) in end L (window p a b c d e l m o) ≡ record {
+            answer = run .answer;
+            numbers = run .numbers;
+            bitmaps = run .bitmaps;
+            tray-numbers = run .tray-numbers;
+            tray-bitmaps = run .tray-bitmaps;
+            tally = absent;
+            grades = run .grades;
+            area = run .area;
+          }
+      unfolding end windowEnd recipeEnd traysEnd
+      ends-as-copy s t h = rw (station-named s (recipeOutcome L p c′ d′ e′ l m o) h, window-copy)

@@ -17,6 +17,11 @@
 //!     harness --apart                lends each slice as an allocation of its own, for memcheck
 //!     harness groups | bench | example
 //!     harness bench NAME             the benchmark of one operation, as 'union' or 'union hashed'
+//!     harness bench large NAME       its tables of large columns alone, or of all without a name
+//!     harness bench plot FILE NAME   its plot, or that of all without a name; bench alone writes
+//!                                    docs/speed.svg too, where there is a folder docs
+//!     harness bench count NAME LENGTH NULLS CALLS
+//!                                    makes one call so often, for harness/instructions
 //!
 //! An operation is added in model.rs (its argument columns, its refusals, what a row becomes),
 //! entry.rs (its line), plain.rs, coverage.rs (what its rows must meet), worked.rs and defects.rs
@@ -111,6 +116,7 @@ mod numbers;
 mod pairs;
 mod plain;
 mod plain_grades;
+mod plot;
 mod port;
 mod recipe_coverage;
 mod recipe_generate;
@@ -355,7 +361,10 @@ fn run(options: &Options) -> ExitCode {
 fn main() -> ExitCode {
     let mut words = std::env::args().skip(1).peekable();
     match words.peek().map(String::as_str) {
-        Some("bench") => bench::print(&port::LIBRARY, words.nth(1).as_deref()),
+        Some("bench") => {
+            let words: Vec<String> = words.skip(1).collect();
+            return bench::run(&port::LIBRARY, &words);
+        }
         Some("example") => example::print(&port::LIBRARY),
         Some("groups") => groups::all().iter().for_each(|group| println!("{}", group.name)),
         #[cfg(mock)]

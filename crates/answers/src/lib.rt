@@ -13,8 +13,8 @@ pub fn list_answer(out_rows: &[u8], n: usize, out_elements: &[u8], m: usize) -> 
     requires { ⌜ bytesFor m ≤ length (now «out_elements») ⌝ }
     ensures { λ a. ⌜ a ≡ listAnswerFrom (now («out_rows» .entry)) n (now («out_elements» .entry)) m ⌝ }
 {
-    let valid_rows = bitmap::count_set(out_rows, n);
-    let valid_elements = bitmap::count_set(out_elements, m);
+    let valid_rows = bit_words::count_set(out_rows, n);
+    let valid_elements = bit_words::count_set(out_elements, m);
     let null_rows = n - valid_rows;
     let null_elements = m - valid_elements;
     ListAnswer::Counts {
@@ -30,7 +30,7 @@ pub fn value_answer(out_rows: &[u8], n: usize) -> ValueAnswer
     requires { ⌜ bytesFor n ≤ length (now «out_rows») ⌝ }
     ensures { λ a. ⌜ a ≡ valueAnswerFrom (now («out_rows» .entry)) n ⌝ }
 {
-    let valid_rows = bitmap::count_set(out_rows, n);
+    let valid_rows = bit_words::count_set(out_rows, n);
     let null_rows = n - valid_rows;
     ValueAnswer::Counts { rows: n, null_rows }
 }

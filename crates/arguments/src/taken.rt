@@ -1,13 +1,10 @@
 // The arguments of a row, taken from the columns that the operation takes, and refusals 13, 2 and 3 of those.
-use model::Width;
 use ops::ListOp;
-use ops::RowOp;
 use rows::Cell;
-ghost use Prim.Native.Nat.{_<_, _≤_};
-ghost use Rattle.arguments.specs.Taken.{Served, Serves, argumentsRefusal, cellOf, opAt, overIf, placeIn, shortIf, startOver, takenAt, wrongIf};
+ghost use Prim.Native.Nat.{_<_};
+ghost use Rattle.arguments.specs.Taken.{Serves, argumentsRefusal, cellOf, overIf, placeIn, shortIf, startOver, takenAt, wrongIf};
 ghost use Rattle.bitmap.specs.Push.{Covers};
-ghost use Rattle.model.specs.Inner.{nowArguments, nowBits, lentArgumentsFrom, lentBits, lentElem};
-ghost use Rattle.model.specs.Widths.{limitsAt};
+ghost use Rattle.model.specs.Inner.{nowArguments, nowBits, lentArgumentsFrom, lentElem};
 ghost use lib.Dec.{eqb};
 ghost use lib.ListN.{length};
 ghost use mathlib.Core.Bool.{_&&_, false, true};
@@ -64,31 +61,6 @@ pub fn taken_at(
     }
     let i = place_in(limit, values.len(), r);
     cell_at(values, bits, start, i)
-}
-
-// What the operation does to row r of n, which has len elements.
-#[rattlefmt::skip]
-pub fn op_at(
-    op: ListOp, rows: &[u8], rstart: usize, n: usize,
-    xs: &[i64], xbits: &[u8], xstart: usize,
-    ys: &[i64], ybits: &[u8], ystart: usize,
-    zs: &[i64], zbits: &[u8], zstart: usize,
-    r: usize, len: usize, width: Width,
-) -> RowOp
-    requires rows { ⌜ Covers (nowBits rows rstart) n ⌝ }
-    requires served { ⌜ Served op n (nowArguments xs xbits xstart) (nowArguments ys ybits ystart) (nowArguments zs zbits zstart) ⌝ }
-    requires there { ⌜ r < n ⌝ }
-    requires small { ⌜ len ≤ limitsAt width .offset ⌝ }
-    ensures { λ o. ⌜ o ≡ opAt (limitsAt width) op (lentBits rows rstart) (lentArgumentsFrom xs xbits xstart) (lentArgumentsFrom ys ybits ystart) (lentArgumentsFrom zs zbits zstart) r len ⌝ }
-{
-    let t = ops::takes(op);
-    let k = t.columns;
-    let limit = t.limit;
-    let x = taken_at(0 < k, false, xs, xbits, xstart, n, r);
-    let y = taken_at(1 < k, limit == 2, ys, ybits, ystart, n, r);
-    let z = taken_at(2 < k, limit == 3, zs, zbits, zstart, n, r);
-    let valid = bitmap::is_valid(rows, rstart, r, n);
-    ops::row_op(op, valid, len, x, y, z, width)
 }
 
 // Whether a column that is taken has a starting bit over 7.

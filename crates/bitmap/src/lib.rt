@@ -1,10 +1,8 @@
 // Bits of a bitmap: bit i is bit i mod 8 of byte i div 8, bit 0 lowest. An inner crate: its callers meet what it asks.
-ghost use Prim.Native.Nat.{_%_, _+_, _/_, _<_, _^_, _≤_};
-ghost use Rattle.bitmap.specs.Push.{Covers, bitsFrom, pushBit, trues};
-ghost use Rattle.model.specs.Basics.{tab};
+ghost use Prim.Native.Nat.{_%_, _+_, _/_, _<_, _≤_};
+ghost use Rattle.bitmap.specs.Push.{Covers, bitsFrom, pushBit};
 ghost use Rattle.model.specs.Bitmap.{bitAt, bytesFor, shortBits, validAt};
 ghost use Rattle.model.specs.Inner.{nowBits, lentBits};
-ghost use lib.Count.{ones};
 ghost use lib.ListN.{length};
 ghost use mathlib.Core.Path.{_≡_};
 
@@ -102,35 +100,4 @@ pub fn start_from(start: usize, a: usize) -> usize
     ensures { λ r. ⌜ r ≡ (start + a) % 8 ⌝ }
 {
     (start + a % 8) % 8
-}
-
-// How many of the m lowest bits of a byte are set: the others are masked.
-fn ones_below(byte: u8, m: usize) -> usize
-    requires { ⌜ m < 9 ⌝ }
-    ensures { λ r. ⌜ r ≡ ones (byte % 2 ^ m) ⌝ }
-{
-    if m == 8 {
-        return u8::count_ones(byte) as usize;
-    }
-    let mask = (1u8 << (m as u8)) - 1;
-    u8::count_ones(byte & mask) as usize
-}
-
-// How many of the first n bits are set, byte by byte.
-pub fn count_set(bitmap: &[u8], n: usize) -> usize
-    requires { ⌜ bytesFor n ≤ length (now bitmap) ⌝ }
-    ensures { λ r. ⌜ r ≡ trues (tab (bitAt (now (bitmap .entry))) 0 n) ⌝ }
-{
-    let mut found: usize = 0;
-    let mut k: usize = 0;
-    let mut left = n;
-    while 8 < left {
-        found += ones_below(bitmap[k], 8);
-        k += 1;
-        left -= 8;
-    }
-    if left == 0 {
-        return found;
-    }
-    found + ones_below(bitmap[k], left)
 }

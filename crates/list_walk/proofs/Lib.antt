@@ -1,3 +1,1 @@
-pub mod RowLaws
-pub mod CallLaws
-pub mod LoopLaws
+pub mod KindLaws

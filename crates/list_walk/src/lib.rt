@@ -1,5 +1,5 @@
-// The operations on one list with up to three argument columns: one walk measures the rows, a second writes. An inner crate: its
-// callers meet what it asks.
+// The operations on one list with up to three argument columns: the kind of operation is chosen once a call, and its walks measure the
+// rows and write them. An inner crate: its callers meet what it asks.
 pub mod large;
 mod totals;
 
@@ -9,65 +9,26 @@ use model::ListAnswer;
 use model::ListLengths;
 use model::Width;
 use ops::ListOp;
-use ops::RowOp;
 use sums::Measure;
 ghost use Prim.Native.Nat.{_<_, _≤_};
-ghost use Rattle.list_walk.specs.Made.{Begun, callRows};
+ghost use Rattle.made_rows.specs.Made.{Begun, callRows};
 ghost use Rattle.arguments.specs.Taken.{Served};
-ghost use Rattle.column.specs.Outputs.{FillsAt, ReadableElems, RoomAt, RoomForRow, WritesRow};
+ghost use Rattle.column.specs.Outputs.{FillsAt, RoomAt};
 ghost use Rattle.column.specs.Put.{Readable};
 ghost use Rattle.model.specs.Asked.{askedList};
 ghost use Rattle.model.specs.Column.{rowCount, rowsOf, shownBy};
 ghost use Rattle.model.specs.Contract.{ListAnswers};
 ghost use Rattle.model.specs.Form.{flat};
-ghost use Rattle.model.specs.Inner.{lentArgumentsFrom, lentAt, lentElems, lentFrom, nowArguments, nowColumnAt, nowElems};
+ghost use Rattle.model.specs.Inner.{lentArgumentsFrom, lentAt, lentFrom, nowArguments, nowColumnAt};
 ghost use Rattle.model.specs.Lengths.{listLengths};
 ghost use Rattle.model.specs.Limits.{narrow};
 ghost use Rattle.model.specs.Outcome.{afterThree, earlyRefusal, fitted, listOutcome};
-ghost use Rattle.model.specs.Rows.{rowMade};
 ghost use Rattle.model.specs.Widths.{ListAnswersAt, limitsAt, used};
-ghost use Rattle.ops.specs.Ops.{callOf, opMade};
-ghost use Rattle.row_ops.specs.Doable.{Doable};
+ghost use Rattle.ops.specs.Ops.{callOf};
 ghost use lib.ListN.{length};
 ghost use mathlib.Core.Path.{_≡_};
 
-// Writes the row that is made of the len elements from element a on as row r, but for its offset; gives the number of elements then
-// written.
-fn put_row(
-    op: RowOp,
-    values: &[i64],
-    elements: &[u8],
-    estart: usize,
-    a: usize,
-    len: usize,
-    r: usize,
-    out_rows: &mut [u8],
-    out_values: &mut [i64],
-    out_elements: &mut [u8],
-    at: usize,
-) -> usize
-    requires column { ⌜ ReadableElems values elements estart a len ⌝ }
-    requires doable { ⌜ Doable op len ⌝ }
-    requires room { ⌜ RoomForRow (rowMade (opMade op (nowElems values elements estart a len))) r at «out_rows» «out_values» «out_elements» ⌝ }
-    ensures { λ k. ⌜ WritesRow (rowMade (opMade op (lentElems values elements estart a len))) r at «out_rows» «out_values» «out_elements» k ⌝ }
-{
-    let null = ops::is_null(op);
-    let next = row_ops::write(
-        op,
-        values,
-        elements,
-        estart,
-        a,
-        len,
-        out_values,
-        out_elements,
-        at,
-    );
-    bitmap::push_bit(out_rows, r, !null);
-    next
-}
-
-// Writes the rows that the operation makes, in result form.
+// Writes the rows that the operation makes, in result form: one walk for each kind of operation.
 #[rattlefmt::skip]
 fn write_rows(
     op: ListOp,
@@ -84,30 +45,64 @@ fn write_rows(
     requires room { ⌜ RoomAt width (rowCount (used width (now offsets) (now large))) (length (flat (callRows (limitsAt width) op (nowColumnAt width offsets large rows rstart values elements estart) (nowArguments xs xbits xstart) (nowArguments ys ybits ystart) (nowArguments zs zbits zstart)))) «out_offsets» «out_large» «out_rows» «out_values» «out_elements» ⌝ }
     ensures { λ _. ⌜ FillsAt width (callRows (limitsAt width) op (lentAt width offsets large rows rstart values elements estart) (lentArgumentsFrom xs xbits xstart) (lentArgumentsFrom ys ybits ystart) (lentArgumentsFrom zs zbits zstart)) «out_offsets» «out_large» «out_rows» «out_values» «out_elements» ⌝ }
 {
-    let n = widths::row_count(width, offsets, large);
-    widths::put_offset(width, out_offsets, out_large, 0, 0);
-    let mut r: usize = 0;
-    let mut at: usize = 0;
-    let mut left = n;
-    while 0 < left {
-        let a = widths::offset_at(width, offsets, large, r);
-        let b = widths::offset_at(width, offsets, large, r + 1);
-        let len = b - a;
-        let o = taken::op_at(
-            op, rows, rstart, n,
+    match op {
+        ListOp::Plain(u) => plain_walk::write_rows(
+            u,
+            offsets, rows, rstart, values, elements, estart,
+            out_offsets, out_rows, out_values, out_elements,
+            width, large, out_large,
+        ),
+        ListOp::Slice => slice_walk::write_rows(
+            op,
+            offsets, rows, rstart, values, elements, estart,
             xs, xbits, xstart,
             ys, ybits, ystart,
             zs, zbits, zstart,
-            r, len, width,
-        );
-        at = put_row(
-            o, values, elements, estart,
-            a, len, r, out_rows, out_values, out_elements,
-            at,
-        );
-        widths::put_offset(width, out_offsets, out_large, r + 1, at);
-        r += 1;
-        left -= 1;
+            out_offsets, out_rows, out_values, out_elements,
+            width, large, out_large,
+        ),
+        ListOp::SliceBy => slice_walk::write_rows(
+            op,
+            offsets, rows, rstart, values, elements, estart,
+            xs, xbits, xstart,
+            ys, ybits, ystart,
+            zs, zbits, zstart,
+            out_offsets, out_rows, out_values, out_elements,
+            width, large, out_large,
+        ),
+        ListOp::Resize => resize_walk::write_rows(
+            op,
+            offsets, rows, rstart, values, elements, estart,
+            xs, xbits, xstart,
+            ys, ybits, ystart,
+            zs, zbits, zstart,
+            out_offsets, out_rows, out_values, out_elements,
+            width, large, out_large,
+        ),
+        ListOp::ResizeWith => resize_walk::write_rows(
+            op,
+            offsets, rows, rstart, values, elements, estart,
+            xs, xbits, xstart,
+            ys, ybits, ystart,
+            zs, zbits, zstart,
+            out_offsets, out_rows, out_values, out_elements,
+            width, large, out_large,
+        ),
+        ListOp::Replace => replace_walk::write_rows(
+            offsets, rows, rstart, values, elements, estart,
+            xs, xbits, xstart,
+            ys, ybits, ystart,
+            zs, zbits, zstart,
+            out_offsets, out_rows, out_values, out_elements,
+            width, large, out_large,
+        ),
+        ListOp::Remove => remove_walk::write_rows(
+            offsets, rows, rstart, values, elements, estart,
+            xs, xbits, xstart,
+            ys, ybits, ystart,
+            out_offsets, out_rows, out_values, out_elements,
+            width, large, out_large,
+        ),
     }
 }
 

@@ -6,7 +6,6 @@ use mathlib.Core.List.{List}
 use lib.IntN.{ℤ, pos}
 use lib.ListN.{length}
 use Rattle.model.specs.Basics.{pick}
-use Rattle.model.proofs.BoolLaws.{never-true}
 use Rattle.model.specs.Column.{Elem, nul, val, Row, nullRow, listRow}
 use Rattle.model.specs.Form.{elemsOf}
 use Rattle.model.specs.Limits.{Limits}
@@ -16,7 +15,7 @@ use Rattle.index.specs.Plan as I
 use Rattle.index.specs.declared.slice.Stride.{Stride}
 use Rattle.index.specs.declared.slice.Stride.the-variants as S
 use Rattle.rows.specs.Cells.{elemOf, fillElem}
-use Rattle.ops.specs.Ops.{callOf, planOp, sliceOp, strideOp, resizeOp, replaceOp, removeOp, validOp, isSlice, strideFor, rowOpOf, opElems, opMade}
+use Rattle.ops.specs.Ops.{callOf, planOp, sliceOp, strideOp, resizeOp, replaceOp, removeOp, validOp, rowOpOf, opElems, opMade}
 use Rattle.rows.specs.declared.Cell.{Cell}
 use Rattle.rows.specs.declared.Cell.the-variants as C
 use Rattle.rows.specs.declared.Fill.the-variants as F
@@ -24,29 +23,6 @@ use Rattle.ops.specs.declared.ListOp.{ListOp}
 use Rattle.ops.specs.declared.ListOp.the-variants as L
 use Rattle.ops.specs.declared.RowOp.{RowOp}
 use Rattle.ops.specs.declared.RowOp.the-variants as R
-
--- a slice is planned by a stride, lent or 1; the others look at neither the limits nor the row's length
-pub slice-planned : (lim : Limits) (op : ListOp) (n : ℕ) (x y z : Cell) → isSlice op ≡ true → strideOp lim n x y (strideFor op z) ≡ validOp lim op n x y z
-unfolding isSlice strideFor validOp strideOp sliceOp I.strideIn
-slice-planned lim (L.Plain u) n x y z h = never-true (sym h)
-slice-planned lim L.Slice n C.Null y z h = refl
-slice-planned lim L.Slice n (C.Value f) C.Null z h = refl
-slice-planned lim L.Slice n (C.Value f) (C.Value t) z h = refl
-slice-planned lim L.SliceBy n x y z h = refl
-slice-planned lim L.Resize n x y z h = never-true (sym h)
-slice-planned lim L.ResizeWith n x y z h = never-true (sym h)
-slice-planned lim L.Replace n x y z h = never-true (sym h)
-slice-planned lim L.Remove n x y z h = never-true (sym h)
-
-pub others-planned : (lim′ lim : Limits) (op : ListOp) (n : ℕ) (x y z : Cell) → isSlice op ≡ false → validOp lim′ op 0 x y z ≡ validOp lim op n x y z
-unfolding isSlice validOp
-others-planned lim′ lim (L.Plain u) n x y z h = refl
-others-planned lim′ lim L.Slice n x y z h = never-true h
-others-planned lim′ lim L.SliceBy n x y z h = never-true h
-others-planned lim′ lim L.Resize n x y z h = refl
-others-planned lim′ lim L.ResizeWith n x y z h = refl
-others-planned lim′ lim L.Replace n x y z h = refl
-others-planned lim′ lim L.Remove n x y z h = refl
 
 -- a row of these elements, or a null one
 abbrev pub rowIf : Bool → List Elem → Row

@@ -108,16 +108,6 @@ isSlice L.ResizeWith = false
 isSlice L.Replace = false
 isSlice L.Remove = false
 
--- what a slice goes by: "absent stride is 1"
-unfoldable pub strideFor : ListOp → Cell → Cell
-strideFor (L.Plain u) z = C.Value (pos 1)
-strideFor L.Slice z = C.Value (pos 1)
-strideFor L.SliceBy z = z
-strideFor L.Resize z = C.Value (pos 1)
-strideFor L.ResizeWith z = C.Value (pos 1)
-strideFor L.Replace z = C.Value (pos 1)
-strideFor L.Remove z = C.Value (pos 1)
-
 unfoldable pub rowOpOf : Limits → ListOp → Bool → ℕ → Cell → Cell → Cell → RowOp
 rowOpOf lim op valid n x y z = pick valid (validOp lim op n x y z) R.Null
 

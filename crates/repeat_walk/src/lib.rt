@@ -157,9 +157,9 @@ fn repeat_answer(
     requires { ⌜ bytesFor m ≤ length (now «out_elements») ⌝ }
     ensures { λ a. ⌜ a ≡ repeatAnswerFrom (now («out_rows» .entry)) n (now («inner_rows» .entry)) lists (now («out_elements» .entry)) m ⌝ }
 {
-    let valid_rows = bitmap::count_set(out_rows, n);
-    let valid_lists = bitmap::count_set(inner_rows, lists);
-    let valid_elements = bitmap::count_set(out_elements, m);
+    let valid_rows = bit_words::count_set(out_rows, n);
+    let valid_lists = bit_words::count_set(inner_rows, lists);
+    let valid_elements = bit_words::count_set(out_elements, m);
     let null_rows = n - valid_rows;
     let null_inner_rows = lists - valid_lists;
     let null_elements = m - valid_elements;

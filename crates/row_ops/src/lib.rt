@@ -1,24 +1,17 @@
-// What an operation on one list makes of one row. An inner crate: its callers meet what it asks.
+// What reverse, distinct and the pops make of one row. An inner crate: its callers meet what it asks.
 mod reverse;
 
-use fills::resize;
 use kept_elements::distinct;
-use matches::remove;
-use matches::replace;
 use model::Unary;
-use ops::RowOp;
 use rows::utils;
-use strides::strided;
-ghost use Rattle.row_ops.specs.Doable.{Doable};
 ghost use Rattle.column.specs.Outputs.{ReadableElems, RoomForElems, Writes};
 ghost use Rattle.model.specs.Elements.{unaryElems};
 ghost use Rattle.model.specs.Inner.{nowElems, lentElems};
-ghost use Rattle.ops.specs.Ops.{opElems};
 ghost use lib.ListN.{length};
 ghost use mathlib.Core.Path.{_≡_};
 
 // The number of elements that the operation makes of the n elements from element a on.
-fn measure_plain(
+pub fn measure_plain(
     op: Unary,
     values: &[i64],
     elements: &[u8],
@@ -38,7 +31,7 @@ fn measure_plain(
 }
 
 // Writes what the operation makes of the n elements from element a on; gives the next place.
-fn write_plain(
+pub fn write_plain(
     op: Unary,
     values: &[i64],
     elements: &[u8],
@@ -91,136 +84,6 @@ fn write_plain(
             estart,
             a,
             k,
-            out_values,
-            out_elements,
-            at,
-        ),
-    }
-}
-
-// The number of elements that are made of the n elements from element a on.
-pub fn measure(
-    op: RowOp,
-    values: &[i64],
-    elements: &[u8],
-    estart: usize,
-    a: usize,
-    n: usize,
-) -> usize
-    requires column { ⌜ ReadableElems values elements estart a n ⌝ }
-    requires doable { ⌜ Doable op n ⌝ }
-    ensures { λ k. ⌜ k ≡ length (opElems op (lentElems values elements estart a n)) ⌝ }
-{
-    match op {
-        RowOp::Null => 0,
-        RowOp::Refused(_) => 0,
-        RowOp::Plain(u) => measure_plain(u, values, elements, estart, a, n),
-        RowOp::Empty => 0,
-        RowOp::Steps {
-            start: _,
-            stride: _,
-            count,
-        } => count,
-        RowOp::Resized { count, fill: _ } => count,
-        RowOp::Replaced {
-            from: _,
-            to: _,
-            limit: _,
-        } => n,
-        RowOp::Removed { element, limit } => remove::measure_removed(
-            values,
-            elements,
-            estart,
-            a,
-            n,
-            element,
-            limit,
-        ),
-    }
-}
-
-// Writes what is made of the n elements from element a on; gives the next place.
-pub fn write(
-    op: RowOp,
-    values: &[i64],
-    elements: &[u8],
-    estart: usize,
-    a: usize,
-    n: usize,
-    out_values: &mut [i64],
-    out_elements: &mut [u8],
-    at: usize,
-) -> usize
-    requires column { ⌜ ReadableElems values elements estart a n ⌝ }
-    requires doable { ⌜ Doable op n ⌝ }
-    requires room { ⌜ RoomForElems (opElems op (nowElems values elements estart a n)) at «out_values» «out_elements» ⌝ }
-    ensures { λ k. ⌜ Writes (opElems op (lentElems values elements estart a n)) at «out_values» «out_elements» k ⌝ }
-{
-    match op {
-        RowOp::Null => at,
-        RowOp::Refused(_) => at,
-        RowOp::Plain(u) => write_plain(
-            u,
-            values,
-            elements,
-            estart,
-            a,
-            n,
-            out_values,
-            out_elements,
-            at,
-        ),
-        RowOp::Empty => at,
-        RowOp::Steps {
-            start,
-            stride,
-            count,
-        } => strided::write_strided(
-            values,
-            elements,
-            estart,
-            a,
-            n,
-            start,
-            stride,
-            count,
-            out_values,
-            out_elements,
-            at,
-        ),
-        RowOp::Resized { count, fill } => resize::write_resized(
-            values,
-            elements,
-            estart,
-            a,
-            n,
-            count,
-            fill,
-            out_values,
-            out_elements,
-            at,
-        ),
-        RowOp::Replaced { from, to, limit } => replace::write_replaced(
-            values,
-            elements,
-            estart,
-            a,
-            n,
-            from,
-            to,
-            limit,
-            out_values,
-            out_elements,
-            at,
-        ),
-        RowOp::Removed { element, limit } => remove::write_removed(
-            values,
-            elements,
-            estart,
-            a,
-            n,
-            element,
-            limit,
             out_values,
             out_elements,
             at,

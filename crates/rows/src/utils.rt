@@ -15,34 +15,7 @@ ghost use lib.IntN.{pos};
 ghost use lib.ListN.{getD, length, set};
 ghost use mathlib.Core.Path.{_≡_};
 
-// Writes the n elements from element a on, one after the other, from place at of the result on; gives the next place.
-fn write_each(
-    values: &[i64],
-    elements: &[u8],
-    estart: usize,
-    a: usize,
-    n: usize,
-    out_values: &mut [i64],
-    out_elements: &mut [u8],
-    at: usize,
-) -> usize
-    requires column { ⌜ ReadableElems values elements estart a n ⌝ }
-    requires room { ⌜ RoomForElems (nowElems values elements estart a n) at «out_values» «out_elements» ⌝ }
-    ensures { λ r. ⌜ Writes (lentElems values elements estart a n) at «out_values» «out_elements» r ⌝ }
-{
-    let mut p = a;
-    let mut left = n;
-    let mut k = at;
-    while 0 < left {
-        elements::write_elem(values, elements, estart, p, out_values, out_elements, k);
-        p += 1;
-        k += 1;
-        left -= 1;
-    }
-    k
-}
-
-// Writes the n elements from element a on, from place at of the result on, at once where none can be null; gives the next place.
+// Writes the n elements from element a on, from place at of the result on; gives the next place.
 pub fn write_forward(
     values: &[i64],
     elements: &[u8],
@@ -60,7 +33,7 @@ pub fn write_forward(
     if elements.len() == 0 {
         return runs::write_forward(values, elements, estart, a, n, out_values, out_elements, at);
     }
-    write_each(values, elements, estart, a, n, out_values, out_elements, at)
+    nullable_runs::write_forward(values, elements, estart, a, n, out_values, out_elements, at)
 }
 
 // One less, and none of none.
@@ -112,7 +85,41 @@ fn before_value(values: &[i64], a: usize, n: usize, v: i64) -> usize
     r
 }
 
-// How many of the n elements from element a on come before the first match, one by one.
+// How many of the n elements from element a on come before the first null, one by one.
+fn before_null(values: &[i64], elements: &[u8], estart: usize, a: usize, n: usize) -> usize
+    requires column { ⌜ ReadableElems values elements estart a n ⌝ }
+    ensures { λ r. ⌜ Before (λ i. sameElem (lentElem values elements estart (a + i)) (elemOf Cell.Null)) n r ⌝ }
+{
+    let mut r: usize = 0;
+    while r < n {
+        if compare_element_to_list(values, elements, estart, a + r, Cell::Null) {
+            return r;
+        }
+        r += 1;
+    }
+    r
+}
+
+// How many of the n elements from element a on come before the first that is v; the validity bit is read only where the value is v.
+fn before_equal(values: &[i64], elements: &[u8], estart: usize, a: usize, n: usize, v: i64) -> usize
+    requires column { ⌜ ReadableElems values elements estart a n ⌝ }
+    ensures { λ r. ⌜ Before (λ i. sameElem (lentElem values elements estart (a + i)) (elemOf (Cell.Value v))) n r ⌝ }
+{
+    let mut r: usize = 0;
+    while r < n {
+        r += before_value(values, a + r, n - r, v);
+        if r == n {
+            return r;
+        }
+        if compare_element_to_list(values, elements, estart, a + r, Cell::Value(v)) {
+            return r;
+        }
+        r += 1;
+    }
+    r
+}
+
+// How many of the n elements from element a on come before the first match, where some may be null.
 fn before_each(
     values: &[i64],
     elements: &[u8],
@@ -124,14 +131,10 @@ fn before_each(
     requires column { ⌜ ReadableElems values elements estart a n ⌝ }
     ensures { λ r. ⌜ Before (λ i. sameElem (lentElem values elements estart (a + i)) (elemOf cell)) n r ⌝ }
 {
-    let mut r: usize = 0;
-    while r < n {
-        if compare_element_to_list(values, elements, estart, a + r, cell) {
-            return r;
-        }
-        r += 1;
+    match cell {
+        Cell::Null => before_null(values, elements, estart, a, n),
+        Cell::Value(v) => before_equal(values, elements, estart, a, n, v),
     }
-    r
 }
 
 // How many of the n elements from element a on come before the first match; where none can be null, a null matches none.

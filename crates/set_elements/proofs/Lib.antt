@@ -1,3 +1,4 @@
 pub mod ElementLaws
 pub mod PairLaws
 pub mod PartLaws
+pub mod SearchLaws

@@ -2,10 +2,13 @@
 // asks.
 ghost use Prim.Native.Nat.{_+_, _<_, _≤_};
 ghost use Rattle.bitmap.specs.Push.{Covers};
+ghost use Rattle.model.specs.Column.{nul, val};
 ghost use Rattle.model.specs.Elements.{eqZ, isIn, sameElem};
 ghost use Rattle.model.specs.Inner.{nowBits, lentElem, lentElems};
 ghost use Rattle.set_elements.specs.Pairs.{hasValue};
+ghost use Rattle.set_elements.specs.Search.{Before, valueIs};
 ghost use lib.ListN.{length};
+ghost use mathlib.Core.Bool.{false};
 ghost use mathlib.Core.Path.{_≡_};
 
 pub fn same_value(a: i64, b: i64) -> bool
@@ -85,7 +88,82 @@ fn has_value(values: &[i64], a: usize, k: usize, v: i64) -> bool
     has_value_singly(values, p, left, v)
 }
 
-// Whether element i of one column is among the k elements from element a on of another: values alone where no element can be null.
+// How many of the k values from value a on come before a four with the value v, or before the last ones, that are no four.
+fn fours_before(values: &[i64], a: usize, k: usize, v: i64) -> usize
+    requires { ⌜ a + k ≤ length (now values) ⌝ }
+    ensures { λ r. ⌜ r ≤ k ⌝ }
+    ensures { λ r. ⌜ hasValue v (now (values .entry)) a r ≡ false ⌝ }
+{
+    let mut r: usize = 0;
+    while 3 < k - r {
+        if is_one_of_four(values, a + r, v) {
+            return r;
+        }
+        r += 4;
+    }
+    r
+}
+
+// How many of the k values from value a on come before the first that is v, or k where none is: four after four, then one by one.
+pub fn before_value(values: &[i64], a: usize, k: usize, v: i64) -> usize
+    requires { ⌜ a + k ≤ length (now values) ⌝ }
+    ensures { λ r. ⌜ Before (valueIs v (now (values .entry)) a) k r ⌝ }
+{
+    let mut r = fours_before(values, a, k, v);
+    while r < k {
+        if same_value(v, values[a + r]) {
+            return r;
+        }
+        r += 1;
+    }
+    k
+}
+
+// Whether a value is one of the valid elements among the k from element a on: the bit is read only where the value is equal.
+fn has_valid(others: &[i64], oelements: &[u8], ostart: usize, a: usize, k: usize, v: i64) -> bool
+    requires { ⌜ a + k ≤ length (now others) ⌝ }
+    requires { ⌜ Covers (nowBits oelements ostart) (length (now others)) ⌝ }
+    ensures { λ r. ⌜ r ≡ isIn (val v) (lentElems others oelements ostart a k) ⌝ }
+{
+    let mut p = a;
+    let mut left = k;
+    while 0 < left {
+        let run = before_value(others, p, left, v);
+        if left <= run {
+            return false;
+        }
+        if bitmap::is_valid(oelements, ostart, p + run, others.len()) {
+            return true;
+        }
+        p += run + 1;
+        left -= run + 1;
+    }
+    false
+}
+
+// Whether one of the k elements from element a on is null.
+fn has_null(others: &[i64], oelements: &[u8], ostart: usize, a: usize, k: usize) -> bool
+    requires { ⌜ a + k ≤ length (now others) ⌝ }
+    requires { ⌜ Covers (nowBits oelements ostart) (length (now others)) ⌝ }
+    ensures { λ r. ⌜ r ≡ isIn nul (lentElems others oelements ostart a k) ⌝ }
+{
+    if oelements.len() == 0 {
+        return false;
+    }
+    let mut p = a;
+    let mut left = k;
+    while 0 < left {
+        if !bitmap::is_valid(oelements, ostart, p, others.len()) {
+            return true;
+        }
+        p += 1;
+        left -= 1;
+    }
+    false
+}
+
+// Whether element i of one column is among the k elements from element a on of another: values alone where no element can be null, a value
+// among the valid ones, a null among the bits.
 pub fn is_among(
     values: &[i64],
     elements: &[u8],
@@ -106,14 +184,8 @@ pub fn is_among(
     if (elements.len() == 0) & (oelements.len() == 0) {
         return has_value(others, a, k, values[i]);
     }
-    let mut p = a;
-    let mut left = k;
-    while 0 < left {
-        if same_elem(values, elements, estart, i, others, oelements, ostart, p) {
-            return true;
-        }
-        p += 1;
-        left -= 1;
+    if bitmap::is_valid(elements, estart, i, values.len()) {
+        return has_valid(others, oelements, ostart, a, k, values[i]);
     }
-    false
+    has_null(others, oelements, ostart, a, k)
 }

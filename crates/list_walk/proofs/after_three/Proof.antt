@@ -14,10 +14,10 @@ use Rattle.model.specs.Outcome.{gate, made, fitted}
 use Rattle.model.specs.Refusals.{rowsRefusal}
 use Rattle.ops.specs.Ops.{callOf}
 use Rattle.column.proofs.AnswerLaws.{list-refused}
-use Rattle.list_walk.specs.Made.{callRows}
+use Rattle.made_rows.specs.Made.{callRows}
 use Rattle.sums.specs.Sums.{measureOf, letThrough}
-use Rattle.list_walk.proofs.CallLaws.{measured, measure-refused, measure-sum}
-use Rattle.list_walk.proofs.CallLaws as laws
+use Rattle.made_rows.proofs.CallLaws.{measured, measure-refused, measure-sum}
+use Rattle.made_rows.proofs.CallLaws as laws
 use Rattle.list_walk.proofs.after_three.Statement.{statement}
 use Rattle.list_walk.proofs.after_three.Tie as tie
 

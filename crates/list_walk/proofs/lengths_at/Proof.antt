@@ -16,8 +16,8 @@ use Rattle.model.specs.Outcome.{gate, made}
 use Rattle.model.specs.Refusals.{rowsRefusal}
 use Rattle.ops.specs.Ops.{callOf}
 use Rattle.sums.specs.Sums.{measureOf}
-use Rattle.list_walk.specs.Made.{Begun, callRows}
-use Rattle.list_walk.proofs.CallLaws.{measured, measure-refused, measure-sum, lengths-early, lengths-go}
+use Rattle.made_rows.specs.Made.{Begun, callRows}
+use Rattle.made_rows.proofs.CallLaws.{measured, measure-refused, measure-sum, lengths-early, lengths-go}
 use borrow.Author.Needs.{needs}
 use Rattle.list_walk.proofs.lengths_at.Statement.{statement}
 use Rattle.list_walk.proofs.lengths_at.Tie as tie

@@ -10,7 +10,7 @@ use Rattle.model.specs.Column.{Column, column, Arguments, arguments}
 use Rattle.model.specs.Contract.{room}
 use Rattle.model.specs.Form.{Room}
 use Rattle.column.proofs.AnswerLaws.{list-refused}
-use Rattle.list_walk.proofs.CallLaws.{run-early, run-goes}
+use Rattle.made_rows.proofs.CallLaws.{run-early, run-goes}
 use Rattle.list_walk.proofs.run_at.Statement.{statement}
 use Rattle.list_walk.proofs.run_at.Tie as tie
 

@@ -13,8 +13,8 @@ use Rattle.model.specs.Contract.{room}
 use Rattle.model.specs.Form.{Room, fitsIn, flat}
 use Rattle.column.specs.Put.{RoomInˡ}
 use Rattle.column.proofs.AnswerLaws.{list-refused, list-made, has-room, same-fit, fitted-made, fitted-short}
-use Rattle.list_walk.specs.Made.{callRows}
-use Rattle.list_walk.proofs.CallLaws.{length-call}
+use Rattle.made_rows.specs.Made.{callRows}
+use Rattle.made_rows.proofs.CallLaws.{length-call}
 use Rattle.list_walk.proofs.write_fitting.Statement.{statement}
 use Rattle.list_walk.proofs.write_fitting.Tie as tie
 

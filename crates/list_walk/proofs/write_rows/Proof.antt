@@ -1,217 +1,322 @@
-use mathlib.Core.Path.{_≡_, refl, sym, _∙_}
-use Prim.Native.Nat.{ℕ, _-_}
-use native.Mathlib.Omega.{arith}
-use Rattle.model.specs.Basics.{tab}
+use borrow.Author.Needs.{needs}
 use Rattle.model.specs.Bitmap.{from}
 use Rattle.model.specs.Limits.{Limits}
 use Rattle.model.specs.Widths.{used, limitsAt}
-use Rattle.model.specs.Column.{Row, Column, column, Arguments, arguments, elemAt, rowCount}
-use Rattle.model.specs.Rows.{rowMade}
-use Rattle.model.specs.Form.{flat}
-use Rattle.column.specs.Put.{RoomInˡ}
-use lib.IntN.{ℤ}
-use lib.ListN.{length}
-use mathlib.Core.List.{List}
-use Rattle.model.proofs.WidthLaws.{limits-fit}
-use Rattle.column.specs.Rows.{ReadableRowˡ}
-use Rattle.column.proofs.WalkLaws.{Walking, put-keeps, between, walk-begun, walk-room, walk-slot, walk-small, walk-more, walk-done}
-use Rattle.ops.specs.Ops.{opMade}
-use Rattle.list_walk.specs.Made.{rowMadeAt}
-use Rattle.list_walk.proofs.RowLaws.{op-doable}
-use Rattle.list_walk.proofs.CallLaws.{row-of, room-at, rows-at}
+use Rattle.model.specs.Column.{Column, column, Arguments, arguments}
+use Rattle.list_walk.proofs.KindLaws.{is-slice, is-strided, is-resize, is-filled, replace-takes, remove-takes, plain-kind, replace-kind, remove-kind}
 use Rattle.list_walk.proofs.write_rows.Statement.{statement}
 use Rattle.list_walk.proofs.write_rows.Tie as tie
 
-abbrev Inv-loop : tie.InvT-loop
-Inv-loop op offsets rows rstart values elements estart xs xbits xstart ys ybits ystart zs zbits zstart out-offsets₀ out-rows₀ out-values₀ out-elements₀ width large out-large₀ n r₀ at₀ left₀ out-offsets out-rows out-values out-elements out-large r at left =
-    Walking (rowMadeAt (limitsAt width) op (column (used width offsets large) (from rstart rows) values (from estart elements)) (arguments xs (from xstart xbits)) (arguments ys (from ystart ybits)) (arguments zs (from zstart zbits))) n (used width out-offsets₀ out-large₀) out-rows₀ out-values₀ out-elements₀ (used width out-offsets out-large) out-rows out-values out-elements r at left
-    × (length out-offsets ≡ length out-offsets₀)
-    × (length out-large ≡ length out-large₀)
-
-abbrev μ-loop : tie.MeasureT-loop
-μ-loop op offsets rows rstart values elements estart xs xbits xstart ys ybits ystart zs zbits zstart out-offsets₀ out-rows₀ out-values₀ out-elements₀ width large out-large₀ n r₀ at₀ left₀ out-offsets out-rows out-values out-elements out-large r at left =
-    left
-
-abbrev N : tie.Start Inv-loop μ-loop → Limits
+abbrev N : tie.Start → Limits
 N s = limitsAt (s .args .width)
 
-abbrev C : tie.Start Inv-loop μ-loop → Column
+abbrev C : tie.Start → Column
 C s = let a = s .args in column (used (a .width) (a .offsets .now) (a .large .now)) (from (a .rstart) (a .rows .now)) (a .values .now) (from (a .estart) (a .elements .now))
 
--- the offsets that are written, as the call began
-abbrev O : tie.Start Inv-loop μ-loop → List ℤ
-O s = used (s .args .width) (s .args .out-offsets .now) (s .args .out-large .now)
-
-abbrev X : tie.Start Inv-loop μ-loop → Arguments
+abbrev X : tie.Start → Arguments
 X s = arguments (s .args .xs .now) (from (s .args .xstart) (s .args .xbits .now))
 
-abbrev Y : tie.Start Inv-loop μ-loop → Arguments
+abbrev Y : tie.Start → Arguments
 Y s = arguments (s .args .ys .now) (from (s .args .ystart) (s .args .ybits .now))
 
-abbrev Z : tie.Start Inv-loop μ-loop → Arguments
+abbrev Z : tie.Start → Arguments
 Z s = arguments (s .args .zs .now) (from (s .args .zstart) (s .args .zbits .now))
 
--- ---- places: the start and the first offset put, from the loop; a turn's row written and its operation, from what comes after
+-- ---- places: the start, from what comes before the match; what a kind's walk was told, from what is lent to it, and from its end
 
-abbrev put : tie.At-loop Inv-loop μ-loop → tie.After-put-offset Inv-loop μ-loop
-put l = l .before .before .before
+abbrev S : tie.After-slice-known2 → tie.Start
+S k = k .before .before .before .before .before .before .before
 
-abbrev begun : tie.After-put-offset-arg2 Inv-loop μ-loop → tie.Start Inv-loop μ-loop
-begun p = p .before .before .before .before .before .before .before .before .before .before
+abbrev plain-of : tie.After-write-rows-arg5 → tie.After-op
+plain-of c = c .before .before .before .before .before .before
 
-abbrev S : tie.At-loop Inv-loop μ-loop → tie.Start Inv-loop μ-loop
-S l = begun (put l .before)
+abbrev told2 : tie.After-write-rows-arg10 → tie.After-enum-told
+told2 c = c .before .before .before .before .before
 
-abbrev written : tie.After-put-offset-arg4 Inv-loop μ-loop → tie.After-put-row Inv-loop μ-loop
-written p = p .before .before .before .before .before .before .before
+abbrev told3 : tie.After-write-rows-arg15 → tie.After-enum-told2
+told3 c = c .before .before .before .before .before
 
-abbrev turned : tie.After-out-large2 Inv-loop μ-loop → tie.After-put-row Inv-loop μ-loop
-turned p = written (p .before .before .before)
+abbrev told4 : tie.After-write-rows-arg20 → tie.After-enum-told3
+told4 c = c .before .before .before .before .before
 
-abbrev chosen : tie.After-put-row Inv-loop μ-loop → tie.After-op-at Inv-loop μ-loop
-chosen w = w .before .before .before .before
+abbrev told5 : tie.After-write-rows-arg25 → tie.After-enum-told4
+told5 c = c .before .before .before .before .before
 
-abbrev inside : tie.After-put-row Inv-loop μ-loop → tie.In-loop Inv-loop μ-loop
-inside w = chosen w .before .before .before
+abbrev told6 : tie.After-write-rows-arg30 → tie.After-enum-told5
+told6 c = c .before .before .before .before .before
 
-abbrev count : tie.At-loop Inv-loop μ-loop → ℕ
-count l = put l .before .before .before .row-count .result
+abbrev told7 : tie.After-write-rows-arg35 → tie.After-enum-told6
+told7 c = c .before .before .before .before .before
 
-rows-are : (l : tie.At-loop Inv-loop μ-loop) → count l ≡ rowCount (C (S l) .offsets)
-rows-are l = put l .before .before .before .row-count .ensures
+abbrev lent1 : tie.After-out-large → tie.After-write-rows-arg5
+lent1 c = c .before .before .before .before .before .before .before .before
 
-abbrev W : tie.At-loop Inv-loop μ-loop → ℕ → Row
-W l = let s = S l in rowMadeAt (N s) (s .args .op) (C s) (X s) (Y s) (Z s)
+abbrev lent2 : tie.After-out-large2 → tie.After-write-rows-arg10
+lent2 c = c .before .before .before .before .before .before .before .before
 
--- room for all rows, from the code's count
-roomy : (l : tie.At-loop Inv-loop μ-loop) (lo : ℕ) → lo ≡ length (O (S l)) → let a = S l .args in RoomInˡ (count l) (length (flat (tab (W l) 0 (count l)))) lo (length (a .out-rows .now)) (length (a .out-values .now)) (length (a .out-elements .now))
-roomy l lo e = let s = S l in room-at (N s) (s .args .op) (C s) (X s) (Y s) (Z s) (count l) (rows-are l) (s .pre .1 .1 .1) e
+abbrev lent3 : tie.After-out-large3 → tie.After-write-rows-arg15
+lent3 c = c .before .before .before .before .before .before .before .before
 
--- row r of a turn can be read
-reads : (q : tie.After-offset-at2 Inv-loop μ-loop) → let l = q .before .before .before in ReadableRowˡ (C (S l) .rows) (count l) (C (S l) .values) (C (S l) .elements) (l .loop .r) (q .before .offset-at .result) (q .offset-at2 .result)
-reads q =
-    let l = q .before .before .before in
-    between (C (S l)) (count l) (l .loop .r) (q .before .offset-at .result) (q .offset-at2 .result) (S l .pre .0) (rows-are l) (omega (arith, l .loop .inv .0 .rows, q .before .before .loop-test .taken)) (q .before .offset-at .ensures .0) (q .offset-at2 .ensures .0)
+abbrev lent4 : tie.After-out-large4 → tie.After-write-rows-arg20
+lent4 c = c .before .before .before .before .before .before .before .before
 
--- the row that a turn makes is row r's
-abbrev made : (o : tie.After-op-at Inv-loop μ-loop) → Row
-made o =
-    let q = o .before in
-    let s = S (q .before .before .before) in
-    rowMade (opMade (o .op-at .result) (tab (elemAt (C s .values) (C s .elements)) (q .before .offset-at .result) (q .offset-at2 .result - q .before .offset-at .result)))
+abbrev lent5 : tie.After-out-large5 → tie.After-write-rows-arg25
+lent5 c = c .before .before .before .before .before .before .before .before
 
-same-row : (o : tie.After-op-at Inv-loop μ-loop) → let l = o .before .before .before .before in made o ≡ W l (l .loop .r)
-same-row o =
-    let q = o .before in
-    let s = S (q .before .before .before) in
-    row-of (N s) (s .args .op) (C s) (X s) (Y s) (Z s) (q .before .before .before .loop .r) (q .before .offset-at .result) (q .offset-at2 .result) (o .op-at .result) (q .before .offset-at .ensures .0) (q .offset-at2 .ensures .0) (o .op-at .ensures)
+abbrev lent6 : tie.After-out-large6 → tie.After-write-rows-arg30
+lent6 c = c .before .before .before .before .before .before .before .before
 
-row-count-requires : tie.Need-row-count-requires Inv-loop μ-loop
-row-count-requires c κs = search
+abbrev lent7 : tie.After-out-large7 → tie.After-write-rows-arg35
+lent7 c = c .before .before .before .before .before .before .before .before
 
-put-offset-requires : tie.Need-put-offset-requires Inv-loop μ-loop
-put-offset-requires c κs = (omega (arith, begun c .pre .1 .1 .1 .offsets), omega arith)
+-- ---- needs
 
-loop-holds : tie.Need-loop-holds Inv-loop μ-loop
-loop-holds c = (walk-begun _ _ _ _ _ _, refl, refl)
+enum-known-op : tie.Need-enum-known-op
+enum-known-op c = search needs
 
-offset-at-requires : tie.Need-offset-at-requires Inv-loop μ-loop
-offset-at-requires c κs = omega (arith, rows-are (c .before), c .before .loop .inv .0 .rows, c .loop-test .taken)
+write-rows-requires : tie.Need-write-rows-requires
+write-rows-requires c κs =
+    let o = plain-of c in
+    let s = S (o .before .before) in
+    let e = plain-kind (N s) (s .args .op) (C s) (X s) (Y s) (Z s) (o .op .given .0 .0) (o .op .given .1) in
+    (s .pre .0, (rw e at (s .pre .1 .1 .0), rw e at (s .pre .1 .1 .1)))
 
-add-offset-at : tie.Need-add-offset-at Inv-loop μ-loop
-add-offset-at c = omega (arith, c .before .before .loop .inv .0 .rows, c .before .loop-test .taken)
+enum-told : tie.Need-enum-told
+enum-told c = search needs
 
-offset-at-requires-2 : tie.Need-offset-at-requires-2 Inv-loop μ-loop
-offset-at-requires-2 c κs = omega (arith, rows-are (c .before .before), c .before .before .loop .inv .0 .rows, c .before .loop-test .taken)
+write-rows-requires-2 : tie.Need-write-rows-requires-2
+write-rows-requires-2 c κs = let s = S (told2 c .before .before) in (s .pre .0, (s .pre .1 .0, (is-slice (s .args .op) (told2 c .enum-told .given .1), (s .pre .1 .1 .0, s .pre .1 .1 .1))))
 
-sub-len : tie.Need-sub-len Inv-loop μ-loop
-sub-len c = reads c .rises
+enum-told-2 : tie.Need-enum-told-2
+enum-told-2 c = search needs
 
-op-at-requires : tie.Need-op-at-requires Inv-loop μ-loop
-op-at-requires c κs = let l = c .before .before .before in (reads c .rows, (rw (rows-are l) (S l .pre .1 .0), (reads c .there, omega (arith, c .offset-at2 .ensures .1))))
+write-rows-requires-3 : tie.Need-write-rows-requires-3
+write-rows-requires-3 c κs = let s = S (told3 c .before .before) in (s .pre .0, (s .pre .1 .0, (is-strided (s .args .op) (told3 c .enum-told2 .given .1), (s .pre .1 .1 .0, s .pre .1 .1 .1))))
 
-put-row-requires : tie.Need-put-row-requires Inv-loop μ-loop
-put-row-requires c κs =
-    let o = c .before .before .before in
-    let q = o .before in
-    let l = q .before .before .before in
-    let s = S l in
-    (record { inside = omega (arith, reads q .rises, reads q .inside); bits = reads q .elements }, (op-doable (N s) (s .args .op) (C s .rows) (X s) (Y s) (Z s) (l .loop .r) _ (o .op-at .result) (o .op-at .ensures) (omega (arith, q .offset-at2 .ensures .1, limits-fit (s .args .width) .offset)), walk-room (W l) (count l) (made o) (q .before .before .loop-test .taken) (same-row o) (l .loop .inv .0) (roomy l _ (put-keeps (O (S l)) 0 0 (put l .put-offset .ensures)))))
+enum-told-3 : tie.Need-enum-told-3
+enum-told-3 c = search needs
 
-add-put-offset : tie.Need-add-put-offset Inv-loop μ-loop
-add-put-offset c = omega (arith, inside (written c), inside (written c) .before .loop .inv .0 .rows, inside (written c) .loop-test .taken)
+write-rows-requires-4 : tie.Need-write-rows-requires-4
+write-rows-requires-4 c κs = let s = S (told4 c .before .before) in (s .pre .0, (s .pre .1 .0, (is-resize (s .args .op) (told4 c .enum-told3 .given .1), (s .pre .1 .1 .0, s .pre .1 .1 .1))))
 
-put-offset-requires-2 : tie.Need-put-offset-requires-2 Inv-loop μ-loop
-put-offset-requires-2 c κs =
-    let w = written c in
-    let o = chosen (written c) in
-    let l = o .before .before .before .before in
-    let s = S l in
-    let k = walk-small (W l) (count l) (made o) (o .before .before .before .loop-test .taken) (same-row o) (l .loop .inv .0) (w .put-row .ensures) in
-    (walk-slot (W l) (count l) (made o) (o .before .before .before .loop-test .taken) (same-row o) (l .loop .inv .0) (roomy l _ (put-keeps (O (S l)) 0 0 (put l .put-offset .ensures))), omega (arith, s .pre .1 .1 .0, rw (rows-at (N s) (s .args .op) (C s) (X s) (Y s) (Z s) (count l) (rows-are l)) at k))
+enum-told-4 : tie.Need-enum-told-4
+enum-told-4 c = search needs
 
-add-r : tie.Need-add-r Inv-loop μ-loop
-add-r c = omega (arith, inside (turned c), inside (turned c) .before .loop .inv .0 .rows, inside (turned c) .loop-test .taken)
+write-rows-requires-5 : tie.Need-write-rows-requires-5
+write-rows-requires-5 c κs = let s = S (told5 c .before .before) in (s .pre .0, (s .pre .1 .0, (is-filled (s .args .op) (told5 c .enum-told4 .given .1), (s .pre .1 .1 .0, s .pre .1 .1 .1))))
 
-sub-left : tie.Need-sub-left Inv-loop μ-loop
-sub-left c = omega (arith, inside (turned c) .loop-test .taken)
+enum-told-5 : tie.Need-enum-told-5
+enum-told-5 c = search needs
 
-loop-less : tie.Need-loop-less Inv-loop μ-loop
-loop-less c = omega (arith, inside (turned c) .loop-test .taken)
+write-rows-requires-6 : tie.Need-write-rows-requires-6
+write-rows-requires-6 c κs =
+    let o = told6 c .enum-told5 .given .1 in
+    let s = S (told6 c .before .before) in
+    let e = replace-kind (N s) (s .args .op) (C s) (X s) (Y s) (Z s) o in
+    (s .pre .0, (replace-takes o (s .pre .1 .0), (rw e at (s .pre .1 .1 .0), rw e at (s .pre .1 .1 .1))))
 
-loop-again : tie.Need-loop-again Inv-loop μ-loop
-loop-again c =
-    let w = turned c in
-    let o = chosen (turned c) in
-    let l = o .before .before .before .before in
-    (walk-more (W l) (count l) (made o) (o .before .before .before .loop-test .taken) (same-row o) (l .loop .inv .0) (w .put-row .ensures) (c .before .before .put-offset2 .ensures), c .before .before .put-offset2 .kept .1 .0 ∙ l .loop .inv .1, c .before .before .put-offset2 .kept .1 .1 .0 ∙ l .loop .inv .2)
+enum-told-6 : tie.Need-enum-told-6
+enum-told-6 c = search needs
 
-same-length : tie.Need-same-length Inv-loop μ-loop
-same-length c = c .before .loop .inv .1 ∙ put (c .before) .put-offset .kept .1 .0
+write-rows-requires-7 : tie.Need-write-rows-requires-7
+write-rows-requires-7 c κs =
+    let o = told7 c .enum-told6 .given .1 in
+    let s = S (told7 c .before .before) in
+    let e = remove-kind (N s) (s .args .op) (C s) (X s) (Y s) (Z s) o in
+    (s .pre .0, (remove-takes o (s .pre .1 .0), (rw e at (s .pre .1 .1 .0), rw e at (s .pre .1 .1 .1))))
 
-same-length-2 : tie.Need-same-length-2 Inv-loop μ-loop
-same-length-2 c = c .before .loop .inv .0 .lr
+same-length : tie.Need-same-length
+same-length c = c .before .before .before .before .before .before .before .write-rows .kept .1 .1 .1 .1 .1 .1 .1 .0
 
-same-length-3 : tie.Need-same-length-3 Inv-loop μ-loop
-same-length-3 c = c .before .loop .inv .0 .lv
+same-length-2 : tie.Need-same-length-2
+same-length-2 c = c .before .before .before .before .before .before .before .write-rows .kept .1 .1 .1 .1 .1 .1 .1 .1 .0
 
-same-length-4 : tie.Need-same-length-4 Inv-loop μ-loop
-same-length-4 c = c .before .loop .inv .0 .le
+same-length-3 : tie.Need-same-length-3
+same-length-3 c = c .before .before .before .before .before .before .before .write-rows .kept .1 .1 .1 .1 .1 .1 .1 .1 .1 .0
 
-same-length-5 : tie.Need-same-length-5 Inv-loop μ-loop
-same-length-5 c = c .before .loop .inv .2 ∙ put (c .before) .put-offset .kept .1 .1 .0
+same-length-4 : tie.Need-same-length-4
+same-length-4 c = c .before .before .before .before .before .before .before .write-rows .kept .1 .1 .1 .1 .1 .1 .1 .1 .1 .1 .0
 
-returns : tie.Need-returns Inv-loop μ-loop
+same-length-5 : tie.Need-same-length-5
+same-length-5 c = c .before .before .before .before .before .before .before .write-rows .kept .1 .1 .1 .1 .1 .1 .1 .1 .1 .1 .1 .1 .1 .0
+
+returns : tie.Need-returns
 returns c =
-    let l = c .before in
-    let s = S l in
-    rw (← rows-at (N s) (s .args .op) (C s) (X s) (Y s) (Z s) (count l) (rows-are l))
-    (walk-done (W l) (count l) (O s) (l .loop .inv .0) (omega (arith, c .loop-test .left)) (put l .put-offset .ensures) (roomy l _ refl))
+    let o = plain-of (lent1 c) in
+    let s = S (o .before .before) in
+    rw (plain-kind (N s) (s .args .op) (C s) (X s) (Y s) (Z s) (o .op .given .0 .0) (o .op .given .1)) (c .before .before .before .before .before .before .before .write-rows .ensures)
+
+same-length-6 : tie.Need-same-length-6
+same-length-6 c = c .before .before .before .before .before .before .before .write-rows2 .kept .1 .1 .1 .1 .1 .1 .1 .1 .1 .1 .1 .1 .1 .1 .1 .1 .0
+
+same-length-7 : tie.Need-same-length-7
+same-length-7 c = c .before .before .before .before .before .before .before .write-rows2 .kept .1 .1 .1 .1 .1 .1 .1 .1 .1 .1 .1 .1 .1 .1 .1 .1 .1 .0
+
+same-length-8 : tie.Need-same-length-8
+same-length-8 c = c .before .before .before .before .before .before .before .write-rows2 .kept .1 .1 .1 .1 .1 .1 .1 .1 .1 .1 .1 .1 .1 .1 .1 .1 .1 .1 .0
+
+same-length-9 : tie.Need-same-length-9
+same-length-9 c = c .before .before .before .before .before .before .before .write-rows2 .kept .1 .1 .1 .1 .1 .1 .1 .1 .1 .1 .1 .1 .1 .1 .1 .1 .1 .1 .1 .0
+
+same-length-10 : tie.Need-same-length-10
+same-length-10 c = c .before .before .before .before .before .before .before .write-rows2 .kept .1 .1 .1 .1 .1 .1 .1 .1 .1 .1 .1 .1 .1 .1 .1 .1 .1 .1 .1 .1 .1 .1 .0
+
+returns-2 : tie.Need-returns-2
+returns-2 c = c .before .before .before .before .before .before .before .write-rows2 .ensures
+
+same-length-11 : tie.Need-same-length-11
+same-length-11 c = c .before .before .before .before .before .before .before .write-rows3 .kept .1 .1 .1 .1 .1 .1 .1 .1 .1 .1 .1 .1 .1 .1 .1 .1 .0
+
+same-length-12 : tie.Need-same-length-12
+same-length-12 c = c .before .before .before .before .before .before .before .write-rows3 .kept .1 .1 .1 .1 .1 .1 .1 .1 .1 .1 .1 .1 .1 .1 .1 .1 .1 .0
+
+same-length-13 : tie.Need-same-length-13
+same-length-13 c = c .before .before .before .before .before .before .before .write-rows3 .kept .1 .1 .1 .1 .1 .1 .1 .1 .1 .1 .1 .1 .1 .1 .1 .1 .1 .1 .0
+
+same-length-14 : tie.Need-same-length-14
+same-length-14 c = c .before .before .before .before .before .before .before .write-rows3 .kept .1 .1 .1 .1 .1 .1 .1 .1 .1 .1 .1 .1 .1 .1 .1 .1 .1 .1 .1 .0
+
+same-length-15 : tie.Need-same-length-15
+same-length-15 c = c .before .before .before .before .before .before .before .write-rows3 .kept .1 .1 .1 .1 .1 .1 .1 .1 .1 .1 .1 .1 .1 .1 .1 .1 .1 .1 .1 .1 .1 .1 .0
+
+returns-3 : tie.Need-returns-3
+returns-3 c = c .before .before .before .before .before .before .before .write-rows3 .ensures
+
+same-length-16 : tie.Need-same-length-16
+same-length-16 c = c .before .before .before .before .before .before .before .write-rows4 .kept .1 .1 .1 .1 .1 .1 .1 .1 .1 .1 .1 .1 .1 .1 .1 .1 .0
+
+same-length-17 : tie.Need-same-length-17
+same-length-17 c = c .before .before .before .before .before .before .before .write-rows4 .kept .1 .1 .1 .1 .1 .1 .1 .1 .1 .1 .1 .1 .1 .1 .1 .1 .1 .0
+
+same-length-18 : tie.Need-same-length-18
+same-length-18 c = c .before .before .before .before .before .before .before .write-rows4 .kept .1 .1 .1 .1 .1 .1 .1 .1 .1 .1 .1 .1 .1 .1 .1 .1 .1 .1 .0
+
+same-length-19 : tie.Need-same-length-19
+same-length-19 c = c .before .before .before .before .before .before .before .write-rows4 .kept .1 .1 .1 .1 .1 .1 .1 .1 .1 .1 .1 .1 .1 .1 .1 .1 .1 .1 .1 .0
+
+same-length-20 : tie.Need-same-length-20
+same-length-20 c = c .before .before .before .before .before .before .before .write-rows4 .kept .1 .1 .1 .1 .1 .1 .1 .1 .1 .1 .1 .1 .1 .1 .1 .1 .1 .1 .1 .1 .1 .1 .0
+
+returns-4 : tie.Need-returns-4
+returns-4 c = c .before .before .before .before .before .before .before .write-rows4 .ensures
+
+same-length-21 : tie.Need-same-length-21
+same-length-21 c = c .before .before .before .before .before .before .before .write-rows5 .kept .1 .1 .1 .1 .1 .1 .1 .1 .1 .1 .1 .1 .1 .1 .1 .1 .0
+
+same-length-22 : tie.Need-same-length-22
+same-length-22 c = c .before .before .before .before .before .before .before .write-rows5 .kept .1 .1 .1 .1 .1 .1 .1 .1 .1 .1 .1 .1 .1 .1 .1 .1 .1 .0
+
+same-length-23 : tie.Need-same-length-23
+same-length-23 c = c .before .before .before .before .before .before .before .write-rows5 .kept .1 .1 .1 .1 .1 .1 .1 .1 .1 .1 .1 .1 .1 .1 .1 .1 .1 .1 .0
+
+same-length-24 : tie.Need-same-length-24
+same-length-24 c = c .before .before .before .before .before .before .before .write-rows5 .kept .1 .1 .1 .1 .1 .1 .1 .1 .1 .1 .1 .1 .1 .1 .1 .1 .1 .1 .1 .0
+
+same-length-25 : tie.Need-same-length-25
+same-length-25 c = c .before .before .before .before .before .before .before .write-rows5 .kept .1 .1 .1 .1 .1 .1 .1 .1 .1 .1 .1 .1 .1 .1 .1 .1 .1 .1 .1 .1 .1 .1 .0
+
+returns-5 : tie.Need-returns-5
+returns-5 c = c .before .before .before .before .before .before .before .write-rows5 .ensures
+
+same-length-26 : tie.Need-same-length-26
+same-length-26 c = c .before .before .before .before .before .before .before .write-rows6 .kept .1 .1 .1 .1 .1 .1 .1 .1 .1 .1 .1 .1 .1 .1 .1 .0
+
+same-length-27 : tie.Need-same-length-27
+same-length-27 c = c .before .before .before .before .before .before .before .write-rows6 .kept .1 .1 .1 .1 .1 .1 .1 .1 .1 .1 .1 .1 .1 .1 .1 .1 .0
+
+same-length-28 : tie.Need-same-length-28
+same-length-28 c = c .before .before .before .before .before .before .before .write-rows6 .kept .1 .1 .1 .1 .1 .1 .1 .1 .1 .1 .1 .1 .1 .1 .1 .1 .1 .0
+
+same-length-29 : tie.Need-same-length-29
+same-length-29 c = c .before .before .before .before .before .before .before .write-rows6 .kept .1 .1 .1 .1 .1 .1 .1 .1 .1 .1 .1 .1 .1 .1 .1 .1 .1 .1 .0
+
+same-length-30 : tie.Need-same-length-30
+same-length-30 c = c .before .before .before .before .before .before .before .write-rows6 .kept .1 .1 .1 .1 .1 .1 .1 .1 .1 .1 .1 .1 .1 .1 .1 .1 .1 .1 .1 .1 .1 .0
+
+returns-6 : tie.Need-returns-6
+returns-6 c =
+    let o = told6 (lent6 c) in
+    let s = S (o .before .before) in
+    rw (replace-kind (N s) (s .args .op) (C s) (X s) (Y s) (Z s) (o .enum-told5 .given .1)) (c .before .before .before .before .before .before .before .write-rows6 .ensures)
+
+same-length-31 : tie.Need-same-length-31
+same-length-31 c = c .before .before .before .before .before .before .before .write-rows7 .kept .1 .1 .1 .1 .1 .1 .1 .1 .1 .1 .1 .1 .0
+
+same-length-32 : tie.Need-same-length-32
+same-length-32 c = c .before .before .before .before .before .before .before .write-rows7 .kept .1 .1 .1 .1 .1 .1 .1 .1 .1 .1 .1 .1 .1 .0
+
+same-length-33 : tie.Need-same-length-33
+same-length-33 c = c .before .before .before .before .before .before .before .write-rows7 .kept .1 .1 .1 .1 .1 .1 .1 .1 .1 .1 .1 .1 .1 .1 .0
+
+same-length-34 : tie.Need-same-length-34
+same-length-34 c = c .before .before .before .before .before .before .before .write-rows7 .kept .1 .1 .1 .1 .1 .1 .1 .1 .1 .1 .1 .1 .1 .1 .1 .0
+
+same-length-35 : tie.Need-same-length-35
+same-length-35 c = c .before .before .before .before .before .before .before .write-rows7 .kept .1 .1 .1 .1 .1 .1 .1 .1 .1 .1 .1 .1 .1 .1 .1 .1 .1 .1 .0
+
+returns-7 : tie.Need-returns-7
+returns-7 c =
+    let o = told7 (lent7 c) in
+    let s = S (o .before .before) in
+    rw (remove-kind (N s) (s .args .op) (C s) (X s) (Y s) (Z s) (o .enum-told6 .given .1)) (c .before .before .before .before .before .before .before .write-rows7 .ensures)
 
 pub write-rows-spec : {M : Type 1} → statement M
 write-rows-spec =
     tie.close
     (tie.spec
-    Inv-loop
-    μ-loop
-    row-count-requires
-    put-offset-requires
-    loop-holds
-    offset-at-requires
-    add-offset-at
-    offset-at-requires-2
-    sub-len
-    op-at-requires
-    put-row-requires
-    add-put-offset
-    put-offset-requires-2
-    add-r
-    sub-left
-    loop-less
-    loop-again
+    enum-known-op
+    write-rows-requires
+    enum-told
+    write-rows-requires-2
+    enum-told-2
+    write-rows-requires-3
+    enum-told-3
+    write-rows-requires-4
+    enum-told-4
+    write-rows-requires-5
+    enum-told-5
+    write-rows-requires-6
+    enum-told-6
+    write-rows-requires-7
     same-length
     same-length-2
     same-length-3
     same-length-4
     same-length-5
-    returns)
+    returns
+    same-length-6
+    same-length-7
+    same-length-8
+    same-length-9
+    same-length-10
+    returns-2
+    same-length-11
+    same-length-12
+    same-length-13
+    same-length-14
+    same-length-15
+    returns-3
+    same-length-16
+    same-length-17
+    same-length-18
+    same-length-19
+    same-length-20
+    returns-4
+    same-length-21
+    same-length-22
+    same-length-23
+    same-length-24
+    same-length-25
+    returns-5
+    same-length-26
+    same-length-27
+    same-length-28
+    same-length-29
+    same-length-30
+    returns-6
+    same-length-31
+    same-length-32
+    same-length-33
+    same-length-34
+    same-length-35
+    returns-7)

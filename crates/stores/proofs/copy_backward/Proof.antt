@@ -1,75 +1,99 @@
-use mathlib.Core.List.{_∷_, reverse}
-use mathlib.Core.Path.{_≡_}
-use Prim.Native.Nat.{ℕ, _+_, _-_, _<_, _≤_}
+use mathlib.Core.Path.{refl, _∙_}
+use Prim.Native.Nat.{_+_, _-_, _≤_, _<_}
 use native.Mathlib.Omega.{arith}
-use lib.IntN.{ℤ, pos}
+use lib.IntN.{pos}
 use lib.ListN.{length, getD}
 use Rattle.column.proofs.OffsetLaws.{back64}
-use Rattle.column.proofs.PutLaws.{rev-step, rev-none}
-use Rattle.model.specs.Basics.{tab}
-use Rattle.stores.proofs.StoreLaws.{Storing, begun, more, room, done, length-back}
+use Rattle.stores.proofs.StoreLaws.{Turned, turned-none, turned-more, turned-one, turned-all}
 use Rattle.stores.proofs.copy_backward.Statement.{statement}
 use Rattle.stores.proofs.copy_backward.Tie as tie
 
 abbrev Inv-loop : tie.InvT-loop
-Inv-loop values a n out₀ at k₀ left₀ out k left =
-    Storing (reverse (tab (λ i. getD values i (pos 0)) a n)) at out₀ (reverse (tab (λ i. getD values i (pos 0)) a left)) k out
-    × (left ≤ n)
+Inv-loop values a n out₀ at p₀ k₀ left₀ out p k left = Turned (λ i. getD values i (pos 0)) a n at out₀ out p k left
 
 abbrev μ-loop : tie.MeasureT-loop
-μ-loop values a n out₀ at k₀ left₀ out k left = left
+μ-loop values a n out₀ at p₀ k₀ left₀ out p k left = left
 
-module _ (i : tie.In-loop Inv-loop μ-loop) where
-  abbrev G : ℕ → ℤ
-  G j = getD (i .before .before .args .values .now) j (pos 0)
+abbrev Inv-loop2 : tie.InvT-loop2
+Inv-loop2 values a n out₀ at p₀ k₀ left₀ out p k left = Turned (λ i. getD values i (pos 0)) p₀ left₀ at out₀ out p k left
 
-  abbrev a₀ : ℕ
-  a₀ = i .before .before .args .a
+abbrev μ-loop2 : tie.MeasureT-loop2
+μ-loop2 values a n out₀ at p₀ k₀ left₀ out p k left = left
 
-  next : reverse (tab G a₀ (i .before .loop .left)) ≡ G (a₀ + (i .before .loop .left - 1)) ∷ reverse (tab G a₀ (i .before .loop .left - 1))
-  next = rev-step G a₀ (i .before .loop .left) (i .loop-test .taken)
+-- a turn of each loop
+module _ (i : tie.In-loop Inv-loop μ-loop Inv-loop2 μ-loop2) where
+  inside : (i .before .loop .p + 8 ≤ length (i .before .before .args .values .now)) × (i .before .loop .k - 8 + 8 ≤ length (i .before .loop .out))
+  inside =
+      let s = i .before .before in
+      let v = i .before .loop .inv in
+      (omega (arith, i .loop-test, v .index, s .pre .0), omega (arith, i .loop-test, v .place, v .fewer, v .same, s .pre .1))
 
-  here : a₀ + (i .before .loop .left - 1) < length (i .before .before .args .values .now)
-  here = omega (arith, i, i .before .before .pre .0)
+module _ (i : tie.In-loop2 Inv-loop μ-loop Inv-loop2 μ-loop2) where
+  abbrev start : tie.Start Inv-loop μ-loop Inv-loop2 μ-loop2
+  start = i .before .before .before .before
 
-  room-at : i .before .loop .k < length (i .before .loop .out)
-  room-at = room (i .before .loop .inv .0) _ _ next (omega (arith, i .before .before .pre .1, length-back G a₀ (i .before .before .args .n)))
+  inside2 : (i .before .loop2 .p < length (start .args .values .now)) × (i .before .loop2 .k - 1 < length (i .before .loop2 .out))
+  inside2 =
+      let v = i .before .loop2 .inv in
+      let w = i .before .before .before .loop .inv in
+      (omega (arith, i .loop2-test, v .index, w .index, start .pre .0), omega (arith, i .loop2-test, v .place, v .fewer, v .same, w .fewer, w .same, start .pre .1))
 
-loop-holds : tie.Need-loop-holds Inv-loop μ-loop
-loop-holds c = (begun, omega arith)
+add-k : tie.Need-add-k Inv-loop μ-loop Inv-loop2 μ-loop2
+add-k c = omega (arith, c .pre .1, c)
 
-sub-left : tie.Need-sub-left Inv-loop μ-loop
-sub-left c = omega (arith, c)
+loop-holds : tie.Need-loop-holds Inv-loop μ-loop Inv-loop2 μ-loop2
+loop-holds c = turned-none _ _ _ _ _ refl
 
-add-out : tie.Need-add-out Inv-loop μ-loop
-add-out c = let h = here c in omega (arith, c, c .before .before)
+sub-k : tie.Need-sub-k Inv-loop μ-loop Inv-loop2 μ-loop2
+sub-k c = omega (arith, c .loop-test, c .before .loop .inv .place)
 
-mul-out : tie.Need-mul-out Inv-loop μ-loop
-mul-out c = let h = here c in omega (arith, c, c .before .before)
+turn-eight-requires : tie.Need-turn-eight-requires Inv-loop μ-loop Inv-loop2 μ-loop2
+turn-eight-requires c κs = inside (c .before)
 
-shared-slice-copy-out-out : tie.Need-shared-slice-copy-out-out Inv-loop μ-loop
-shared-slice-copy-out-out c = here c
+add-p : tie.Need-add-p Inv-loop μ-loop Inv-loop2 μ-loop2
+add-p c = let i = c .before .before .before in omega (arith, inside i .0, i .before .before)
 
-mul-t13 : tie.Need-mul-t13 Inv-loop μ-loop
-mul-t13 c = let r = room-at (c .before) in omega (arith, c .before, c .before .before .before)
+loop-less : tie.Need-loop-less Inv-loop μ-loop Inv-loop2 μ-loop2
+loop-less c = let t = c .before .before .before .loop-test in omega arith
 
-slice-set-from-out : tie.Need-slice-set-from-out Inv-loop μ-loop
-slice-set-from-out c = room-at (c .before)
+loop-again : tie.Need-loop-again Inv-loop μ-loop Inv-loop2 μ-loop2
+loop-again c = let i = c .before .before .before in turned-more _ _ _ _ _ (i .before .loop .inv) 8 (i .loop-test .taken) (c .before .turn-eight .ensures)
 
-add-k : tie.Need-add-k Inv-loop μ-loop
-add-k c = let r = room-at (c .before) in omega (arith, c .before, c .before .before .before)
+loop2-holds : tie.Need-loop2-holds Inv-loop μ-loop Inv-loop2 μ-loop2
+loop2-holds c = turned-none _ _ _ _ _ (c .before .loop .inv .place)
 
-loop-less : tie.Need-loop-less Inv-loop μ-loop
-loop-less c = omega (arith, c .before)
+sub-k-2 : tie.Need-sub-k-2 Inv-loop μ-loop Inv-loop2 μ-loop2
+sub-k-2 c = omega (arith, c .loop2-test, c .before .loop2 .inv .place)
 
-loop-again : tie.Need-loop-again Inv-loop μ-loop
-loop-again c = (more (c .before .before .loop .inv .0) _ _ (next (c .before)) (rw (back64 _ (c .out .given))), omega (arith, c .before))
+mul-out : tie.Need-mul-out Inv-loop μ-loop Inv-loop2 μ-loop2
+mul-out c = omega (arith, inside2 c .0, start c)
 
-same-length : tie.Need-same-length Inv-loop μ-loop
-same-length c = c .before .loop .inv .0 .same
+shared-slice-copy-out-out : tie.Need-shared-slice-copy-out-out Inv-loop μ-loop Inv-loop2 μ-loop2
+shared-slice-copy-out-out c = inside2 c .0
 
-returns : tie.Need-returns Inv-loop μ-loop
-returns c = done (c .before .loop .inv .0) (rev-none _ _ _ (c .loop-test .left))
+mul-t17 : tie.Need-mul-t17 Inv-loop μ-loop Inv-loop2 μ-loop2
+mul-t17 c = omega (arith, inside2 (c .before) .1, start (c .before), c .before .before .loop2 .inv .same, c .before .before .before .before .loop .inv .same)
+
+slice-set-from-out : tie.Need-slice-set-from-out Inv-loop μ-loop Inv-loop2 μ-loop2
+slice-set-from-out c = inside2 (c .before) .1
+
+add-p-2 : tie.Need-add-p-2 Inv-loop μ-loop Inv-loop2 μ-loop2
+add-p-2 c = omega (arith, inside2 (c .before) .0, start (c .before))
+
+sub-left : tie.Need-sub-left Inv-loop μ-loop Inv-loop2 μ-loop2
+sub-left c = let t = c .before .loop2-test in omega arith
+
+loop2-less : tie.Need-loop2-less Inv-loop μ-loop Inv-loop2 μ-loop2
+loop2-less c = let t = c .before .loop2-test in omega arith
+
+loop2-again : tie.Need-loop2-again Inv-loop μ-loop Inv-loop2 μ-loop2
+loop2-again c = turned-one _ _ _ _ _ (c .before .before .loop2 .inv) (c .before .loop2-test .taken) (rw (back64 _ (c .out2 .given)))
+
+same-length : tie.Need-same-length Inv-loop μ-loop Inv-loop2 μ-loop2
+same-length c = c .before .loop2 .inv .same ∙ c .before .before .before .loop .inv .same
+
+returns : tie.Need-returns Inv-loop μ-loop Inv-loop2 μ-loop2
+returns c = turned-all _ _ _ _ _ (c .before .loop2 .inv) (c .loop2-test .left) ∙ c .before .before .before .loop .inv .rest
 
 pub copy-backward-spec : {M : Type 1} → statement M
 copy-backward-spec =
@@ -77,15 +101,24 @@ copy-backward-spec =
     (tie.spec
     Inv-loop
     μ-loop
-    loop-holds
-    sub-left
-    add-out
-    mul-out
-    shared-slice-copy-out-out
-    mul-t13
-    slice-set-from-out
+    Inv-loop2
+    μ-loop2
     add-k
+    loop-holds
+    sub-k
+    turn-eight-requires
+    add-p
     loop-less
     loop-again
+    loop2-holds
+    sub-k-2
+    mul-out
+    shared-slice-copy-out-out
+    mul-t17
+    slice-set-from-out
+    add-p-2
+    sub-left
+    loop2-less
+    loop2-again
     same-length
     returns)

@@ -1,59 +1,32 @@
-use mathlib.Core.Bool.{false}
-use mathlib.Core.Path.{_≡_, sym, _∙_}
-use Prim.Native.Nat.{ℕ, _+_, _-_, _≤_, _<_}
-use native.Mathlib.Omega.{arith}
-use borrow.Author.Count.{below-none, below-more}
-use borrow.Author.Needs.{needs}
-use Rattle.model.specs.Bitmap.{from}
-use Rattle.model.specs.Column.{elemAt}
-use Rattle.model.specs.Elements.{sameElem}
-use Rattle.rows.specs.Cells.{elemOf}
+use Rattle.column.proofs.OffsetLaws.{back64}
 use Rattle.rows.proofs.utils.before_each.Statement.{statement}
 use Rattle.rows.proofs.utils.before_each.Tie as tie
 
-abbrev Inv-loop : tie.InvT-loop
-Inv-loop values elements estart a n cell r₀ r = (r ≤ n) × ((i : ℕ) → i < r → sameElem (elemAt values (from estart elements) (a + i)) (elemOf cell) ≡ false)
+enum-told : tie.Need-enum-told
+enum-told c = search
 
-abbrev μ-loop : tie.MeasureT-loop
-μ-loop values elements estart a n cell r₀ r = n - r
+before-null-requires : tie.Need-before-null-requires
+before-null-requires c κs = c .before .before .before .pre
 
-loop-holds : tie.Need-loop-holds Inv-loop μ-loop
-loop-holds c = (omega arith, below-none _)
+enum-known-cell : tie.Need-enum-known-cell
+enum-known-cell c = search
 
-add-compare-element-to-list : tie.Need-add-compare-element-to-list Inv-loop μ-loop
-add-compare-element-to-list c = omega (arith, c .before .before .before .pre .inside)
+before-equal-requires : tie.Need-before-equal-requires
+before-equal-requires c κs = c .before .before .before .before .pre
 
-compare-element-to-list-requires : tie.Need-compare-element-to-list-requires Inv-loop μ-loop
-compare-element-to-list-requires c κs = let s = c .before .before .before in (omega (arith, s .pre .inside), s .pre .bits)
+returns : tie.Need-returns
+returns c = rw (c .before .enum-told .given .1) (c .before-null .ensures)
 
-returns : tie.Need-returns Inv-loop μ-loop
-returns c =
-    let l = c .before .before .before .loop in
-    record { inside = l .inv .0; none = l .inv .1; found = λ h. sym (c .before .compare-element-to-list .ensures) ∙ c .if1 .taken }
-
-add-r : tie.Need-add-r Inv-loop μ-loop
-add-r c = search needs
-
-loop-less : tie.Need-loop-less Inv-loop μ-loop
-loop-less c = search needs
-
-loop-again : tie.Need-loop-again Inv-loop μ-loop
-loop-again c = (omega (arith, c .before .before), below-more _ _ (c .before .before .before .loop .inv .1) (sym (c .before .compare-element-to-list .ensures) ∙ c .if1 .left))
-
-returns-2 : tie.Need-returns-2 Inv-loop μ-loop
-returns-2 c = let l = c .before .loop in record { inside = l .inv .0; none = l .inv .1; found = λ h. let z : ⊥ = omega arith in absurd z }
+returns-2 : tie.Need-returns-2
+returns-2 c = let k = c .before in rw (k .before .cell .given .1) (rw (back64 _ (k .known-told .given .0 .1)) at (c .before-equal .ensures))
 
 pub before-each-spec : {M : Type 1} → statement M
 before-each-spec =
     tie.close
     (tie.spec
-    Inv-loop
-    μ-loop
-    loop-holds
-    add-compare-element-to-list
-    compare-element-to-list-requires
+    enum-told
+    before-null-requires
+    enum-known-cell
+    before-equal-requires
     returns
-    add-r
-    loop-less
-    loop-again
     returns-2)

@@ -1,0 +1,2 @@
+pub mod NulledLaws
+pub mod MarkLaws

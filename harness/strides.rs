@@ -14,17 +14,40 @@ const SHORT: i64 = 9;
 /// The length of the long row.
 pub const LONG: i64 = 4000;
 
-/// At and beside both ends of 32 signed bits.
-const ENDS: [i64; 6] = [-2147483649, -2147483648, -2147483647, 2147483646, 2147483647, 2147483648];
+/// At and beside both ends of 32 signed bits, and of an eighth of them.
+const ENDS: [i64; 12] = [
+    -2147483649,
+    -2147483648,
+    -2147483647,
+    -268435457,
+    -268435456,
+    -268435455,
+    268435455,
+    268435456,
+    268435457,
+    2147483646,
+    2147483647,
+    2147483648,
+];
 
 /// The same of 64 signed bits, and the first ones beyond 32.
-const LARGE_ENDS: [i64; 6] =
-    [i64::MIN, i64::MIN + 1, -2147483649, 2147483648, i64::MAX - 1, i64::MAX];
+const LARGE_ENDS: [i64; 10] = [
+    i64::MIN,
+    i64::MIN + 1,
+    i64::MIN / 8 - 1,
+    i64::MIN / 8,
+    -2147483649,
+    2147483648,
+    -(i64::MIN / 8),
+    -(i64::MIN / 8) + 1,
+    i64::MAX - 1,
+    i64::MAX,
+];
 
-fn ends(width: Width) -> [i64; 6] {
+fn ends(width: Width) -> &'static [i64] {
     match width {
-        Width::Narrow => ENDS,
-        Width::Wide => LARGE_ENDS,
+        Width::Narrow => &ENDS,
+        Width::Wide => &LARGE_ENDS,
     }
 }
 
@@ -37,11 +60,12 @@ fn row_of(length: i64) -> Row {
     Some((1..=length).map(|place| (place % 8 != 3).then_some(10 * place)).collect())
 }
 
-/// Strides about a row's length, about its half and about 1, and the ends.
+/// Strides about a row's length, about its half, its eighth and 1, and the ends.
 fn strides_about(length: i64, width: Width) -> Vec<i64> {
-    let half = length / 2;
-    let sizes = [1, 2, 3, half - 1, half, half + 1, length - 1, length, length + 1];
-    sorted(sizes.into_iter().flat_map(|size| [size, -size]).chain([0]).chain(ends(width)))
+    let about = |size: i64| [size - 1, size, size + 1];
+    let sizes = [2, length / 8, length / 2, length].into_iter().flat_map(about);
+    let ends = ends(width).iter().copied();
+    sorted(sizes.flat_map(|size| [size, -size]).chain([0]).chain(ends))
 }
 
 fn sorted(numbers: impl Iterator<Item = i64>) -> Vec<i64> {
@@ -57,7 +81,7 @@ fn short_slices(width: Width) -> Vec<(i64, [i64; 3])> {
     let mut slices = Vec::new();
     for length in 0..=SHORT {
         let bounds = -length - 2..=length + 2;
-        let strides = sorted((-length - 1..=length + 1).chain(ends(width)));
+        let strides = sorted((-length - 1..=length + 1).chain(ends(width).iter().copied()));
         for from in bounds.clone() {
             for to in bounds.clone() {
                 slices.extend(strides.iter().map(|stride| (length, [from, to, *stride])));

@@ -9,7 +9,7 @@ ghost use mathlib.Core.List.{reverse};
 ghost use mathlib.Core.Path.{_≡_};
 
 // Appends the m lowest bits of a byte that has none above them.
-fn push_few(out: &mut [u8], at: usize, bits: u8, m: usize)
+pub fn push_few(out: &mut [u8], at: usize, bits: u8, m: usize)
     requires { ⌜ 0 < m ⌝ }
     requires { ⌜ m ≤ 8 ⌝ }
     requires { ⌜ bits < 2 ^ m ⌝ }

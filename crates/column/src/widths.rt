@@ -31,6 +31,16 @@ pub fn offset_at(width: Width, narrow: &[i32], wide: &[i64], i: usize) -> usize
     }
 }
 
+// The first offset as a count; 0 where there is none.
+pub fn first_offset(width: Width, narrow: &[i32], wide: &[i64]) -> usize
+    ensures { λ r. ⌜ r ≡ offsetAt (entryAt width narrow wide) 0 ⌝ }
+{
+    if pick(width, narrow.len(), wide.len()) == 0 {
+        return 0;
+    }
+    offset_at(width, narrow, wide, 0)
+}
+
 // The number of rows.
 pub fn row_count(width: Width, narrow: &[i32], wide: &[i64]) -> usize
     ensures { λ r. ⌜ r ≡ rowCount (entryAt width narrow wide) ⌝ }

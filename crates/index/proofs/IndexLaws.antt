@@ -3,19 +3,18 @@ use mathlib.Core.Path.{_≡_, refl, sym, ap, _∙_}
 use mathlib.Core.Bool.{true, false}
 use Prim.Native.Nat.{ℕ, zero, suc, _+_, _-_, _^_, _<_}
 use native.Mathlib.Omega.{arith}
-use lib.Dec.{T}
+use lib.Dec.{T, ltb}
 use lib.IntN.{ℤ, pos, negsuc, natAbs, _+ℤ_, _-ℤ_}
 use lib.Signed.{mag, ltZ, leZ, nonNeg}
 use borrow.Author.Tests.{ltb-true, ltb-false, lt-ltb, le-ltb, leb-true, le-leb, lt-leb}
 use mir.Syntax.{Width}
 use mir.Val.{SFits, hbits}
+use Rattle.model.specs.Basics.{pick}
 use Rattle.model.specs.Limits.{Limits}
 use Rattle.model.specs.Column.{count}
-use Rattle.model.specs.Slice.{fits, inRow}
-use Rattle.index.specs.Place.{indexPlace, indexBound, bound}
-use Rattle.index.specs.declared.Bound.{Bound}
-use Rattle.index.specs.declared.Bound.the-variants as B
-use Rattle.index.proofs.SignedLaws.{difference-natural, difference-below-zero, difference-not-below-zero, less-one}
+use Rattle.model.specs.Slice.{fits, inRow, place, outside}
+use Rattle.index.specs.Place.{indexPlace, indexBound, placeIn, placeOr}
+use Rattle.index.proofs.SignedLaws.{difference-cases}
 use Rattle.model.proofs.BoolLaws.{never-true}
 
 -- ---- does it fit
@@ -36,62 +35,58 @@ module _ (L : Limits) (e : L .every ≡ false) where
   unfolding fits
   fits-signed w h z t = let l = leb-true (mag z) (L .offset) (rw e at t) in record { sfits = omega arith }
 
-module _ (L : Limits) where
-  pub answer-unfit : (n : ℕ) (z : ℤ) → fits L z ≡ false → B.Unfit ≡ bound (indexBound L n z)
-  unfolding indexBound bound
-  answer-unfit n z t = rw t
-
-  pub answer-fits : (n : ℕ) (z : ℤ) (r : Bound) → fits L z ≡ true → r ≡ bound (indexPlace n z) → r ≡ bound (indexBound L n z)
-  unfolding indexBound
-  answer-fits n z r t e = rw t e
-
 -- ---- the place of an index that fits
 
-no-places : (z : ℤ) → B.Outside ≡ bound (indexPlace 0 z)
-unfolding indexPlace inRow bound
-no-places (pos zero) = refl
-no-places (pos (suc i)) = rw (le-ltb i 0 (omega arith))
-no-places (negsuc i) = rw (le-ltb i 0 (omega arith))
+pub index-end : (z n : ℤ) → T (nonNeg n) → ltZ z (pos 0) ≡ true → placeIn (count n) (z +ℤ n) ≡ indexPlace (count n) z
+unfolding count placeIn indexPlace inRow
+index-end (pos i) n h t = let l = ltb-true i 0 t in let e : ⊥ = omega arith in absurd e
+index-end (negsuc i) (pos n) h t =
+    difference-cases n (suc i) (λ z. placeIn n z ≡ pick (ltb i n) (place (n - (i + 1))) outside)
+    (λ l. rw (le-ltb i n (omega arith)))
+    (λ l. let e : n - suc i ≡ n - (i + 1) = omega arith in rw (lt-ltb i n (omega arith), lt-ltb (n - suc i) n (omega arith)) (ap place e))
+index-end (negsuc i) (negsuc n) h t = absurd h
 
-pub empty-row : (z n : ℤ) → ltZ n (pos 1) ≡ true → B.Outside ≡ bound (indexPlace (count n) z)
-unfolding count
-empty-row z (pos n) t = let l = ltb-true n 1 t in let e : n ≡ 0 = omega arith in rw e (no-places z)
-empty-row z (negsuc n) t = no-places z
+pub index-start : (z : ℤ) (n : ℕ) → ltZ z (pos 0) ≡ false → placeIn n (z -ℤ pos 1) ≡ indexPlace n z
+unfolding placeIn indexPlace
+index-start (pos zero) n t = refl
+index-start (pos (suc i)) n t =
+    difference-cases (suc i) 1 (λ z. placeIn n z ≡ inRow n i)
+    (λ m. let e : ⊥ = omega arith in absurd e)
+    (λ m. let e : suc i - 1 ≡ i = omega arith in ap (inRow n) e)
+index-start (negsuc i) n t = never-true t
 
-pub before-first : (z n : ℤ) → T (nonNeg n) → ltZ z (pos 0) ≡ true → ltZ (z +ℤ n) (pos 0) ≡ true → B.Outside ≡ bound (indexPlace (count n) z)
-unfolding count indexPlace bound
-before-first (pos i) n h t u = let l = ltb-true i 0 t in let e : ⊥ = omega arith in absurd e
-before-first (negsuc i) (pos n) h t u = let l = difference-below-zero n (suc i) u in rw (le-ltb i n (omega arith))
-before-first (negsuc i) (negsuc n) h t u = absurd h
+-- ---- the place that is answered
 
-pub from-last : (z n : ℤ) → T (nonNeg n) → ltZ z (pos 0) ≡ true → ltZ (z +ℤ n) (pos 0) ≡ false → B.At (natAbs (z +ℤ n)) ≡ bound (indexPlace (count n) z)
-unfolding count indexPlace bound
-from-last (pos i) n h t u = let l = ltb-true i 0 t in let e : ⊥ = omega arith in absurd e
-from-last (negsuc i) (pos n) h t u =
-    let l = difference-not-below-zero n (suc i) u in
-    let e : n - suc i ≡ n - (i + 1) = omega arith in
-    rw (lt-ltb i n (omega arith)) (ap B.At (ap natAbs (difference-natural n (suc i) l) ∙ e))
-from-last (negsuc i) (negsuc n) h t u = absurd h
+module _ (L : Limits) (n : ℕ) (z : ℤ) where
+  pub answer-unfit : fits L z ≡ false → n ≡ placeOr (indexBound L n z) n
+  unfolding indexBound placeOr
+  answer-unfit t = rw t
 
-pub zero-outside : (z : ℤ) (n : ℕ) → ltZ z (pos 0) ≡ false → ltZ z (pos 1) ≡ true → B.Outside ≡ bound (indexPlace n z)
-unfolding indexPlace bound
-zero-outside (pos zero) n t u = refl
-zero-outside (pos (suc i)) n t u = let l = ltb-true (suc i) 1 u in let e : ⊥ = omega arith in absurd e
-zero-outside (negsuc i) n t u = never-true t
+  answer-is : (x : ℤ) → fits L z ≡ true → placeIn n x ≡ indexPlace n z → placeOr (indexBound L n z) n ≡ placeOr (placeIn n x) n
+  unfolding indexBound
+  answer-is x t e = rw (t, e)
 
-one-less : (i : ℕ) → ltZ (pos (suc i)) (pos 1) ≡ false → pos (suc i) -ℤ pos 1 ≡ pos i
-one-less i t = let e : suc i - 1 ≡ i = omega arith in less-one (pos (suc i)) t ∙ ap pos e
+told-before : (x : ℤ) (n : ℕ) → ltZ x (pos 0) ≡ true → n ≡ placeOr (placeIn n x) n
+unfolding placeIn placeOr
+told-before (pos i) n t = let l = ltb-true i 0 t in let e : ⊥ = omega arith in absurd e
+told-before (negsuc i) n t = refl
 
-pub from-first : (z n : ℤ) → ltZ z (pos 1) ≡ false → ltZ (z -ℤ pos 1) n ≡ true → B.At (natAbs (z -ℤ pos 1)) ≡ bound (indexPlace (count n) z)
-unfolding count indexPlace inRow bound
-from-first (pos zero) n t u = never-true t
-from-first (pos (suc i)) (pos n) t u = let l : ltZ (pos i) (pos n) ≡ true = rw (one-less i t) at u in rw (one-less i t, l)
-from-first (pos (suc i)) (negsuc n) t u = let l : ltZ (pos i) (negsuc n) ≡ true = rw (one-less i t) at u in never-true (sym l)
-from-first (negsuc i) n t u = never-true t
+told-inside : (x : ℤ) (n : ℕ) → T (nonNeg x) → ltZ x (pos n) ≡ true → natAbs x ≡ placeOr (placeIn n x) n
+unfolding placeIn placeOr inRow
+told-inside (pos i) n h t = rw t
+told-inside (negsuc i) n h t = absurd h
 
-pub past-last : (z n : ℤ) → T (nonNeg n) → ltZ z (pos 1) ≡ false → ltZ (z -ℤ pos 1) n ≡ false → B.Outside ≡ bound (indexPlace (count n) z)
-unfolding count indexPlace inRow bound
-past-last (pos zero) n h t u = never-true t
-past-last (pos (suc i)) (pos n) h t u = let l : ltZ (pos i) (pos n) ≡ false = rw (one-less i t) at u in rw l
-past-last (pos (suc i)) (negsuc n) h t u = absurd h
-past-last (negsuc i) n h t u = never-true t
+told-past : (x : ℤ) (n : ℕ) → ltZ x (pos n) ≡ false → n ≡ placeOr (placeIn n x) n
+unfolding placeIn placeOr inRow
+told-past (pos i) n t = rw t
+told-past (negsuc i) n t = refl
+
+module _ (L : Limits) (n : ℕ) (z x : ℤ) (f : fits L z ≡ true) (e : placeIn n x ≡ indexPlace n z) where
+  pub answer-before : ltZ x (pos 0) ≡ true → n ≡ placeOr (indexBound L n z) n
+  answer-before t = told-before x n t ∙ sym (answer-is L n z x f e)
+
+  pub answer-inside : T (nonNeg x) → ltZ x (pos n) ≡ true → natAbs x ≡ placeOr (indexBound L n z) n
+  answer-inside h t = told-inside x n h t ∙ sym (answer-is L n z x f e)
+
+  pub answer-past : ltZ x (pos n) ≡ false → n ≡ placeOr (indexBound L n z) n
+  answer-past t = told-past x n t ∙ sym (answer-is L n z x f e)

@@ -4,3 +4,4 @@ pub mod PlaceLaws
 pub mod SliceLaws
 pub mod StepLaws
 pub mod ReadLaws
+pub mod EightLaws

@@ -1,4 +1,4 @@
--- For the caller: what an index takes of a row, that its place is inside, and the bound that an answer tells.
+-- For the caller: what an index takes of a row, and that its place is inside.
 use mathlib.Core.Path.{_≡_, refl}
 use mathlib.Core.Bool.{Bool, true, false}
 use mathlib.Core.List.{List}
@@ -13,10 +13,8 @@ use Rattle.model.specs.Basics.{pick}
 use Rattle.model.specs.Limits.{Limits}
 use Rattle.model.specs.Column.{Elem, nul}
 use Rattle.model.specs.Elements.{elementAt}
-use Rattle.model.specs.Slice as Slice
-use Rattle.model.specs.Slice.{unfit, outside, place, inRow, fits, fromPlace, toPlace, fromBound, toBound}
-use Rattle.index.specs.Place.{indexPlace, indexBound, bound, taken}
-use Rattle.index.specs.declared.Bound.the-variants as B
+use Rattle.model.specs.Slice.{Bound, unfit, outside, place, inRow, fits, toPlace}
+use Rattle.index.specs.Place.{indexPlace, indexBound, placeOr, taken}
 use Rattle.model.proofs.BoolLaws.{never-true}
 
 pub pick-cases : {A : Type 0} (t : Bool) (x y : A) (P : A → Type 0) → (t ≡ true → P x) → (t ≡ false → P y) → P (pick t x y)
@@ -44,7 +42,7 @@ place-taken es (pos (suc i)) =
     (λ t. List·getD-eq-default es nul (ltb-false i (length es) t))
 place-taken es (negsuc i) = pick-same (ltb i (length es)) (place (length es - (i + 1))) outside
   where
-    pick-same : (t : Bool) (a b : Slice.Bound) → pick t (taken a es) (taken b es) ≡ taken (pick t a b) es
+    pick-same : (t : Bool) (a b : Bound) → pick t (taken a es) (taken b es) ≡ taken (pick t a b) es
     pick-same true a b = refl
     pick-same false a b = refl
 
@@ -55,7 +53,7 @@ element-taken L es z h =
 
 -- ---- a place is inside the row
 
-abbrev pub Inside : ℕ → Slice.Bound → Type 0
+abbrev pub Inside : ℕ → Bound → Type 0
 Inside n b = (p : ℕ) → b ≡ place p → p < n
 
 no-place : (n : ℕ) → Inside n outside
@@ -75,50 +73,27 @@ index-inside n (pos (suc i)) = row-inside n i
 index-inside n (negsuc i) =
     pick-cases (ltb i n) (place (n - (i + 1))) outside (Inside n) (λ t. let l = ltb-true i n t in a-place n (n - (i + 1)) (omega arith)) (λ t. no-place n)
 
-to-place-inside : (n : ℕ) (z : ℤ) → Inside n (toPlace n z)
+pub to-place-inside : (n : ℕ) (z : ℤ) → Inside n (toPlace n z)
 unfolding toPlace indexPlace
 to-place-inside n (pos zero) = no-place n
 to-place-inside n (pos (suc i)) = row-inside n (pick (ltb i n) i (n - 1))
 to-place-inside n (negsuc i) = index-inside n (negsuc i)
 
 -- a bound whose number does not fit has no place
-fit-inside : (n : ℕ) (t : Bool) (b : Slice.Bound) → Inside n b → Inside n (pick t b unfit)
+fit-inside : (n : ℕ) (t : Bool) (b : Bound) → Inside n b → Inside n (pick t b unfit)
 fit-inside n true b h = h
 fit-inside n false b h = λ p e. let x : _≡_ {A = ℕ} 0 1 = cc in omega arith
 
-module _ (L : Limits) (n p : ℕ) (z : ℤ) where
-  pub place-inside : indexBound L n z ≡ place p → p < n
-  unfolding indexBound
-  place-inside = fit-inside n (fits L z) (indexPlace n z) (index-inside n z) p
+pub place-inside : (L : Limits) (n p : ℕ) (z : ℤ) → indexBound L n z ≡ place p → p < n
+unfolding indexBound
+place-inside L n p z = fit-inside n (fits L z) (indexPlace n z) (index-inside n z) p
 
-  pub from-inside : fromBound L n z ≡ place p → p < n
-  unfolding fromBound
-  from-inside = fit-inside n (fits L z) (inRow n (fromPlace n z)) (row-inside n (fromPlace n z)) p
+-- the place of a bound, or the length, is at most the length
+inside-most : (n : ℕ) (b : Bound) → Inside n b → placeOr b n ≤ n
+unfolding placeOr
+inside-most n unfit h = omega arith
+inside-most n outside h = omega arith
+inside-most n (place p) h = let l : p < n = h p refl in omega arith
 
-  pub to-inside : toBound L n z ≡ place p → p < n
-  unfolding toBound
-  to-inside = fit-inside n (fits L z) (toPlace n z) (to-place-inside n z) p
-
--- ---- the bound that an answer tells
-
-pub bound-unfit : (b : Slice.Bound) → B.Unfit ≡ bound b → b ≡ unfit
-unfolding bound
-bound-unfit unfit e = refl
-bound-unfit outside e = cc
-bound-unfit (place p) e = cc
-
-pub bound-outside : (b : Slice.Bound) → B.Outside ≡ bound b → b ≡ outside
-unfolding bound
-bound-outside unfit e = cc
-bound-outside outside e = refl
-bound-outside (place p) e = cc
-
-pub bound-at : (b : Slice.Bound) (x : ℕ) → B.At x ≡ bound b → b ≡ place x
-unfolding bound
-bound-at unfit x e = cc
-bound-at outside x e = cc
-bound-at (place p) x e = cc
-
--- the answer x for index z is a place of a row of n elements
-pub index-at : (L : Limits) (n : ℕ) (z : ℤ) (x : ℕ) → B.At x ≡ bound (indexBound L n z) → (indexBound L n z ≡ place x) × (x < n)
-index-at L n z x e = let b = bound-at (indexBound L n z) x e in (b, place-inside L n x z b)
+pub place-most : (L : Limits) (n : ℕ) (z : ℤ) → placeOr (indexBound L n z) n ≤ n
+place-most L n z = inside-most n (indexBound L n z) (λ p e. place-inside L n p z e)

@@ -3,22 +3,20 @@ use mathlib.Core.Path.{_≡_, sym, ap, _∙_}
 use mathlib.Core.Bool.{true, false}
 use Prim.Native.Nat.{ℕ, _+_, _-_, _/_, _^_, _<_, _≤_}
 use native.Mathlib.Omega.{arith}
-use lib.Dec.{T, ltb}
+use lib.Dec.{T}
 use lib.IntN.{ℤ, pos, natAbs, _+ℤ_, _-ℤ_}
 use lib.Signed.{ltZ, leZ, nonNeg}
 use mir.Facts.{toZ-pos}
-use mir.Syntax.{Width, w64}
-use mir.Val.{Fits, SFits, toZ, ofZ, hbits}
+use mir.Syntax.{Width}
+use mir.Val.{SFits, toZ, ofZ, hbits}
 use Rattle.model.specs.Column.{count}
 use Rattle.model.specs.Limits.{Limits}
 use Rattle.model.specs.Slice.{fromPlace, toPlace, against, stepCount}
-use Rattle.index.specs.Place.{indexPlace, bound}
-use Rattle.index.specs.Plan.{IsPlace, Suits, isBelow}
-use Rattle.index.specs.declared.Bound.{Bound}
-use Rattle.index.specs.declared.Bound.the-variants as B
-use Rattle.index.proofs.SignedLaws.{read-back, casts, not-below, sum-fits, less-one-natural, less-one-fits}
-use Rattle.index.proofs.IndexLaws.{empty-row, before-first, from-last, zero-outside, from-first, past-last}
-use Rattle.index.proofs.SliceLaws.{some-positive, from-before-first, from-end, from-zero, from-start, to-past, to-index, against-down, against-up}
+use Rattle.index.specs.Place.{indexPlace, placeIn}
+use Rattle.index.specs.Plan.{IsPlace, Suits, isBelow, placeTold}
+use Rattle.index.proofs.SignedLaws.{read-back, not-below, sum-fits, less-one-fits, less-fits}
+use Rattle.index.proofs.IndexLaws.{index-end, index-start}
+use Rattle.index.proofs.SliceLaws.{some-positive, from-before-first, from-end, from-zero, from-start, to-end, to-past, to-start, against-down, against-up}
 use Rattle.index.proofs.StepLaws.{Stepping, step-begun, step-more, step-done, natural-bits, natural-count, size-down, size-fits, down-fits, down-next, down-last, Turned, turned, Distance, distance-down, distance-up, below-is, some-up, steps-down, steps-up, steps-single, place-fits, place-more}
 
 -- a number as it is read
@@ -31,7 +29,7 @@ module _ (w : Width) (i n : ℤ) (f : SFits w i) (g : SFits w n) where
   pub index-negative : ltZ (read w i) (pos 0) ≡ true → ltZ i (pos 0) ≡ true
   index-negative t = rw (read-back w i f) at t
 
-  pub index-positive : ltZ (read w i) (pos 1) ≡ false → ltZ i (pos 1) ≡ false
+  index-positive : ltZ (read w i) (pos 1) ≡ false → ltZ i (pos 1) ≡ false
   index-positive t = rw (read-back w i f) at t
 
   module _ (h : T (nonNeg n)) (t : ltZ (read w i) (pos 0) ≡ true) where
@@ -41,54 +39,37 @@ module _ (w : Width) (i n : ℤ) (f : SFits w i) (g : SFits w n) where
     pub end-fits : SFits w (read w i +ℤ read w n)
     end-fits = rw (read-back w i f, read-back w n g) small
 
-    pub end-read : read w (read w i +ℤ read w n) ≡ i +ℤ n
+    end-read : read w (read w i +ℤ read w n) ≡ i +ℤ n
     end-read = rw (read-back w i f, read-back w n g) (read-back w _ small)
 
-  module _ (t : ltZ (read w i) (pos 1) ≡ false) where
-    pub less-fits : SFits w (read w i -ℤ pos 1)
-    less-fits = rw (read-back w i f) (less-one-fits w i f (index-positive t))
+    pub index-back : placeIn (count n) (read w (read w i +ℤ read w n)) ≡ indexPlace (count n) i
+    index-back = rw end-read (index-end i n h (index-negative t))
 
-    pub less-read : read w (read w i -ℤ pos 1) ≡ i -ℤ pos 1
-    less-read = rw (read-back w i f) (read-back w _ (less-one-fits w i f (index-positive t)))
+    pub to-back : placeTold (read w (read w i +ℤ read w n)) ≡ toPlace (count n) i
+    to-back = rw end-read (to-end i n h (index-negative t))
 
-  -- the place of an index
-  pub row-natural : ltZ (read w n) (pos 1) ≡ false → T (nonNeg n)
-  row-natural t = not-below n 1 (rw (read-back w n g) at t)
+  module _ (t : ltZ (read w i) (pos 0) ≡ false) where
+    not-negative : ltZ i (pos 0) ≡ false
+    not-negative = rw (read-back w i f) at t
 
-  pub index-none : ltZ (read w n) (pos 1) ≡ true → B.Outside ≡ bound (indexPlace (count n) i)
-  index-none t = empty-row i n (rw (read-back w n g) at t)
+    natural-small : SFits w (i -ℤ pos 1)
+    natural-small = less-fits w i f (not-below i 0 not-negative)
 
-  module _ (l : ltZ (read w n) (pos 1) ≡ false) where
-    module _ (t : ltZ (read w i) (pos 0) ≡ true) where
-      at-end : read w (read w i +ℤ read w n) ≡ i +ℤ n
-      at-end = end-read (row-natural l) t
+    pub natural-fits : SFits w (read w i -ℤ pos 1)
+    natural-fits = rw (read-back w i f) natural-small
 
-      pub index-before : ltZ (read w (read w i +ℤ read w n)) (pos 0) ≡ true → B.Outside ≡ bound (indexPlace (count n) i)
-      index-before u = before-first i n (row-natural l) (index-negative t) (rw at-end at u)
+    natural-read : read w (read w i -ℤ pos 1) ≡ i -ℤ pos 1
+    natural-read = rw (read-back w i f) (read-back w _ natural-small)
 
-      module _ (u : ltZ (read w (read w i +ℤ read w n)) (pos 0) ≡ false) where
-        pub end-casts : T (ltb (hbits w) 64) → T (nonNeg (read w (read w i +ℤ read w n))) × Fits w64 (natAbs (read w (read w i +ℤ read w n)))
-        end-casts b = rw at-end (casts w (i +ℤ n) b (small (row-natural l) t) (not-below (i +ℤ n) 0 (rw at-end at u)))
+    pub index-on : placeIn (count n) (read w (read w i -ℤ pos 1)) ≡ indexPlace (count n) i
+    index-on = rw natural-read (index-start i (count n) not-negative)
 
-        pub index-end : B.At (natAbs (read w (read w i +ℤ read w n))) ≡ bound (indexPlace (count n) i)
-        index-end = rw at-end (from-last i n (row-natural l) (index-negative t) (rw at-end at u))
-
-    pub index-zero : ltZ (read w i) (pos 0) ≡ false → ltZ (read w i) (pos 1) ≡ true → B.Outside ≡ bound (indexPlace (count n) i)
-    index-zero t u = zero-outside i (count n) (rw (read-back w i f) at t) (rw (read-back w i f) at u)
-
-    module _ (t : ltZ (read w i) (pos 1) ≡ false) where
-      pub less-casts : T (ltb (hbits w) 64) → T (nonNeg (read w (read w i -ℤ pos 1))) × Fits w64 (natAbs (read w (read w i -ℤ pos 1)))
-      less-casts b = rw (less-read t) (casts w (i -ℤ pos 1) b (less-one-fits w i f (index-positive t)) (less-one-natural i (index-positive t)))
-
-      pub index-start : ltZ (read w (read w i -ℤ pos 1)) (read w n) ≡ true → B.At (natAbs (read w (read w i -ℤ pos 1))) ≡ bound (indexPlace (count n) i)
-      index-start u = rw (less-read t) (from-first i n (index-positive t) (rw (less-read t, read-back w n g) at u))
-
-      pub index-past : ltZ (read w (read w i -ℤ pos 1)) (read w n) ≡ false → B.Outside ≡ bound (indexPlace (count n) i)
-      index-past u = past-last i n (row-natural l) (index-positive t) (rw (less-read t, read-back w n g) at u)
+    pub to-on : T (nonNeg n) → ltZ (read w n) (read w i) ≡ false → placeTold (read w (read w i -ℤ pos 1)) ≡ toPlace (count n) i
+    to-on h u = rw natural-read (to-start i n h not-negative (rw (read-back w i f, read-back w n g) at u))
 
   -- the place of a from and of a to, in a row with elements
   module _ (s : 0 < count n) where
-    row-some : T (nonNeg n)
+    pub row-some : T (nonNeg n)
     row-some = not-below n 1 (some-positive n s)
 
     module _ (t : ltZ (read w i) (pos 0) ≡ true) where
@@ -104,26 +85,21 @@ module _ (w : Width) (i n : ℤ) (f : SFits w i) (g : SFits w n) where
     pub from-first-place : ltZ (read w i) (pos 0) ≡ false → ltZ (read w i) (pos 1) ≡ true → pos 0 ≡ pos (fromPlace (count n) i)
     from-first-place t u = from-zero i (count n) (rw (read-back w i f) at t) (rw (read-back w i f) at u)
 
-    pub from-less : ltZ (read w i) (pos 1) ≡ false → read w (read w i -ℤ pos 1) ≡ pos (fromPlace (count n) i)
-    from-less t = less-read t ∙ from-start i (count n) (index-positive t)
+    module _ (t : ltZ (read w i) (pos 1) ≡ false) where
+      pub from-less-fits : SFits w (read w i -ℤ pos 1)
+      from-less-fits = rw (read-back w i f) (less-one-fits w i f (index-positive t))
+
+      pub from-less : read w (read w i -ℤ pos 1) ≡ pos (fromPlace (count n) i)
+      from-less = (rw (read-back w i f) (read-back w _ (less-one-fits w i f (index-positive t)))) ∙ from-start i (count n) (index-positive t)
 
     last-small : SFits w (n -ℤ pos 1)
-    last-small = less-one-fits w n g (some-positive n s)
-
-    last-read : read w (read w n -ℤ pos 1) ≡ n -ℤ pos 1
-    last-read = rw (read-back w n g) (read-back w _ last-small)
+    last-small = less-fits w n g row-some
 
     pub last-fits : SFits w (read w n -ℤ pos 1)
     last-fits = rw (read-back w n g) last-small
 
-    pub last-casts : T (ltb (hbits w) 64) → T (nonNeg (read w (read w n -ℤ pos 1))) × Fits w64 (natAbs (read w (read w n -ℤ pos 1)))
-    last-casts b = rw last-read (casts w (n -ℤ pos 1) b last-small (less-one-natural n (some-positive n s)))
-
-    pub to-last : ltZ (read w (read w n -ℤ pos 1)) (read w i) ≡ true → B.At (natAbs (read w (read w n -ℤ pos 1))) ≡ bound (toPlace (count n) i)
-    to-last t = rw last-read (to-past i n s (rw (last-read, read-back w i f) at t))
-
-    pub to-other : ltZ (read w (read w n -ℤ pos 1)) (read w i) ≡ false → (r : Bound) → r ≡ bound (indexPlace (count (read w n)) (read w i)) → r ≡ bound (toPlace (count n) i)
-    to-other t r e = (rw (read-back w i f, read-back w n g) at e) ∙ sym (ap bound (to-index i n s (rw (last-read, read-back w i f) at t)))
+    pub to-last : ltZ (read w n) (read w i) ≡ true → placeTold (read w (read w n -ℤ pos 1)) ≡ toPlace (count n) i
+    to-last t = rw (read-back w n g, read-back w _ last-small) (to-past i n row-some (rw (read-back w i f, read-back w n g) at t))
 
 -- ---- the direction: the places are of w bits, the stride of v
 
@@ -140,7 +116,7 @@ module _ (L : Limits) (w : Width) (h : L .offset < 2 ^ hbits w) (d s : ℤ) (f :
   abbrev pub Counting : ℕ → ℕ → Type 0
   Counting left taken = Stepping (L .offset) (natAbs (read w d)) (natAbs (read w s)) left taken
 
-  pub count-begun : Counting (ofZ w d) 1
+  pub count-begun : Counting (ofZ w d) 0
   count-begun = rw (read-back w d f, read-back w s g, natural-bits w d (p .natural)) (step-begun (L .offset) (natAbs d) (natAbs s) (p .small))
 
   module _ {left taken : ℕ} (c : Counting left taken) where
@@ -148,7 +124,7 @@ module _ (L : Limits) (w : Width) (h : L .offset < 2 ^ hbits w) (d s : ℤ) (f :
     plain = rw (read-back w d f, read-back w s g) at c
 
     left-small : left < L .offset
-    left-small = omega (arith, plain .small, plain .some, plain .within)
+    left-small = omega (arith, plain .small, plain .within)
 
     read-left : toZ w left ≡ pos left
     read-left = toZ-pos w (omega (arith, left-small))
@@ -183,7 +159,7 @@ module _ (L : Limits) (w : Width) (h : L .offset < 2 ^ hbits w) (d s : ℤ) (f :
           rw (read-back w d f, read-left, read-back w s g, next .1, read-taken)
           (step-more (L .offset) (natAbs d) (natAbs s) plain (size-down s b) (next .0))
 
-    pub count-done : leZ (pos 0) (read w (toZ w left +ℤ read w s)) ≡ false → toZ w taken ≡ pos (count d / natAbs s + 1)
+    pub count-done : leZ (pos 0) (read w (toZ w left +ℤ read w s)) ≡ false → toZ w taken ≡ pos (count d / natAbs s)
     count-done t =
         let e = step-done (L .offset) (natAbs d) (natAbs s) plain (down-last s left b (rw read-sum at t)) in
         rw (read-taken, e, natural-count d (p .natural))

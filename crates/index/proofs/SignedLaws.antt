@@ -68,3 +68,8 @@ less-one-natural z t = rw (less-one z t) tt
 
 pub less-one-fits : (w : Width) (z : ℤ) → SFits w z → ltZ z (pos 1) ≡ false → SFits w (z -ℤ pos 1)
 less-one-fits w z f t = rw (less-one z t) (record { sfits = omega (arith, f .sfits) })
+
+-- one less than a number that is not negative
+pub less-fits : (w : Width) (z : ℤ) → SFits w z → T (nonNeg z) → SFits w (z -ℤ pos 1)
+less-fits w (pos i) f h = record { sfits = difference-small i 1 (2 ^ hbits w) (f .sfits) (omega (arith, f .sfits)) }
+less-fits w (negsuc i) f h = absurd h

@@ -1,40 +1,25 @@
 -- What each way through the slice's arithmetic comes to.
 use mathlib.Core.Path.{_≡_, refl, sym, ap, _∙_}
-use mathlib.Core.Bool.{Bool, true, false}
+use mathlib.Core.Bool.{true, false}
 use Prim.Native.Nat.{ℕ, zero, suc, _+_, _-_, _≤_, _<_}
 use native.Mathlib.Omega.{arith}
-use native.Mathlib.Nat.{div-le-self}
 use lib.Dec.{T, ltb}
 use lib.IntN.{ℤ, pos, negsuc, natAbs, _+ℤ_, _-ℤ_}
-use lib.Signed.{ltZ, nonNeg}
-use borrow.Author.Tests.{ltb-true, ltb-false, lt-ltb, le-ltb, eq-eqb, ne-eqb}
+use lib.Signed.{ltZ, leZ, nonNeg}
+use borrow.Author.Tests.{ltb-true, ltb-false, lt-ltb, le-ltb, leb-true, leb-false, eq-eqb, ne-eqb}
 use mir.Syntax.{w64}
 use mir.Val.{SFits, ofZ}
 use Rattle.model.specs.Basics.{pick}
 use Rattle.model.specs.Limits.{Limits}
 use Rattle.model.specs.Column.{count}
-use Rattle.model.specs.Slice as Slice
-use Rattle.model.specs.Slice.{unfit, outside, place, fits, inRow, fromPlace, fromBound, toPlace, toBound, against, isZero, stepCount, strided, between, slicePlan, empty}
-use Rattle.index.specs.Place.{indexPlace, bound}
-use Rattle.index.specs.Plan.{planOf, boundTold, IsPlace, HasPlace, Suits}
-use Rattle.index.specs.declared.Bound.{Bound}
-use Rattle.index.specs.declared.Bound.the-variants as B
+use Rattle.model.specs.Slice.{Bound, unfit, outside, place, fits, inRow, fromPlace, fromBound, toPlace, toBound, against, isZero, stepCount, strided, between, slicePlan, empty, refuse}
+use Rattle.index.specs.Plan.{planOf, placeTold, IsPlace, Suits}
 use Rattle.index.specs.declared.slice.SlicePlan.the-variants as P
-use Rattle.index.proofs.SignedLaws.{difference-natural, difference-below-zero, difference-not-below-zero, less-one}
-use Rattle.index.proofs.PlaceLaws.{pick-cases, from-inside, to-inside, bound-at}
+use Rattle.index.proofs.SignedLaws.{difference-natural, difference-below-zero, difference-not-below-zero, difference-cases, less-one}
+use Rattle.index.proofs.PlaceLaws.{pick-cases, to-place-inside}
 use Rattle.model.proofs.BoolLaws.{never, never-true}
 
 -- ---- the length of the row
-
-pub length-some : (n : ℤ) → ltZ n (pos 1) ≡ false → 0 < count n
-unfolding count
-length-some (pos n) t = ltb-false n 1 t
-length-some (negsuc n) t = never-true t
-
-pub length-none : (n : ℤ) → ltZ n (pos 1) ≡ true → count n ≡ 0
-unfolding count
-length-none (pos n) t = let l = ltb-true n 1 t in omega arith
-length-none (negsuc n) t = refl
 
 pub some-positive : (n : ℤ) → 0 < count n → ltZ n (pos 1) ≡ false
 unfolding count
@@ -67,72 +52,38 @@ unfolding fromPlace
 from-start (pos i) n t = less-one (pos i) t
 from-start (negsuc i) n t = never-true t
 
-pub from-unfit : (L : Limits) (n : ℕ) (z : ℤ) → fits L z ≡ false → B.Unfit ≡ bound (fromBound L n z)
-unfolding fromBound bound
-from-unfit L n z t = rw t
-
-pub from-empty-row : (L : Limits) (n : ℕ) (z : ℤ) → fits L z ≡ true → n ≡ 0 → B.Outside ≡ bound (fromBound L n z)
-unfolding fromBound inRow bound
-from-empty-row L n z t e = rw (t, le-ltb (fromPlace n z) n (omega arith))
-
-pub from-at : (L : Limits) (n z x : ℤ) → fits L z ≡ true → x ≡ pos (fromPlace (count n) z) → ltZ x n ≡ true → B.At (natAbs x) ≡ bound (fromBound L (count n) z)
-unfolding fromBound inRow bound count
-from-at L (pos n) z x t e l = let h : ltb (fromPlace n z) n ≡ true = rw e at l in rw (t, h) (ap B.At (ap natAbs e))
-from-at L (negsuc n) z x t e l = let h : _≡_ {A = Bool} false true = rw e at l in never-true (sym h)
-
-pub from-past : (L : Limits) (n z x : ℤ) → fits L z ≡ true → x ≡ pos (fromPlace (count n) z) → ltZ x n ≡ false → B.Outside ≡ bound (fromBound L (count n) z)
-unfolding fromBound inRow bound count
-from-past L (pos n) z x t e l = let h : ltb (fromPlace n z) n ≡ false = rw e at l in rw (t, h)
-from-past L (negsuc n) z x t e l = rw (t, le-ltb (fromPlace 0 z) 0 (omega arith))
-
 -- ---- to
 
-last-place : (n : ℕ) → 0 < n → pos n -ℤ pos 1 ≡ pos (n - 1)
-last-place n h = difference-natural n 1 h
+pub to-end : (z n : ℤ) → T (nonNeg n) → ltZ z (pos 0) ≡ true → placeTold (z +ℤ n) ≡ toPlace (count n) z
+unfolding count placeTold toPlace
+to-end (pos i) n h t = let l = ltb-true i 0 t in let e : ⊥ = omega arith in absurd e
+to-end (negsuc i) (pos n) h t =
+    difference-cases n (suc i) (λ z. placeTold z ≡ pick (ltb i n) (place (n - (i + 1))) outside)
+    (λ l. rw (le-ltb i n (omega arith)))
+    (λ l. let e : n - suc i ≡ n - (i + 1) = omega arith in rw (lt-ltb i n (omega arith)) (ap place e))
+to-end (negsuc i) (negsuc n) h t = absurd h
 
-clamped : (t : Bool) (i m : ℕ) → (t ≡ true → i ≡ m) → pick t i m ≡ m
-clamped true i m f = f refl
-clamped false i m f = refl
-
-clamped-last : (i n : ℕ) → n - 1 ≤ i → pick (ltb i n) i (n - 1) ≡ n - 1
-clamped-last i n h = clamped (ltb i n) i (n - 1) (λ t. let l = ltb-true i n t in omega arith)
-
-pub to-past : (z n : ℤ) → 0 < count n → ltZ (n -ℤ pos 1) z ≡ true → B.At (natAbs (n -ℤ pos 1)) ≡ bound (toPlace (count n) z)
-unfolding count toPlace inRow bound
-to-past (pos zero) (pos n) h t = let l = ltb-true (n - 1) 0 (rw (last-place n h) at t) in let e : ⊥ = omega arith in absurd e
+pub to-past : (z n : ℤ) → T (nonNeg n) → ltZ n z ≡ true → placeTold (n -ℤ pos 1) ≡ toPlace (count n) z
+unfolding count placeTold toPlace inRow
+to-past (pos zero) (pos n) h t = let l = ltb-true n 0 t in let e : ⊥ = omega arith in absurd e
 to-past (pos (suc i)) (pos n) h t =
-    let l = ltb-true (n - 1) (suc i) (rw (last-place n h) at t) in
-    rw (clamped-last i n (omega arith), lt-ltb (n - 1) n (omega arith)) (ap B.At (ap natAbs (last-place n h)))
-to-past (negsuc i) (pos n) h t = let u : ltZ (pos (n - 1)) (negsuc i) ≡ true = rw (last-place n h) at t in never-true (sym u)
-to-past z (negsuc n) h t = let e : ⊥ = omega arith in absurd e
+    let l = ltb-true n (suc i) t in
+    rw (le-ltb i n (omega arith))
+    (difference-cases n 1 (λ z. placeTold z ≡ pick (ltb (n - 1) n) (place (n - 1)) outside)
+    (λ m. rw (le-ltb (n - 1) n (omega arith)))
+    (λ m. rw (lt-ltb (n - 1) n (omega arith))))
+to-past (negsuc i) (pos n) h t = never-true (sym t)
+to-past z (negsuc n) h t = absurd h
 
-pub to-index : (z n : ℤ) → 0 < count n → ltZ (n -ℤ pos 1) z ≡ false → toPlace (count n) z ≡ indexPlace (count n) z
-unfolding count toPlace indexPlace inRow
-to-index (pos zero) n h t = refl
-to-index (pos (suc i)) (pos n) h t =
-    let l = ltb-false (n - 1) (suc i) (rw (last-place n h) at t) in
-    let e : ltb i n ≡ true = lt-ltb i n (omega arith) in
-    rw (e, e)
-to-index (pos (suc i)) (negsuc n) h t = let e : ⊥ = omega arith in absurd e
-to-index (negsuc i) n h t = refl
-
-pub to-unfit : (L : Limits) (n : ℕ) (z : ℤ) → fits L z ≡ false → B.Unfit ≡ bound (toBound L n z)
-unfolding toBound bound
-to-unfit L n z t = rw t
-
-no-place-to : (z : ℤ) → B.Outside ≡ bound (toPlace 0 z)
-unfolding toPlace inRow bound
-no-place-to (pos zero) = refl
-no-place-to (pos (suc i)) = rw (le-ltb i 0 (omega arith))
-no-place-to (negsuc i) = rw (le-ltb i 0 (omega arith))
-
-pub to-empty-row : (L : Limits) (n : ℕ) (z : ℤ) → fits L z ≡ true → n ≡ 0 → B.Outside ≡ bound (toBound L n z)
-unfolding toBound
-to-empty-row L n z t e = rw (t, e) (no-place-to z)
-
-pub to-fits : (L : Limits) (n : ℕ) (z : ℤ) (r : Bound) → fits L z ≡ true → r ≡ bound (toPlace n z) → r ≡ bound (toBound L n z)
-unfolding toBound
-to-fits L n z r t e = rw t e
+pub to-start : (z n : ℤ) → T (nonNeg n) → ltZ z (pos 0) ≡ false → ltZ n z ≡ false → placeTold (z -ℤ pos 1) ≡ toPlace (count n) z
+unfolding count placeTold toPlace inRow
+to-start (pos zero) (pos n) h t u = refl
+to-start (pos (suc i)) (pos n) h t u =
+    let l = ltb-false n (suc i) u in
+    let b : ltb i n ≡ true = lt-ltb i n (omega arith) in
+    rw (b, b) (difference-cases (suc i) 1 (λ z. placeTold z ≡ place i) (λ m. let e : ⊥ = omega arith in absurd e) (λ m. let e : suc i - 1 ≡ i = omega arith in ap place e))
+to-start (pos i) (negsuc n) h t u = absurd h
+to-start (negsuc i) n h t u = never-true t
 
 -- ---- the stride
 
@@ -160,14 +111,6 @@ against-up L (pos a) (pos b) (pos k) p q t = refl
 against-up L (pos a) (negsuc b) (pos k) p q t = absurd (q .natural)
 against-up L (negsuc a) b (pos k) p q t = absurd (p .natural)
 
--- ---- the number of places
-
--- between two places of a row of n elements
-pub steps-few : (n a b : ℕ) (s : ℤ) → a < n → b < n → (0 < stepCount a b s) × (stepCount a b s ≤ n)
-unfolding stepCount
-steps-few n a b (pos k) h l = let d = div-le-self (b - a) k in (omega arith, omega arith)
-steps-few n a b (negsuc k) h l = let d = div-le-self (a - b) (k + 1) in (omega arith, omega arith)
-
 -- ---- the plan between two places
 
 module _ (L : Limits) (a b : ℕ) (s : ℤ) where
@@ -188,29 +131,7 @@ unfolding strided planOf count
 stride-steps L (pos a) b s h f = rw (h .some, h .direction, f)
 stride-steps L (negsuc a) b s h f = absurd (h .from .natural)
 
--- ---- the plan between two bounds
-
--- what a match finds the bounds to be
-pub between-found : (L : Limits) (f t x y : Bound) (s : ℤ) → f ≡ x → t ≡ y → planOf (between L (boundTold x) (boundTold y) s) ≡ planOf (between L (boundTold f) (boundTold t) s)
-between-found L f t x y s p q = rw (p, q)
-
-told-bound : (b : Slice.Bound) → boundTold (bound b) ≡ b
-unfolding boundTold bound count
-told-bound unfit = refl
-told-bound outside = refl
-told-bound (place p) = refl
-
-pub plan-told : (L : Limits) (n : ℕ) (f t s : ℤ) (x y : Bound) → 0 < n → x ≡ bound (fromBound L n f) → y ≡ bound (toBound L n t)
-    → planOf (between L (boundTold x) (boundTold y) s) ≡ planOf (slicePlan L n f t s)
-unfolding slicePlan
-plan-told L n f t s x y h p q =
-    rw (ne-eqb n 0 (λ e. omega arith), p, q, told-bound (fromBound L n f), told-bound (toBound L n t))
-
-pub plan-empty-row : (L : Limits) (n : ℕ) (f t s : ℤ) → n ≡ 0 → P.Empty ≡ planOf (slicePlan L n f t s)
-unfolding slicePlan planOf
-plan-empty-row L n f t s e = rw (eq-eqb n 0 e)
-
--- ---- where the bounds fit: a bound that is no place is outside the row, and gives empty
+-- ---- the plan of a row of n elements
 
 row-fits : (n p : ℕ) → inRow n p ≡ unfit → ⊥
 unfolding inRow
@@ -222,45 +143,77 @@ to-place-fits n (pos zero) e = never cc
 to-place-fits n (pos (suc i)) e = row-fits n (pick (ltb i n) i (n - 1)) e
 to-place-fits n (negsuc i) e = pick-cases (ltb i n) (place (n - (i + 1))) outside (λ b. b ≡ unfit → ⊥) (λ t d. never cc) (λ t d. never cc) e
 
-no-place : (b : Slice.Bound) (x : Bound) → (b ≡ unfit → ⊥) → x ≡ bound b → ((p : ℕ) → x ≡ B.At p → ⊥) → b ≡ outside
-unfolding bound
-no-place unfit x u e h = absurd (u refl)
-no-place outside x u e h = refl
-no-place (place p) x u e h = absurd (h p e)
-
-before-outside : (L : Limits) (b : Slice.Bound) (s : ℤ) → (b ≡ unfit → ⊥) → between L outside b s ≡ empty
+-- a bound outside the row gives empty, where the other one fits
+before-outside : (L : Limits) (b : Bound) (s : ℤ) → (b ≡ unfit → ⊥) → between L outside b s ≡ empty
 unfolding between
 before-outside L unfit s u = absurd (u refl)
 before-outside L outside s u = refl
 before-outside L (place p) s u = refl
 
-module _ (L : Limits) (n : ℕ) (f t s : ℤ) (h : 0 < n) (p : fits L f ≡ true) (q : fits L t ≡ true) (x y : Bound) (d : x ≡ bound (fromBound L n f)) (e : y ≡ bound (toBound L n t)) where
-  from-fitting : fromBound L n f ≡ unfit → ⊥
-  unfolding fromBound
-  from-fitting = rw p (row-fits n (fromPlace n f))
+after-outside : (L : Limits) (b : Bound) (s : ℤ) → (b ≡ unfit → ⊥) → between L b outside s ≡ empty
+unfolding between
+after-outside L unfit s u = absurd (u refl)
+after-outside L outside s u = refl
+after-outside L (place p) s u = refl
 
-  to-fitting : toBound L n t ≡ unfit → ⊥
-  unfolding toBound
-  to-fitting = rw q (to-place-fits n t)
+before-unfit : (L : Limits) (b : Bound) (s : ℤ) → between L b unfit s ≡ refuse 4
+unfolding between
+before-unfit L unfit s = refl
+before-unfit L outside s = refl
+before-unfit L (place p) s = refl
 
-  pub plan-from-outside : ((i : ℕ) → x ≡ B.At i → ⊥) → P.Empty ≡ planOf (slicePlan L n f t s)
+told-below : (z : ℤ) → ltZ z (pos 0) ≡ true → placeTold z ≡ outside
+unfolding placeTold
+told-below (pos i) t = let l = ltb-true i 0 t in let e : ⊥ = omega arith in absurd e
+told-below (negsuc i) t = refl
+
+told-natural : (z : ℤ) → T (nonNeg z) → placeTold z ≡ place (count z)
+unfolding placeTold count
+told-natural (pos i) h = refl
+told-natural (negsuc i) h = absurd h
+
+module _ (L : Limits) (n : ℕ) (f t s : ℤ) where
+  pub plan-empty-row : n ≡ 0 → P.Empty ≡ planOf (slicePlan L n f t s)
   unfolding slicePlan planOf
-  plan-from-outside o = rw (ne-eqb n 0 (λ z. omega arith), no-place (fromBound L n f) x from-fitting d o, before-outside L (toBound L n t) s to-fitting)
+  plan-empty-row e = rw (eq-eqb n 0 e)
 
-  module _ (a : ℕ) (v : x ≡ B.At a) where
-    first : fromBound L n f ≡ place a
-    first = bound-at (fromBound L n f) a (sym v ∙ d)
+  module _ (h : 0 < n) where
+    pub plan-from-unfit : fits L f ≡ false → P.Refused 4 ≡ planOf (slicePlan L n f t s)
+    unfolding slicePlan fromBound between planOf
+    plan-from-unfit e = rw (ne-eqb n 0 (λ z. omega arith), e)
 
-    pub plan-to-outside : ((i : ℕ) → y ≡ B.At i → ⊥) → P.Empty ≡ planOf (slicePlan L n f t s)
-    unfolding slicePlan planOf between
-    plan-to-outside o = rw (ne-eqb n 0 (λ z. omega arith), first, no-place (toBound L n t) y to-fitting e o)
+    pub plan-to-unfit : fits L t ≡ false → P.Refused 4 ≡ planOf (slicePlan L n f t s)
+    unfolding slicePlan toBound planOf
+    plan-to-unfit e = rw (ne-eqb n 0 (λ z. omega arith), e, before-unfit L (fromBound L n f) s)
 
-    pub plan-strided : (b : ℕ) → y ≡ B.At b → planOf (strided L a b s) ≡ planOf (slicePlan L n f t s)
-    unfolding slicePlan between
-    plan-strided b w = rw (ne-eqb n 0 (λ z. omega arith), first, bound-at (toBound L n t) b (sym w ∙ e))
+    -- both bounds fit: the places that the code found for them
+    module _ (p : fits L f ≡ true) (q : fits L t ≡ true) (x y : ℤ) (d : x ≡ pos (fromPlace n f)) (e : placeTold y ≡ toPlace n t) where
+      fitting : slicePlan L n f t s ≡ between L (inRow n (fromPlace n f)) (toPlace n t) s
+      unfolding slicePlan fromBound toBound
+      fitting = rw (ne-eqb n 0 (λ z. omega arith), p, q)
 
-pub from-within : (L : Limits) (n : ℕ) (z : ℤ) (r : Bound) → n ≤ L .offset → r ≡ bound (fromBound L n z) → HasPlace L r
-from-within L n z r f e p h = let l = from-inside L n p z (bound-at (fromBound L n z) p (sym h ∙ e)) in omega arith
+      pub plan-from-past : leZ (pos n) x ≡ true → P.Empty ≡ planOf (slicePlan L n f t s)
+      unfolding inRow planOf
+      plan-from-past u =
+          let l = leb-true n (fromPlace n f) (rw d at u) in
+          rw (fitting, le-ltb (fromPlace n f) n l, before-outside L (toPlace n t) s (to-place-fits n t))
 
-pub to-within : (L : Limits) (n : ℕ) (z : ℤ) (r : Bound) → n ≤ L .offset → r ≡ bound (toBound L n z) → HasPlace L r
-to-within L n z r f e p h = let l = to-inside L n p z (bound-at (toBound L n z) p (sym h ∙ e)) in omega arith
+      pub plan-to-before : ltZ y (pos 0) ≡ true → P.Empty ≡ planOf (slicePlan L n f t s)
+      unfolding planOf
+      plan-to-before u = rw (fitting, ← e, told-below y u, after-outside L (inRow n (fromPlace n f)) s (row-fits n (fromPlace n f)))
+
+      pub plan-between : leZ (pos n) x ≡ false → T (nonNeg y) → planOf (strided L (count x) (count y) s) ≡ planOf (slicePlan L n f t s)
+      unfolding inRow between count
+      plan-between u v =
+          let l = leb-false n (fromPlace n f) (rw d at u) in
+          rw (fitting, lt-ltb (fromPlace n f) n l, ← e, told-natural y v, d)
+
+-- ---- both places are places of the longest row
+
+pub first-placed : (L : Limits) (n p : ℕ) (x : ℤ) → n ≤ L .offset → x ≡ pos p → leZ (pos n) x ≡ false → IsPlace L x
+first-placed L n p x h d u = let l = leb-false n p (rw d at u) in rw d (record { natural = tt; small = omega arith })
+
+pub last-placed : (L : Limits) (n : ℕ) (t y : ℤ) → n ≤ L .offset → placeTold y ≡ toPlace n t → T (nonNeg y) → IsPlace L y
+unfolding placeTold
+last-placed L n t (pos b) h e v = let l = to-place-inside n t b (sym e) in record { natural = tt; small = omega arith }
+last-placed L n t (negsuc b) h e v = absurd v

@@ -20,21 +20,20 @@ use Rattle.index.proofs.SignedLaws.{difference-of, difference-natural, 
 -- of a distance d below most, left is still to go and steps are counted, by strides of this size
 pub record Stepping (most d size left steps : ℕ) : Type 0 where
   pub small : d < most
-  pub some : 0 < steps
-  pub within : left + steps ≤ d + 1
-  pub counted : left / size + steps ≡ d / size + 1
+  pub within : left + steps ≤ d
+  pub counted : left / size + steps ≡ d / size
 
 module _ (most d size : ℕ) where
-  pub step-begun : d < most → Stepping most d size d 1
-  step-begun h = record { small = h; some = omega arith; within = omega arith; counted = refl }
+  pub step-begun : d < most → Stepping most d size d 0
+  step-begun h = record { small = h; within = omega arith; counted = omega arith }
 
   module _ {left steps : ℕ} (s : Stepping most d size left steps) where
     pub step-more : 0 < size → size ≤ left → Stepping most d size (left - size) (steps + 1)
     step-more z h =
         let e = div-eq-sub-div {m = size} {n = left} z h in
-        record { small = s .small; some = omega arith; within = omega (arith, s .within); counted = omega (arith, e, s .counted) }
+        record { small = s .small; within = omega (arith, s .within); counted = omega (arith, e, s .counted) }
 
-    pub step-done : left < size → steps ≡ d / size + 1
+    pub step-done : left < size → steps ≡ d / size
     step-done h = let e = div-eq-of-lt {n = left} {m = size} h in omega (arith, e, s .counted)
 
 -- ---- a stride, and what is left as a signed number

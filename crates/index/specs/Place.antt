@@ -7,28 +7,30 @@ use lib.ListN.{getD}
 use Rattle.model.specs.Basics.{pick}
 use Rattle.model.specs.Limits.{Limits}
 use Rattle.model.specs.Column.{Elem, nul}
-use Rattle.model.specs.Slice as Slice
-use Rattle.model.specs.Slice.{unfit, outside, place, inRow, fits}
-use Rattle.index.specs.declared.Bound.{Bound}
-use Rattle.index.specs.declared.Bound.the-variants as B
+use Rattle.model.specs.Slice.{Bound, unfit, outside, place, inRow, fits}
 
 -- in a row of n elements, "1 is first, −1 last; 0 or outside gives null"
-unfoldable pub indexPlace : ℕ → ℤ → Slice.Bound
+unfoldable pub indexPlace : ℕ → ℤ → Bound
 indexPlace n (pos zero) = outside
 indexPlace n (pos (suc i)) = inRow n i
 indexPlace n (negsuc i) = pick (ltb i n) (place (n - (i + 1))) outside
 
-unfoldable pub indexBound : Limits → ℕ → ℤ → Slice.Bound
+unfoldable pub indexBound : Limits → ℕ → ℤ → Bound
 indexBound L n z = pick (fits L z) (indexPlace n z) unfit
 
--- the bound as the code answers it
-unfoldable pub bound : Slice.Bound → Bound
-bound unfit = B.Unfit
-bound outside = B.Outside
-bound (place p) = B.At p
+-- the bound that a signed number tells in a row of n elements
+unfoldable pub placeIn : ℕ → ℤ → Bound
+placeIn n (pos p) = inRow n p
+placeIn n (negsuc p) = outside
+
+-- the place of a bound, or n where it has none
+unfoldable pub placeOr : Bound → ℕ → ℕ
+placeOr unfit n = n
+placeOr outside n = n
+placeOr (place p) n = p
 
 -- the element that a bound takes of a row
-unfoldable pub taken : Slice.Bound → List Elem → Elem
+unfoldable pub taken : Bound → List Elem → Elem
 taken unfit es = nul
 taken outside es = nul
 taken (place p) es = getD es p nul

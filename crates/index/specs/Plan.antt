@@ -1,5 +1,5 @@
--- The plan of a slice and its stride as the code has them, and what the code's inner functions ask. Document 01, "Slice:".
-use Prim.Native.Nat.{ℕ, _<_}
+-- The plan of a slice and its stride as the code has them, and what the code's inner functions ask and tell. Document 01, "Slice:".
+use Prim.Native.Nat.{_<_}
 use mathlib.Core.Bool.{Bool, true, false}
 use mathlib.Core.Path.{_≡_}
 use lib.Dec.{T}
@@ -7,17 +7,14 @@ use lib.IntN.{ℤ, pos, negsuc, natAbs}
 use lib.Signed.{nonNeg}
 use Rattle.model.specs.Limits.{Limits}
 use Rattle.model.specs.Column.{count}
-use Rattle.model.specs.Slice as Slice
-use Rattle.model.specs.Slice.{unfit, outside, place, refuse, empty, places, against, isZero}
-use Rattle.index.specs.declared.Bound.{Bound}
-use Rattle.index.specs.declared.Bound.the-variants as B
+use Rattle.model.specs.Slice.{Bound, outside, place, Plan, refuse, empty, places, against, isZero}
 use Rattle.index.specs.declared.slice.SlicePlan.{SlicePlan}
 use Rattle.index.specs.declared.slice.SlicePlan.the-variants as P
 use Rattle.index.specs.declared.slice.Stride.{Stride}
 use Rattle.index.specs.declared.slice.Stride.the-variants as S
 
 -- the plan as the code answers it
-unfoldable pub planOf : Slice.Plan → SlicePlan
+unfoldable pub planOf : Plan → SlicePlan
 planOf (refuse k) = P.Refused k
 planOf empty = P.Empty
 planOf (places a s n) = P.Steps a s n
@@ -27,20 +24,15 @@ unfoldable pub strideIn : Stride → ℤ
 strideIn S.Absent = pos 1
 strideIn (S.By s) = s
 
--- the bound that the code's answer tells
-unfoldable pub boundTold : Bound → Slice.Bound
-boundTold B.Unfit = unfit
-boundTold B.Outside = outside
-boundTold (B.At p) = place p
+-- the bound that a signed number tells: below 0 it is outside the row
+unfoldable pub placeTold : ℤ → Bound
+placeTold (pos p) = place p
+placeTold (negsuc p) = outside
 
 -- a place of the longest row, as a signed number
 pub record IsPlace (L : Limits) (x : ℤ) : Type 0 where
   pub natural : T (nonNeg x)
   pub small : natAbs x < L .offset
-
--- a bound whose place, where it has one, is such a place
-abbrev pub HasPlace : Limits → Bound → Type 0
-HasPlace L b = (p : ℕ) → b ≡ B.At p → p < L .offset
 
 -- a number below 0
 unfoldable pub isBelow : ℤ → Bool

@@ -3,18 +3,13 @@
 pub mod slice;
 
 ghost use Prim.Native.Nat.{_≤_};
-ghost use Rattle.index.specs.Place.{bound, indexBound, indexPlace};
+ghost use Rattle.index.specs.Place.{indexBound, indexPlace, placeIn, placeOr};
 ghost use Rattle.model.specs.Column.{count};
 ghost use Rattle.model.specs.Limits.{narrow};
 ghost use Rattle.model.specs.Slice.{fits};
+ghost use lib.Dec.{T};
+ghost use lib.Signed.{nonNeg};
 ghost use mathlib.Core.Path.{_≡_};
-
-// An index that does not fit 32 signed bits, one outside the row, or the place counted from 0.
-pub enum Bound {
-    Unfit,
-    Outside,
-    At(usize),
-}
 
 pub fn fits_i32(x: i64) -> bool
     ensures { λ r. ⌜ r ≡ fits narrow x ⌝ }
@@ -25,37 +20,32 @@ pub fn fits_i32(x: i64) -> bool
     x <= 2147483647
 }
 
-// The place of an index that fits.
-fn index_place(index: i32, len: i32) -> Bound
-    ensures { λ r. ⌜ r ≡ bound (indexPlace (count len) index) ⌝ }
+// The place of an index that fits, below 0 or at least len where it is outside the row.
+fn index_place(index: i32, len: i32) -> i32
+    requires { ⌜ T (nonNeg len) ⌝ }
+    ensures { λ r. ⌜ placeIn (count len) r ≡ indexPlace (count len) index ⌝ }
 {
-    if len < 1 {
-        return Bound::Outside;
-    }
     if index < 0 {
-        let at = index + len;
-        if at < 0 {
-            return Bound::Outside;
-        }
-        return Bound::At(at as usize);
+        return index + len;
     }
-    if index < 1 {
-        return Bound::Outside;
-    }
-    let at = index - 1;
-    if at < len {
-        return Bound::At(at as usize);
-    }
-    Bound::Outside
+    index - 1
 }
 
-// 1 is the first place and -1 the last.
-pub fn adjusted_array_index(index: i64, len: usize) -> Bound
+// The place that an index points at, 1 the first and -1 the last, or len where it is outside the row or does not fit.
+pub fn adjusted_array_index(index: i64, len: usize) -> usize
     requires { ⌜ len ≤ narrow .offset ⌝ }
-    ensures { λ r. ⌜ r ≡ bound (indexBound narrow len index) ⌝ }
+    ensures { λ r. ⌜ r ≡ placeOr (indexBound narrow len index) len ⌝ }
 {
     if !fits_i32(index) {
-        return Bound::Unfit;
+        return len;
     }
-    index_place(index as i32, len as i32)
+    let n = len as i32;
+    let at = index_place(index as i32, n);
+    if at < 0 {
+        return len;
+    }
+    if at < n {
+        return at as usize;
+    }
+    len
 }

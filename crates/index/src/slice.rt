@@ -1,12 +1,10 @@
 // The places that a slice takes of a row, by signed 32-bit arithmetic.
 // After extract.rs of datafusion-functions-nested 55.2.0, Apache License 2.0, Apache Software Foundation; changed, see NOTICE.
-use crate::Bound;
 ghost use Prim.Native.Nat.{_+_, _/_, _<_, _≤_};
-ghost use Rattle.index.specs.Place.{bound};
-ghost use Rattle.index.specs.Plan.{IsPlace, Suits, HasPlace, isBelow, planOf, strideIn, boundTold};
+ghost use Rattle.index.specs.Plan.{IsPlace, Suits, isBelow, placeTold, planOf, strideIn};
 ghost use Rattle.model.specs.Column.{count};
 ghost use Rattle.model.specs.Limits.{narrow};
-ghost use Rattle.model.specs.Slice.{against, between, fromBound, fromPlace, slicePlan, stepCount, strided, toBound, toPlace};
+ghost use Rattle.model.specs.Slice.{against, fromPlace, slicePlan, stepCount, strided, toPlace};
 ghost use lib.IntN.{natAbs, pos};
 ghost use mathlib.Core.Bool.{true};
 ghost use mathlib.Core.Path.{_≡_};
@@ -27,8 +25,8 @@ pub enum Stride {
     By(i64),
 }
 
-// The place of a from, which may still be past the end.
-fn from_place(index: i32, len: i32) -> i32
+// The place of a from, which may still be past the end: from 0 or 1 is the first place, and so is a from below minus the length.
+fn adjusted_from_index(index: i32, len: i32) -> i32
     requires { ⌜ 0 < count len ⌝ }
     ensures { λ r. ⌜ r ≡ pos (fromPlace (count len) index) ⌝ }
 {
@@ -45,46 +43,18 @@ fn from_place(index: i32, len: i32) -> i32
     index - 1
 }
 
-// A to past the end is the last place; any other counts as an index does.
-fn to_place(index: i32, len: i32) -> Bound
+// The place of a to, below 0 where it is outside the row: a to past the end is the last place, and so is -1.
+fn adjusted_to_index(index: i32, len: i32) -> i32
     requires { ⌜ 0 < count len ⌝ }
-    ensures { λ r. ⌜ r ≡ bound (toPlace (count len) index) ⌝ }
+    ensures { λ r. ⌜ placeTold r ≡ toPlace (count len) index ⌝ }
 {
-    let last = len - 1;
-    if last < index {
-        return Bound::At(last as usize);
+    if index < 0 {
+        return index + len;
     }
-    crate::index_place(index, len)
-}
-
-// From 0 or 1 is the first place, and so is a from below minus the length.
-pub fn adjusted_from_index(index: i64, len: i32) -> Bound
-    ensures { λ r. ⌜ r ≡ bound (fromBound narrow (count len) index) ⌝ }
-{
-    if !crate::fits_i32(index) {
-        return Bound::Unfit;
+    if len < index {
+        return len - 1;
     }
-    if len < 1 {
-        return Bound::Outside;
-    }
-    let at = from_place(index as i32, len);
-    if at < len {
-        return Bound::At(at as usize);
-    }
-    Bound::Outside
-}
-
-// To -1 is the last place, included.
-pub fn adjusted_to_index(index: i64, len: i32) -> Bound
-    ensures { λ r. ⌜ r ≡ bound (toBound narrow (count len) index) ⌝ }
-{
-    if !crate::fits_i32(index) {
-        return Bound::Unfit;
-    }
-    if len < 1 {
-        return Bound::Outside;
-    }
-    to_place(index as i32, len)
+    index - 1
 }
 
 // Whether the stride leads away from to.
@@ -99,20 +69,37 @@ fn is_against(from: i32, to: i32, stride: i64) -> bool
     to < from
 }
 
-// One more than the steps that a distance holds, by a stride below 0: what is left falls by each of them, and its sum with the stride
-// stays in range, where the stride's size might not.
-fn count_down(distance: i32, stride: i32) -> i32
+// The steps that a distance holds, by a stride below 0: what is left falls by each of them, and its sum with the stride stays in range,
+// where the stride's size might not.
+fn steps_of(distance: i32, stride: i32) -> i32
     requires { ⌜ IsPlace narrow distance ⌝ }
     requires { ⌜ isBelow stride ≡ true ⌝ }
-    ensures { λ r. ⌜ r ≡ pos (count distance / natAbs stride + 1) ⌝ }
+    ensures { λ r. ⌜ r ≡ pos (count distance / natAbs stride) ⌝ }
 {
     let mut left = distance;
-    let mut taken: i32 = 1;
+    let mut taken: i32 = 0;
     while 0 <= left + stride {
         left += stride;
         taken += 1;
     }
     taken
+}
+
+// One more than the steps that a distance holds, by a stride below 0: eight strides at once where they stay in range, then one by one
+// over the rest.
+fn count_down(distance: i32, stride: i32) -> i32
+    requires { ⌜ IsPlace narrow distance ⌝ }
+    requires { ⌜ isBelow stride ≡ true ⌝ }
+    ensures { λ r. ⌜ r ≡ pos (count distance / natAbs stride + 1) ⌝ }
+{
+    if stride < -268435456 {
+        return steps_of(distance, stride) + 1;
+    }
+    let eight = stride * 8;
+    let many = steps_of(distance, eight);
+    let rest = distance + many * eight;
+    let few = steps_of(rest, stride);
+    many * 8 + few + 1
 }
 
 // How many places there are from from by stride, to included: one by one there are as many as the distance and one; else they are
@@ -154,27 +141,6 @@ fn plan_steps(from: i32, to: i32, stride: i64) -> SlicePlan
     }
 }
 
-// The plan between two bounds.
-fn plan_between(from: Bound, to: Bound, stride: i64) -> SlicePlan
-    requires { ⌜ HasPlace narrow from ⌝ }
-    requires { ⌜ HasPlace narrow to ⌝ }
-    ensures { λ r. ⌜ r ≡ planOf (between narrow (boundTold from) (boundTold to) stride) ⌝ }
-{
-    match from {
-        Bound::Unfit => SlicePlan::Refused(4),
-        Bound::Outside => match to {
-            Bound::Unfit => SlicePlan::Refused(4),
-            Bound::Outside => SlicePlan::Empty,
-            Bound::At(_) => SlicePlan::Empty,
-        },
-        Bound::At(first) => match to {
-            Bound::Unfit => SlicePlan::Refused(4),
-            Bound::Outside => SlicePlan::Empty,
-            Bound::At(last) => plan_steps(first as i32, last as i32, stride),
-        },
-    }
-}
-
 // An absent stride is 1.
 pub fn stride_of(stride: Stride) -> i64
     ensures { λ r. ⌜ r ≡ strideIn stride ⌝ }
@@ -193,8 +159,20 @@ pub fn compute_slice_plan(len: usize, from: i64, to: i64, stride: Stride) -> Sli
     if len == 0 {
         return SlicePlan::Empty;
     }
+    if !crate::fits_i32(from) {
+        return SlicePlan::Refused(4);
+    }
+    if !crate::fits_i32(to) {
+        return SlicePlan::Refused(4);
+    }
     let n = len as i32;
-    let first = adjusted_from_index(from, n);
-    let last = adjusted_to_index(to, n);
-    plan_between(first, last, stride_of(stride))
+    let first = adjusted_from_index(from as i32, n);
+    let last = adjusted_to_index(to as i32, n);
+    if n <= first {
+        return SlicePlan::Empty;
+    }
+    if last < 0 {
+        return SlicePlan::Empty;
+    }
+    plan_steps(first, last, stride_of(stride))
 }

@@ -2,41 +2,37 @@
 // After extract.rs of datafusion-functions-nested 55.2.0, Apache License 2.0, Apache Software Foundation; changed, see NOTICE.
 pub mod slice;
 
-use index::Bound;
 ghost use Prim.Native.Nat.{_≤_};
-ghost use Rattle.index.specs.Place.{bound, indexBound, indexPlace};
+ghost use Rattle.index.specs.Place.{indexBound, indexPlace, placeIn, placeOr};
 ghost use Rattle.model.specs.Column.{count};
 ghost use Rattle.model.specs.Limits.{wide};
+ghost use lib.Dec.{T};
+ghost use lib.Signed.{nonNeg};
 ghost use mathlib.Core.Path.{_≡_};
 
-// The place of an index.
-fn index_place(index: i64, len: i64) -> Bound
-    ensures { λ r. ⌜ r ≡ bound (indexPlace (count len) index) ⌝ }
+// The place of an index, below 0 or at least len where it is outside the row.
+fn index_place(index: i64, len: i64) -> i64
+    requires { ⌜ T (nonNeg len) ⌝ }
+    ensures { λ r. ⌜ placeIn (count len) r ≡ indexPlace (count len) index ⌝ }
 {
-    if len < 1 {
-        return Bound::Outside;
-    }
     if index < 0 {
-        let at = index + len;
-        if at < 0 {
-            return Bound::Outside;
-        }
-        return Bound::At(at as usize);
+        return index + len;
     }
-    if index < 1 {
-        return Bound::Outside;
-    }
-    let at = index - 1;
-    if at < len {
-        return Bound::At(at as usize);
-    }
-    Bound::Outside
+    index - 1
 }
 
-// 1 is the first place and -1 the last.
-pub fn adjusted_array_index(index: i64, len: usize) -> Bound
+// The place that an index points at, 1 the first and -1 the last, or len where it is outside the row.
+pub fn adjusted_array_index(index: i64, len: usize) -> usize
     requires { ⌜ len ≤ wide .offset ⌝ }
-    ensures { λ r. ⌜ r ≡ bound (indexBound wide len index) ⌝ }
+    ensures { λ r. ⌜ r ≡ placeOr (indexBound wide len index) len ⌝ }
 {
-    index_place(index, len as i64)
+    let n = len as i64;
+    let at = index_place(index, n);
+    if at < 0 {
+        return len;
+    }
+    if at < n {
+        return at as usize;
+    }
+    len
 }

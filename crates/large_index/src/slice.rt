@@ -1,20 +1,18 @@
 // The places that a slice takes of a row, by signed 64-bit arithmetic: every bound and every stride fits.
 // After extract.rs of datafusion-functions-nested 55.2.0, Apache License 2.0, Apache Software Foundation; changed, see NOTICE.
-use index::Bound;
 use index::slice::SlicePlan;
 use index::slice::Stride;
 ghost use Prim.Native.Nat.{_+_, _/_, _<_, _≤_};
-ghost use Rattle.index.specs.Place.{bound};
-ghost use Rattle.index.specs.Plan.{IsPlace, Suits, isBelow, planOf, strideIn};
+ghost use Rattle.index.specs.Plan.{IsPlace, Suits, isBelow, placeTold, planOf, strideIn};
 ghost use Rattle.model.specs.Column.{count};
 ghost use Rattle.model.specs.Limits.{wide};
-ghost use Rattle.model.specs.Slice.{against, fromBound, fromPlace, slicePlan, stepCount, strided, toBound, toPlace};
+ghost use Rattle.model.specs.Slice.{against, fromPlace, slicePlan, stepCount, strided, toPlace};
 ghost use lib.IntN.{natAbs, pos};
 ghost use mathlib.Core.Bool.{true};
 ghost use mathlib.Core.Path.{_≡_};
 
-// The place of a from, which may still be past the end.
-fn from_place(index: i64, len: i64) -> i64
+// The place of a from, which may still be past the end: from 0 or 1 is the first place, and so is a from below minus the length.
+fn adjusted_from_index(index: i64, len: i64) -> i64
     requires { ⌜ 0 < count len ⌝ }
     ensures { λ r. ⌜ r ≡ pos (fromPlace (count len) index) ⌝ }
 {
@@ -31,40 +29,18 @@ fn from_place(index: i64, len: i64) -> i64
     index - 1
 }
 
-// A to past the end is the last place; any other counts as an index does.
-fn to_place(index: i64, len: i64) -> Bound
+// The place of a to, below 0 where it is outside the row: a to past the end is the last place, and so is -1.
+fn adjusted_to_index(index: i64, len: i64) -> i64
     requires { ⌜ 0 < count len ⌝ }
-    ensures { λ r. ⌜ r ≡ bound (toPlace (count len) index) ⌝ }
+    ensures { λ r. ⌜ placeTold r ≡ toPlace (count len) index ⌝ }
 {
-    let last = len - 1;
-    if last < index {
-        return Bound::At(last as usize);
+    if index < 0 {
+        return index + len;
     }
-    crate::index_place(index, len)
-}
-
-// From 0 or 1 is the first place, and so is a from below minus the length.
-pub fn adjusted_from_index(index: i64, len: i64) -> Bound
-    ensures { λ r. ⌜ r ≡ bound (fromBound wide (count len) index) ⌝ }
-{
-    if len < 1 {
-        return Bound::Outside;
+    if len < index {
+        return len - 1;
     }
-    let at = from_place(index, len);
-    if at < len {
-        return Bound::At(at as usize);
-    }
-    Bound::Outside
-}
-
-// To -1 is the last place, included.
-pub fn adjusted_to_index(index: i64, len: i64) -> Bound
-    ensures { λ r. ⌜ r ≡ bound (toBound wide (count len) index) ⌝ }
-{
-    if len < 1 {
-        return Bound::Outside;
-    }
-    to_place(index, len)
+    index - 1
 }
 
 // Whether the stride leads away from to.
@@ -79,20 +55,37 @@ fn is_against(from: i64, to: i64, stride: i64) -> bool
     to < from
 }
 
-// One more than the steps that a distance holds, by a stride below 0: what is left falls by each of them, and its sum with the stride
-// stays in range, where the stride's size might not.
-fn count_down(distance: i64, stride: i64) -> i64
+// The steps that a distance holds, by a stride below 0: what is left falls by each of them, and its sum with the stride stays in range,
+// where the stride's size might not.
+fn steps_of(distance: i64, stride: i64) -> i64
     requires { ⌜ IsPlace wide distance ⌝ }
     requires { ⌜ isBelow stride ≡ true ⌝ }
-    ensures { λ r. ⌜ r ≡ pos (count distance / natAbs stride + 1) ⌝ }
+    ensures { λ r. ⌜ r ≡ pos (count distance / natAbs stride) ⌝ }
 {
     let mut left = distance;
-    let mut taken: i64 = 1;
+    let mut taken: i64 = 0;
     while 0 <= left + stride {
         left += stride;
         taken += 1;
     }
     taken
+}
+
+// One more than the steps that a distance holds, by a stride below 0: eight strides at once where they stay in range, then one by one
+// over the rest.
+fn count_down(distance: i64, stride: i64) -> i64
+    requires { ⌜ IsPlace wide distance ⌝ }
+    requires { ⌜ isBelow stride ≡ true ⌝ }
+    ensures { λ r. ⌜ r ≡ pos (count distance / natAbs stride + 1) ⌝ }
+{
+    if stride < -1152921504606846976 {
+        return steps_of(distance, stride) + 1;
+    }
+    let eight = stride * 8;
+    let many = steps_of(distance, eight);
+    let rest = distance + many * eight;
+    let few = steps_of(rest, stride);
+    many * 8 + few + 1
 }
 
 // How many places there are from from by stride, to included: one by one there are as many as the distance and one; else they are
@@ -142,11 +135,11 @@ pub fn compute_slice_plan(len: usize, from: i64, to: i64, stride: Stride) -> Sli
     let n = len as i64;
     let first = adjusted_from_index(from, n);
     let last = adjusted_to_index(to, n);
-    match first {
-        Bound::At(a) => match last {
-            Bound::At(b) => plan_steps(a as i64, b as i64, index::slice::stride_of(stride)),
-            _ => SlicePlan::Empty,
-        },
-        _ => SlicePlan::Empty,
+    if n <= first {
+        return SlicePlan::Empty;
     }
+    if last < 0 {
+        return SlicePlan::Empty;
+    }
+    plan_steps(first, last, index::slice::stride_of(stride))
 }

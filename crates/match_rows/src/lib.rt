@@ -4,29 +4,14 @@ pub mod remove;
 pub mod replace;
 
 use arguments::taken;
-use column::widths;
-use model::Width;
 use rows::Cell;
 ghost use Prim.Native.Nat.{_<_};
 ghost use Rattle.arguments.specs.Taken.{Serves};
 ghost use Rattle.bitmap.specs.Push.{Covers};
 ghost use Rattle.match_rows.specs.Limits.{limitAt};
-ghost use Rattle.model.specs.Column.{offsetAt, rowCount};
 ghost use Rattle.model.specs.Inner.{lentArgumentsFrom, lentBits, nowArguments, nowBits};
-ghost use Rattle.model.specs.Widths.{entryAt, used};
 ghost use mathlib.Core.Bool.{true};
 ghost use mathlib.Core.Path.{_≡_};
-
-// Where the first of n rows begins; 0 where there is none.
-pub fn first_offset(width: Width, offsets: &[i32], large: &[i64], n: usize) -> usize
-    requires { ⌜ n ≡ rowCount (used width (now offsets) (now large)) ⌝ }
-    ensures { λ a. ⌜ (0 < n → a ≡ offsetAt (entryAt width offsets large) 0) ⌝ }
-{
-    if n == 0 {
-        return 0;
-    }
-    widths::offset_at(width, offsets, large, 0)
-}
 
 // Row r's limit of n; a null where the list is null.
 pub fn limit_at(

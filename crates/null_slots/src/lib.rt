@@ -23,7 +23,7 @@ fn flipped(word: u64, m: usize) -> u64
 }
 
 // Writes what a null slot holds at each of the m places from place at on whose bit is 0.
-fn put_few(word: u64, m: usize, out: &mut [i64], at: usize)
+pub fn put_few(word: u64, m: usize, out: &mut [i64], at: usize)
     requires { ⌜ m ≤ 64 ⌝ }
     requires { ⌜ at + m ≤ length (now out) ⌝ }
     ensures { λ _. ⌜ now (out .exit) ≡ nulled (now (out .entry)) at (lowBits word m) ⌝ }

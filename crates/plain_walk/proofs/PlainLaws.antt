@@ -1,9 +1,10 @@
 -- A plain operation makes the same rows whatever the arguments are, and refuses none.
 use Prim.Native.Nat.{ℕ, zero, suc, _+_, _-_, _≤_}
-use mathlib.Core.Path.{_≡_, refl}
+use mathlib.Core.Path.{_≡_, refl, sym, _∙_}
 use mathlib.Core.Bool.{Bool, true, false}
 use mathlib.Core.List.{List}
 use native.Mathlib.Omega.{arith}
+use lib.IntN.{ℤ}
 use lib.ListN.{length}
 use Rattle.model.specs.Basics.{pick, tab}
 use Rattle.model.specs.Bitmap.{validAt}
@@ -16,8 +17,9 @@ use Rattle.model.specs.Refusals.{firstOf, refusalOf}
 use Rattle.model.specs.Rows.{rowMade}
 use Rattle.model.specs.declared.Unary.{Unary}
 use Rattle.model.proofs.OutcomeLaws.{gate-open}
-use Rattle.model.proofs.TabLaws.{length-tab}
-use Rattle.column.specs.Put.{RoomInˡ}
+use Rattle.model.proofs.TabLaws.{length-tab, tab-ext}
+use Rattle.column.specs.Put.{RoomInˡ, Fillsˡ}
+use Rattle.column.proofs.RowLaws.{elem-plain}
 use Rattle.set_elements.proofs.ElementLaws.{unary-le}
 use Rattle.ops.specs.Ops.{rowOpOf, validOp, opElems, opMade}
 use Rattle.ops.specs.declared.ListOp.the-variants as L
@@ -27,6 +29,7 @@ use Rattle.sums.specs.Sums.{measureOf}
 use Rattle.sums.specs.declared.Measure.the-variants as M
 use Rattle.made_rows.specs.Made.{madeFrom, madeAt, rowMadeAt, refusalAt, callRows, rowsMeasure}
 use Rattle.made_rows.proofs.CallLaws.{rows-at, room-at}
+use Rattle.bare_walk.specs.Bare.{bareElem, bareElems, bareAt, bareRows}
 use Rattle.plain_walk.specs.Plain.{plainRow, none, plainRows}
 
 -- ---- one row
@@ -92,3 +95,28 @@ module _ (N : Limits) (u : Unary) (c : Column) where
   pub plain-measure : (x y z : Arguments) → rowsMeasure N (L.Plain u) c x y z ≡ M.Sum (length (flat (plainRows N u c)))
   unfolding rowsMeasure measureOf
   plain-measure x y z = rw (none-first (refusalAt N (L.Plain u) c x y z) (refuses-none x y z) 0 (rowCount (c .offsets)), gate-open 0 (made (length (flat (callRows N (L.Plain u) c x y z)))) refl, plain-any x y z)
+
+  -- ---- where no bitmap is lent
+
+  module _ (nr : length (c .rows .bytes) ≡ 0) (ne : length (c .elements .bytes) ≡ 0) where
+    bare-elems : (a n : ℕ) → tab (elemAt (c .values) (c .elements)) a n ≡ bareElems (c .values) a n
+    bare-elems a n = tab-ext (elemAt (c .values) (c .elements)) (bareElem (c .values)) a a n (λ i h. elem-plain (c .values) (c .elements) (a + i) ne)
+
+    bare-row : (r : ℕ) → plainAt r ≡ bareAt u (c .offsets) (c .values) r
+    unfolding plainRow validAt
+    bare-row r =
+        sym (plain-row r (offsetAt (c .offsets) r) (offsetAt (c .offsets) (r + 1)) (validAt (c .rows) r) refl refl refl)
+        ∙ rw (nr, bare-elems (offsetAt (c .offsets) r) (lengthAt c r))
+
+    pub plain-bare : plainRows N u c ≡ bareRows u (c .offsets) (c .values)
+    unfolding plainRows callRows bareRows
+    plain-bare = tab-ext plainAt (bareAt u (c .offsets) (c .values)) 0 0 (rowCount (c .offsets)) (λ r h. bare-row (0 + r))
+
+    pub bare-small : {m : ℕ} → length (flat (plainRows N u c)) ≤ m → length (flat (bareRows u (c .offsets) (c .values))) ≤ m
+    bare-small h = rw (← plain-bare) h
+
+    pub bare-room : {n lo lr lv le : ℕ} → RoomInˡ n (length (flat (plainRows N u c))) lo lr lv le → RoomInˡ n (length (flat (bareRows u (c .offsets) (c .values)))) lo lr lv le
+    bare-room h = rw (← plain-bare) h
+
+    pub bare-fills : {oo oo′ vo vo′ : List ℤ} {ro ro′ eo eo′ : List ℕ} → Fillsˡ (bareRows u (c .offsets) (c .values)) oo oo′ ro ro′ vo vo′ eo eo′ → Fillsˡ (plainRows N u c) oo oo′ ro ro′ vo vo′ eo eo′
+    bare-fills h = rw plain-bare h

@@ -45,16 +45,17 @@ pub fn measure_rows(
     ensures { λ m. ⌜ m ≤ limitsAt width .offset ⌝ }
 {
     let n = widths::row_count(width, offsets, large);
+    let mut a = widths::first_offset(width, offsets, large);
     let mut found: usize = 0;
     let mut r: usize = 0;
     let mut left = n;
     while 0 < left {
-        let a = widths::offset_at(width, offsets, large, r);
         let b = widths::offset_at(width, offsets, large, r + 1);
         let len = b - a;
         let valid = bitmap::is_valid(rows, rstart, r, n);
         let more = measure_row(op, valid, values, elements, estart, a, len);
         found += more;
+        a = b;
         r += 1;
         left -= 1;
     }
@@ -99,9 +100,9 @@ fn put_row(
     next
 }
 
-// Writes the rows that the operation makes, in result form.
+// Writes the rows that the operation makes, in result form, row by row with their bits.
 #[rattlefmt::skip]
-pub fn write_rows(
+fn write_each(
     op: Unary,
     offsets: &[i32], rows: &[u8], rstart: usize, values: &[i64], elements: &[u8], estart: usize,
     out_offsets: &mut [i32], out_rows: &mut [u8], out_values: &mut [i64], out_elements: &mut [u8],
@@ -131,4 +132,32 @@ pub fn write_rows(
         r += 1;
         left -= 1;
     }
+}
+
+// Writes the rows that the operation makes, in result form: all bits at once where none can be 0.
+#[rattlefmt::skip]
+pub fn write_rows(
+    op: Unary,
+    offsets: &[i32], rows: &[u8], rstart: usize, values: &[i64], elements: &[u8], estart: usize,
+    out_offsets: &mut [i32], out_rows: &mut [u8], out_values: &mut [i64], out_elements: &mut [u8],
+    width: Width, large: &[i64], out_large: &mut [i64],
+)
+    requires column { ⌜ Readable (nowColumnAt width offsets large rows rstart values elements estart) ⌝ }
+    requires small { ⌜ length (flat (plainRows (limitsAt width) op (nowColumnAt width offsets large rows rstart values elements estart))) ≤ limitsAt width .offset ⌝ }
+    requires room { ⌜ RoomAt width (rowCount (used width (now offsets) (now large))) (length (flat (plainRows (limitsAt width) op (nowColumnAt width offsets large rows rstart values elements estart)))) «out_offsets» «out_large» «out_rows» «out_values» «out_elements» ⌝ }
+    ensures { λ _. ⌜ FillsAt width (plainRows (limitsAt width) op (lentAt width offsets large rows rstart values elements estart)) «out_offsets» «out_large» «out_rows» «out_values» «out_elements» ⌝ }
+{
+    if bare_walk::is_bare(op, rows, elements) {
+        bare_walk::write_rows(
+            op, offsets, values,
+            out_offsets, out_rows, out_values, out_elements,
+            width, large, out_large,
+        );
+        return;
+    }
+    write_each(
+        op, offsets, rows, rstart, values, elements, estart,
+        out_offsets, out_rows, out_values, out_elements,
+        width, large, out_large,
+    );
 }

@@ -1,39 +1,35 @@
--- Laws of a slice's row: its validity, its plan, and what is done to it.
-use Prim.Native.Nat.{ℕ, zero, suc, _+_, _≤_, _<_}
-use mathlib.Core.Path.{_≡_, refl, sym, ap, _∙_}
-use mathlib.Core.Bool.{Bool, true, false, not, _&&_, _||_}
-use mathlib.Core.List.{List, []}
+-- Laws of a walk of slices: what it needs of its columns, and what is done to a row.
+use Prim.Native.Nat.{ℕ, zero, suc, _+_, _-_, _/_, _%_, _≤_, _<_}
+use mathlib.Core.Path.{_≡_, refl, sym, _∙_}
+use mathlib.Core.Bool.{Bool, true, false, not, _&&_}
+use mathlib.Core.List.{List}
 use native.Mathlib.Omega.{arith}
 use borrow.Author.Tests.{ltb-false, le-ltb}
 use lib.Dec.{ltb, eqb}
 use lib.IntN.{ℤ, pos}
-use lib.ListN.{length, getD}
-use Rattle.model.specs.Basics.{pick}
-use Rattle.model.specs.Bitmap.{Bits, bitAt, validAt, bytesFor, shortBits}
-use Rattle.model.specs.Column.{Elem, nul, val, Row, nullRow, listRow, Column, Arguments, elemAt}
-use Rattle.model.specs.Form.{isRow, elemsOf, flat}
+use lib.ListN.{length}
+use Rattle.model.specs.Basics.{pick, tab}
+use Rattle.model.specs.Bitmap.{Bits, validAt, bytesFor, shortBits}
+use Rattle.model.specs.Column.{Elem, nul, val, Column, Arguments, elemAt}
+use Rattle.model.specs.Form.{flat}
 use Rattle.model.specs.Limits.{Limits}
-use Rattle.model.specs.Rows.{rowMade}
-use Rattle.model.specs.Slice.{slicePlan, sliced}
-use Rattle.model.proofs.BoolLaws.{never, never-true, and-true}
-use Rattle.bitmap.specs.Push.{Covers, pushBit}
-use Rattle.column.specs.Put.{RoomInˡ, RoomForElemsˡ, Writesˡ}
-use Rattle.column.specs.Rows.{RoomForRowˡ, WritesRowˡ}
+use Rattle.model.specs.Slice.{slicePlan}
+use Rattle.model.proofs.BoolLaws.{never-true}
+use Rattle.bitmap.specs.Push.{Covers}
+use Rattle.column.specs.Put.{RoomInˡ}
 use Rattle.index.specs.Plan.{planOf, strideIn}
 use Rattle.index.specs.declared.slice.SlicePlan.{SlicePlan}
 use Rattle.index.specs.declared.slice.SlicePlan.the-variants as P
 use Rattle.index.specs.declared.slice.Stride.the-variants as S
-use Rattle.strides.specs.Strides.{Walks}
 use Rattle.strides.proofs.StrideLaws.{length-sliced}
-use Rattle.ops.specs.Ops.{isSlice, isResize, takesOf, table, planOp, sliceOp, strideOp, validOp, rowOpOf, opElems, opMade}
+use Rattle.ops.specs.Ops.{isSlice, isResize, takesOf, table, planOp, sliceOp, strideOp, validOp, rowOpOf, opElems}
 use Rattle.ops.specs.declared.ListOp.{ListOp}
 use Rattle.ops.specs.declared.ListOp.the-variants as L
-use Rattle.ops.specs.declared.RowOp.{RowOp}
 use Rattle.ops.specs.declared.RowOp.the-variants as R
-use Rattle.row_ops.specs.Doable.{Doable}
 use Rattle.arguments.specs.Taken.{cellOf, placeIn, takenAt, opAt, Serves, Served}
 use Rattle.made_rows.specs.Made.{opRefusal, callRows}
-use Rattle.slice_walk.specs.Sliced.{opBy, allValid, noBits, Known, strideAt, planAt, NullEmpty, opIf, planRefusal, planCount}
+use Rattle.bit_words.specs.Words.{lowBits}
+use Rattle.slice_rows.specs.Sliced.{opBy, validIf, allValid, batchOf, Known, strideAt, planAt, NullEmpty, opIf, planRefusal, planCount}
 
 -- ---- the operation
 
@@ -111,25 +107,49 @@ module _ {n : ℕ} {x y z : Arguments} where
     third = λ h. covered n z (third-served by s h);
   }
 
-no-bits-cases : (by a b c d p q u v : Bool) → a && b && c && (not by || d) ≡ true → true ≡ (a || p) && (b || q) && (c || u) && (not by || (d || v))
-no-bits-cases by false b c d p q u v h = never-true (sym h)
-no-bits-cases by true false c d p q u v h = never-true (sym h)
-no-bits-cases by true true false d p q u v h = never-true (sym h)
-no-bits-cases false true true true d p q u v h = refl
-no-bits-cases true true true true false p q u v h = never-true (sym h)
-no-bits-cases true true true true true p q u v h = refl
+-- ---- bits that are held
 
--- without bitmaps all is valid
-pub no-bits : (by : Bool) (rb xb yb zb : Bits) (r : ℕ) → noBits by (rb .bytes) (xb .bytes) (yb .bytes) (zb .bytes) ≡ true → true ≡ allValid by rb xb yb zb r
-unfolding noBits allValid validAt
-no-bits by rb xb yb zb r h =
-    no-bits-cases by (empty rb) (empty xb) (empty yb) (empty zb) (set rb) (set xb) (set yb) (set zb) h
+-- the word has the bits of so many rows from row r on, and of one at least
+pub record Held (f : ℕ → Bool) (r word known : ℕ) : Type 0 where
+  pub bits : lowBits word known ≡ tab f r known
+  pub some : 0 < known
+
+some-left : (left : ℕ) → 0 < batchOf left
+unfolding batchOf
+some-left left = cases (ltb left 64)
   where
-    empty : Bits → Bool
-    empty b = eqb (length (b .bytes)) 0
+    cases : (t : Bool) → 0 < pick t 1 64
+    cases true = omega arith
+    cases false = omega arith
 
-    set : Bits → Bool
-    set b = bitAt (b .bytes) (b .start + r)
+module _ (f : ℕ → Bool) where
+  pub held-none : (r word : ℕ) → lowBits word 0 ≡ tab f r 0
+  unfolding lowBits tab
+  held-none r word = refl
+
+  -- read anew, of a batch of those that are left
+  pub held-anew : (r left : ℕ) {word known w k : ℕ} → word ≡ w → known ≡ k → k ≡ batchOf left → lowBits w (batchOf left) ≡ tab f r (batchOf left) → Held f r word known
+  held-anew r left e d b h = let q = d ∙ b in record { bits = rw (e, q) h; some = rw q (some-left left) }
+
+  -- still held
+  pub held-still : (r : ℕ) {word known w k : ℕ} → word ≡ w → known ≡ k → 0 < k → lowBits w k ≡ tab f r k → Held f r word known
+  held-still r e d s h = record { bits = rw (e, d) h; some = rw d s }
+
+  module _ {r word : ℕ} where
+    pub held-first : (known : ℕ) → Held f r word known → eqb (word % 2) 1 ≡ f r
+    unfolding lowBits tab
+    held-first zero h = let z : ⊥ = omega (arith, h .some) in absurd z
+    held-first (suc k) h = let b = h .bits in cc
+
+    pub held-rest : (known : ℕ) → Held f r word known → lowBits (word / 2) (known - 1) ≡ tab f (r + 1) (known - 1)
+    unfolding lowBits tab
+    held-rest zero h = let z : ⊥ = omega (arith, h .some) in absurd z
+    held-rest (suc k) h =
+        let b = h .bits in
+        let t : lowBits (word / 2) k ≡ tab f (suc r) k = cc in
+        let e : suc k - 1 ≡ k = omega arith in
+        let d : r + 1 ≡ suc r = omega arith in
+        rw (e, d) t
 
 -- ---- what is done to a row
 
@@ -153,7 +173,7 @@ module _ (lim : Limits) (n : ℕ) (f t : ℤ) where
 
 module _ (lim : Limits) (rb : Bits) (x y z : Arguments) (r n : ℕ) where
   op-planned : (by : Bool) → let v = allValid by rb (x .bits) (y .bits) (z .bits) r in opIf v (planAt lim v by (x .values) (y .values) (z .values) r n) ≡ opAt lim (opBy by) rb x y z r n
-  unfolding opBy opAt rowOpOf validOp table takenAt placeIn elemAt allValid planAt strideAt
+  unfolding opBy opAt rowOpOf validOp table takenAt placeIn elemAt validIf allValid planAt strideAt
   op-planned true = stride-cells lim n _ _ _ (validAt rb r) (validAt (x .bits) r) (validAt (y .bits) r) (validAt (z .bits) r)
   op-planned false = slice-cells lim n _ _ (validAt rb r) (validAt (x .bits) r) (validAt (y .bits) r)
 
@@ -180,59 +200,3 @@ count-planned true P.Empty es h = refl
 count-planned true (P.Steps a s n) es h = sym (length-sliced a s n es)
 count-planned true (P.Refused k) es h = refl
 count-planned false p es h = rw (h refl)
-
--- ---- the row that is written
-
-module _ (valid : Bool) (p : SlicePlan) (es : List Elem) where
-  abbrev row : Row
-  row = rowMade (opMade (opIf valid p) es)
-
-  pub empty-bit : p ≡ P.Empty → isRow row ≡ valid
-  unfolding isRow rowMade opMade opIf planOp
-  empty-bit e = rw e (cases valid)
-    where
-      cases : (v : Bool) → isRow (rowMade (opMade (opIf v P.Empty) es)) ≡ v
-      cases true = refl
-      cases false = refl
-
-  pub empty-elems : p ≡ P.Empty → elemsOf row ≡ []
-  unfolding elemsOf rowMade opMade opIf planOp
-  empty-elems e = rw e (cases valid)
-    where
-      cases : (v : Bool) → elemsOf (rowMade (opMade (opIf v P.Empty) es)) ≡ []
-      cases true = refl
-      cases false = refl
-
-  pub refused-row : (k : ℕ) → p ≡ P.Refused k → row ≡ nullRow
-  unfolding rowMade opMade opIf planOp
-  refused-row k e = rw e (cases valid)
-    where
-      cases : (v : Bool) → rowMade (opMade (opIf v (P.Refused k)) es) ≡ nullRow
-      cases true = refl
-      cases false = refl
-
-  -- a plan with places is that of a valid row
-  module _ (a : ℕ) (s : ℤ) (k : ℕ) (h : NullEmpty valid p) (e : p ≡ P.Steps a s k) where
-    steps-op : opIf valid p ≡ R.Steps a s k
-    unfolding opIf planOp
-    steps-op = cases valid h
-      where
-        cases : (v : Bool) → NullEmpty v p → opIf v p ≡ R.Steps a s k
-        cases true h = rw e
-        cases false h = let q : P.Empty ≡ P.Steps a s k = sym (h refl) ∙ e in never cc
-
-    pub steps-row : row ≡ listRow (sliced a s k es)
-    unfolding rowMade opMade opElems
-    steps-row = rw steps-op
-
-    pub steps-walk : (n : ℕ) → Doable (opIf valid p) n → Walks a s k n
-    unfolding Doable
-    steps-walk n d = rw steps-op at d
-
-    pub steps-room : {r at lr lv le : ℕ} → RoomForRowˡ row r at lr lv le → RoomForElemsˡ (sliced a s k es) at lv le
-    unfolding elemsOf
-    steps-room m = let t = rw steps-row at m in record { values = t .values; elements = t .elements }
-
--- a row's elements and its bit make the row
-pub row-put : (w : Row) (b : Bool) (es : List Elem) {r at k : ℕ} {ro ro′ : List ℕ} {vo vo′ : List ℤ} {eo eo′ : List ℕ} → isRow w ≡ b → elemsOf w ≡ es → ro′ ≡ pushBit ro r b → Writesˡ es at vo vo′ eo eo′ k → WritesRowˡ w r at ro ro′ vo vo′ eo eo′ k
-row-put w b es i q p t = record { rows = rw i p; values = rw q (t .values); elements = rw q (t .elements); place = rw q (t .next) }

@@ -1,41 +1,25 @@
 // Slices of the rows of one list, with and without strides: one walk measures the rows, a second writes. An inner crate: its callers
 // meet what it asks.
-mod plans;
-mod validity;
-
 use column::widths;
-use index::slice::SlicePlan;
 use model::Width;
 use ops::ListOp;
-use strides::strided;
+use slice_rows::plans;
+use slice_rows::validity;
 use sums::Measure;
-ghost use Prim.Native.Nat.{_<_, _≤_};
+ghost use Prim.Native.Nat.{_≤_};
 ghost use Rattle.arguments.specs.Taken.{Served};
-ghost use Rattle.column.specs.Outputs.{FillsAt, ReadableElems, RoomAt, RoomForRow, WritesRow};
+ghost use Rattle.column.specs.Outputs.{FillsAt, RoomAt};
 ghost use Rattle.column.specs.Put.{Readable};
 ghost use Rattle.made_rows.specs.Made.{callRows, rowsMeasure};
-ghost use Rattle.model.specs.Column.{offsetAt, rowCount};
+ghost use Rattle.model.specs.Column.{rowCount};
 ghost use Rattle.model.specs.Form.{flat};
-ghost use Rattle.model.specs.Inner.{lentArgumentsFrom, lentAt, lentElems, nowArguments, nowColumnAt, nowElems};
-ghost use Rattle.model.specs.Rows.{rowMade};
-ghost use Rattle.model.specs.Widths.{entryAt, limitsAt, used};
-ghost use Rattle.ops.specs.Ops.{isSlice, opMade};
-ghost use Rattle.row_ops.specs.Doable.{Doable};
-ghost use Rattle.slice_walk.specs.Sliced.{NullEmpty, opIf};
+ghost use Rattle.model.specs.Inner.{lentArgumentsFrom, lentAt, nowArguments, nowColumnAt};
+ghost use Rattle.model.specs.Widths.{limitsAt, used};
+ghost use Rattle.ops.specs.Ops.{isSlice};
 ghost use Rattle.sums.specs.Sums.{letThrough};
 ghost use lib.ListN.{length};
 ghost use mathlib.Core.Bool.{true};
 ghost use mathlib.Core.Path.{_≡_};
-
-// The first offset as a count; 0 where there is none.
-fn first_offset(width: Width, narrow: &[i32], wide: &[i64]) -> usize
-    ensures { λ r. ⌜ r ≡ offsetAt (entryAt width narrow wide) 0 ⌝ }
-{
-    if widths::pick(width, narrow.len(), wide.len()) == 0 {
-        return 0;
-    }
-    widths::offset_at(width, narrow, wide, 0)
-}
 
 // How many elements the slices make, or the refusal of the first row that has one.
 #[rattlefmt::skip]
@@ -57,15 +41,20 @@ pub fn measure_rows(
     let t = ops::takes(op);
     let columns = t.columns;
     let by = 2 < columns;
-    let sure = validity::are_bits_absent(by, rows, xbits, ybits, zbits);
     let mut found: usize = 0;
     let mut r: usize = 0;
     let mut left = n;
-    let mut a = first_offset(width, offsets, large);
+    let mut word: u64 = 0;
+    let mut known: usize = 0;
+    let mut a = widths::first_offset(width, offsets, large);
     while 0 < left {
         let b = widths::offset_at(width, offsets, large, r + 1);
         let len = b - a;
-        let valid = validity::is_made(sure, by, rows, rstart, n, xbits, xstart, ybits, ystart, zbits, zstart, r);
+        if known == 0 {
+            word = validity::valid_bits(by, rows, rstart, n, xbits, xstart, ybits, ystart, zbits, zstart, r, left);
+            known = validity::batch(left);
+        }
+        let valid = word % 2 == 1;
         let plan = plans::plan_at(valid, by, xs, ys, zs, r, len, width);
         let k = plans::refusal_of(plan);
         if k != 0 {
@@ -76,62 +65,10 @@ pub fn measure_rows(
         a = b;
         r += 1;
         left -= 1;
+        word /= 2;
+        known -= 1;
     }
     Measure::Sum(found)
-}
-
-// Writes the row that the plan makes of the len elements from element a on as row r, but for its offset; a row that is not valid is
-// null. Gives the number of elements then written.
-fn put_slice(
-    valid: bool,
-    plan: SlicePlan,
-    values: &[i64],
-    elements: &[u8],
-    estart: usize,
-    a: usize,
-    len: usize,
-    r: usize,
-    out_rows: &mut [u8],
-    out_values: &mut [i64],
-    out_elements: &mut [u8],
-    at: usize,
-) -> usize
-    requires column { ⌜ ReadableElems values elements estart a len ⌝ }
-    requires null { ⌜ NullEmpty valid plan ⌝ }
-    requires doable { ⌜ Doable (opIf valid plan) len ⌝ }
-    requires room { ⌜ RoomForRow (rowMade (opMade (opIf valid plan) (nowElems values elements estart a len))) r at «out_rows» «out_values» «out_elements» ⌝ }
-    ensures { λ k. ⌜ WritesRow (rowMade (opMade (opIf valid plan) (lentElems values elements estart a len))) r at «out_rows» «out_values» «out_elements» k ⌝ }
-{
-    match plan {
-        SlicePlan::Empty => {
-            bitmap::push_bit(out_rows, r, valid);
-            at
-        }
-        SlicePlan::Steps {
-            start,
-            stride,
-            count,
-        } => {
-            bitmap::push_bit(out_rows, r, true);
-            strided::write_strided(
-                values,
-                elements,
-                estart,
-                a,
-                len,
-                start,
-                stride,
-                count,
-                out_values,
-                out_elements,
-                at,
-            )
-        }
-        SlicePlan::Refused(_) => {
-            bitmap::push_bit(out_rows, r, false);
-            at
-        }
-    }
 }
 
 // Writes the rows that the slices make, in result form.
@@ -156,18 +93,23 @@ pub fn write_rows(
     let t = ops::takes(op);
     let columns = t.columns;
     let by = 2 < columns;
-    let sure = validity::are_bits_absent(by, rows, xbits, ybits, zbits);
     widths::put_offset(width, out_offsets, out_large, 0, 0);
     let mut r: usize = 0;
     let mut at: usize = 0;
     let mut left = n;
-    let mut a = first_offset(width, offsets, large);
+    let mut word: u64 = 0;
+    let mut known: usize = 0;
+    let mut a = widths::first_offset(width, offsets, large);
     while 0 < left {
         let b = widths::offset_at(width, offsets, large, r + 1);
         let len = b - a;
-        let valid = validity::is_made(sure, by, rows, rstart, n, xbits, xstart, ybits, ystart, zbits, zstart, r);
+        if known == 0 {
+            word = validity::valid_bits(by, rows, rstart, n, xbits, xstart, ybits, ystart, zbits, zstart, r, left);
+            known = validity::batch(left);
+        }
+        let valid = word % 2 == 1;
         let plan = plans::plan_at(valid, by, xs, ys, zs, r, len, width);
-        at = put_slice(
+        at = slice_rows::put_slice(
             valid, plan, values, elements, estart,
             a, len, r, out_rows, out_values, out_elements,
             at,
@@ -176,5 +118,7 @@ pub fn write_rows(
         a = b;
         r += 1;
         left -= 1;
+        word /= 2;
+        known -= 1;
     }
 }

@@ -81,14 +81,6 @@ module _ {A : Type 0} where
       ap (λ (l : List A). sets l (suc k) ys) (set-before xs (set d k x) k (suc k) y (omega arith) ∙ ap (λ (l : List A). sets l (suc k) xs) (set-set d k x y))
       ∙ sets-over xs ys (set d k y) (suc k) (omega arith)
 
-  -- downwards: the part that comes first is stored last
-  pub sets-down : (ys xs d : List A) (k : ℕ) → sets (sets d (k + length ys) xs) k ys ≡ sets d k (ys ++ xs)
-  sets-down [] xs d k = let e : k + 0 ≡ k = omega arith in rw e
-  sets-down (y ∷ ys) xs d k =
-      let e : k + suc (length ys) ≡ suc k + length ys = omega arith in
-      ap (λ (l : List A). sets l (suc k) ys) (set-before xs d k (k + suc (length ys)) y (omega arith))
-      ∙ rw e (sets-down ys xs (set d k y) (suc k))
-
   -- the first m of a table, then n of it from one of these on
   pub sets-tab : (f : ℕ → A) (a m j n : ℕ) (d : List A) (at : ℕ) → j ≤ m → m ≤ j + n → sets (sets d at (tab f a m)) (at + j) (tab f (a + j) n) ≡ sets d at (tab f a (j + n))
   sets-tab f a m j n d at h g =
@@ -108,12 +100,12 @@ module _ {A : Type 0} (f : ℕ → A) (a n m : ℕ) where
   back-split : reverse (tab f a (n + m)) ≡ reverse (tab f (a + n) m) ++ reverse (tab f a n)
   back-split = ap reverse (tab-split f a n m) ∙ reverse-append (tab f a n) (tab f (a + n) m)
 
-  -- downwards
-  pub back-down : (d : List A) (at : ℕ) → sets (sets d (at + m) (reverse (tab f a n))) at (reverse (tab f (a + n) m)) ≡ sets d at (reverse (tab f a (n + m)))
-  back-down d at =
-      ap (λ (k : ℕ). sets (sets d (at + k) (reverse (tab f a n))) at (reverse (tab f (a + n) m))) (sym (length-back f (a + n) m))
-      ∙ sets-down (reverse (tab f (a + n) m)) (reverse (tab f a n)) d at
-      ∙ ap (sets d at) (sym back-split)
+  -- upwards
+  pub back-up : (d : List A) (k : ℕ) → sets (sets d k (reverse (tab f (a + n) m))) (k + m) (reverse (tab f a n)) ≡ sets d k (reverse (tab f a (n + m)))
+  back-up d k =
+      ap (λ (j : ℕ). sets (sets d k (reverse (tab f (a + n) m))) (k + j) (reverse (tab f a n))) (sym (length-back f (a + n) m))
+      ∙ sets-on (reverse (tab f (a + n) m)) (reverse (tab f a n)) d k
+      ∙ ap (sets d k) (sym back-split)
 
 -- ---- several read and then stored at once, in the code's terms: the place k + i, the index p + i
 
@@ -218,38 +210,35 @@ module _ {A : Type 0} (f : ℕ → A) (a n at : ℕ) (d₀ : List A) where
           fewer = omega arith;
         }
 
--- ---- the same last first, downwards: of n values of the table from index a on, the left ones from index p on are still to be stored, below place k
+-- ---- the same last first: of n values of the table from index a on, the first left ones are still to be stored, from place k on
 
-pub record Turned {A : Type 0} (f : ℕ → A) (a n at : ℕ) (d₀ d : List A) (p k left : ℕ) : Type 0 where
-  pub rest : sets d at (reverse (tab f p left)) ≡ sets d₀ at (reverse (tab f a n))
-  pub index : p + left ≡ a + n
-  pub place : k ≡ at + left
+pub record Turned {A : Type 0} (f : ℕ → A) (a n at : ℕ) (d₀ d : List A) (k left : ℕ) : Type 0 where
+  pub rest : sets d k (reverse (tab f a left)) ≡ sets d₀ at (reverse (tab f a n))
+  pub place : k + left ≡ at + n
   pub fewer : left ≤ n
   pub same : length d ≡ length d₀
 
 module _ {A : Type 0} (f : ℕ → A) (a n at : ℕ) (d₀ : List A) where
-  pub turned-none : {k : ℕ} → k ≡ at + n → Turned f a n at d₀ d₀ a k n
-  turned-none e = record { rest = refl; index = refl; place = e; fewer = omega arith; same = refl }
+  pub turned-none : Turned f a n at d₀ d₀ at n
+  turned-none = record { rest = refl; place = refl; fewer = omega arith; same = refl }
 
-  module _ {d : List A} {p k left : ℕ} (s : Turned f a n at d₀ d p k left) where
-    pub turned-more : (m : ℕ) → m ≤ left → {d′ : List A} → d′ ≡ sets d (k - m) (reverse (tab f p m)) → Turned f a n at d₀ d′ (p + m) (k - m) (left - m)
+  module _ {d : List A} {k left : ℕ} (s : Turned f a n at d₀ d k left) where
+    pub turned-more : (m : ℕ) → m ≤ left → {d′ : List A} → d′ ≡ sets d k (reverse (tab f (a + (left - m)) m)) → Turned f a n at d₀ d′ (k + m) (left - m)
     turned-more m h {d′} e =
-        let q : k - m ≡ at + (left - m) = omega (arith, s .place) in
-        let r : m + (left - m) ≡ left = omega arith in
+        let r : left - m + m ≡ left = omega arith in
         record {
-          rest = ap (λ (l : List A). sets l at (reverse (tab f (p + m) (left - m)))) (e ∙ ap (λ (j : ℕ). sets d j (reverse (tab f p m))) q)
-              ∙ back-down f p m (left - m) d at
-              ∙ ap (λ (j : ℕ). sets d at (reverse (tab f p j))) r
+          rest = ap (λ (l : List A). sets l (k + m) (reverse (tab f a (left - m)))) e
+              ∙ back-up f a (left - m) m d k
+              ∙ ap (λ (j : ℕ). sets d k (reverse (tab f a j))) r
               ∙ s .rest;
-          index = omega (arith, s .index);
-          place = q;
+          place = omega (arith, s .place);
           fewer = omega (arith, s .fewer);
-          same = ap length e ∙ length-sets d (k - m) (reverse (tab f p m)) ∙ s .same;
+          same = ap length e ∙ length-sets d k (reverse (tab f (a + (left - m)) m)) ∙ s .same;
         }
 
-    pub turned-one : 1 ≤ left → {d′ : List A} → d′ ≡ set d (k - 1) (f p) → Turned f a n at d₀ d′ (p + 1) (k - 1) (left - 1)
+    pub turned-one : 1 ≤ left → {d′ : List A} → d′ ≡ set d k (f (a + (left - 1))) → Turned f a n at d₀ d′ (k + 1) (left - 1)
     unfolding tab
     turned-one h e = turned-more 1 h e
 
     pub turned-all : left ≤ 0 → d ≡ sets d₀ at (reverse (tab f a n))
-    turned-all h = rw (rev-none f p left h) at (s .rest)
+    turned-all h = rw (rev-none f a left h) at (s .rest)

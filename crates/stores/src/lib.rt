@@ -7,11 +7,15 @@ ghost use lib.Seq.{sets};
 ghost use mathlib.Core.List.{reverse};
 ghost use mathlib.Core.Path.{_≡_};
 
-// Stores a byte at m places, from place k on.
+// Stores a byte at m places, from place k on; one is stored at once.
 pub fn put_bytes(bitmap: &mut [u8], k: usize, m: usize, byte: u8)
     requires { ⌜ k + m ≤ length (now bitmap) ⌝ }
     ensures { λ _. ⌜ now (bitmap .exit) ≡ sets (now (bitmap .entry)) k (replicate m byte) ⌝ }
 {
+    if m == 1 {
+        bitmap[k] = byte;
+        return;
+    }
     let mut j = k;
     let mut left = m;
     while 0 < left {
@@ -135,30 +139,27 @@ fn turn_eight(values: &[i64], p: usize, out: &mut [i64], k: usize)
     requires { ⌜ k + 8 ≤ length (now out) ⌝ }
     ensures { λ _. ⌜ now (out .exit) ≡ sets (now (out .entry)) k (reverse (tab (λ i. getD (now (values .entry)) i (pos 0)) p 8)) ⌝ }
 {
-    turn_four(values, p, out, k + 4);
     turn_four(values, p + 4, out, k);
+    turn_four(values, p, out, k + 4);
 }
 
-// Copies the n values from value a on, last first: they are read upwards, as they lie, and written downwards, eight at a time and then singly.
+// Copies the n values from value a on, last first, eight at a time and then singly; they are written upwards, which caches like best.
 pub fn copy_backward(values: &[i64], a: usize, n: usize, out: &mut [i64], at: usize)
     requires { ⌜ a + n ≤ length (now values) ⌝ }
     requires { ⌜ at + n ≤ length (now out) ⌝ }
     ensures { λ _. ⌜ now (out .exit) ≡ sets (now (out .entry)) at (reverse (tab (λ i. getD (now (values .entry)) i (pos 0)) a n)) ⌝ }
 {
-    let mut p = a;
-    let mut k = at + n;
+    let mut k = at;
     let mut left = n;
     while 8 <= left {
-        k -= 8;
-        turn_eight(values, p, out, k);
-        p += 8;
         left -= 8;
+        turn_eight(values, a + left, out, k);
+        k += 8;
     }
     while 0 < left {
-        k -= 1;
-        out[k] = values[p];
-        p += 1;
         left -= 1;
+        out[k] = values[a + left];
+        k += 1;
     }
 }
 

@@ -14,6 +14,14 @@ ghost use lib.IntN.{_+ℤ_, natAbs, pos};
 ghost use lib.ListN.{getD, length};
 ghost use mathlib.Core.Path.{_≡_};
 
+// The place after p.
+fn next_place(p: usize, stride: i64) -> usize
+    requires { ⌜ Follows p stride ⌝ }
+    ensures { λ r. ⌜ r ≡ natAbs (pos p +ℤ stride) ⌝ }
+{
+    ((p as i64) + stride) as usize
+}
+
 // The place after p, where one is left: none past the last is computed.
 fn place_after(p: usize, stride: i64, left: usize) -> usize
     requires { ⌜ (0 < left → Follows p stride) ⌝ }
@@ -22,7 +30,7 @@ fn place_after(p: usize, stride: i64, left: usize) -> usize
     if left == 0 {
         return p;
     }
-    ((p as i64) + stride) as usize
+    next_place(p, stride)
 }
 
 // Writes count elements of the n from element a on, one after the other: those at start, start + stride, and so on.
@@ -57,7 +65,8 @@ fn write_each_place(
     k
 }
 
-// Copies count values of the n from value a on: those at start, start + stride, and so on.
+// Copies count values of the n from value a on: those at start, start + stride, and so on. The last is copied after the loop, so that no
+// place past it is computed.
 fn copy_places(
     values: &[i64],
     a: usize,
@@ -73,16 +82,21 @@ fn copy_places(
     requires room { ⌜ at + count ≤ length (now out) ⌝ }
     ensures { λ _. ⌜ now (out .exit) ≡ putValues (now (out .entry)) at (sliced start stride count (tab (λ i. val (getD (now (values .entry)) i (pos 0))) a n)) ⌝ }
 {
+    if count == 0 {
+        return;
+    }
     let mut p = start;
-    let mut left = count;
+    let mut left = count - 1;
     let mut k = at;
     while 0 < left {
         let i = a + p;
         out[k] = values[i];
         k += 1;
         left -= 1;
-        p = place_after(p, stride, left);
+        p = next_place(p, stride);
     }
+    let i = a + p;
+    out[k] = values[i];
 }
 
 // Writes the same elements, none of them null: their values, and then their bits at once.

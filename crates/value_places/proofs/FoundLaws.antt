@@ -19,7 +19,7 @@ use Rattle.model.specs.Rows.{anyValueOf, elementOf}
 use Rattle.model.specs.Slice.{Bound, unfit, outside, place, fits}
 use Rattle.model.proofs.TabLaws.{length-tab, tab-step, tab-none, getD-tab}
 use Rattle.column.specs.Rows.{rowFrom, lenFrom}
-use Rattle.index.specs.Place.{indexBound, taken}
+use Rattle.index.specs.Place.{indexBound, placeOr, taken}
 use Rattle.index.proofs.PlaceLaws.{element-taken, place-inside}
 use Rattle.value_places.specs.Found.{foundAt, boundPlace, elementPlace, unfitAt, fourAt}
 
@@ -102,6 +102,12 @@ element-from L rb E r a b nul s = found-end E (a + lenFrom rb r a b) ∙ sym (el
 element-from L rb E r a b (val z) s = bound-row L E a (lenFrom rb r a b) z s ∙ sym (element-row rb E r a b z)
 
 -- ---- where an index points
+
+pub bound-place : (b : Bound) (a n : ℕ) → boundPlace b a n ≡ a + placeOr b n
+unfolding boundPlace placeOr
+bound-place unfit a n = refl
+bound-place outside a n = refl
+bound-place (place p) a n = refl
 
 module _ (L : Limits) (is : List ℤ) (ib : Bits) (r a n : ℕ) where
   pub place-null : validAt ib r ≡ false → elementPlace L (elemAt is ib r) a n ≡ a + n

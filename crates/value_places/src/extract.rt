@@ -1,11 +1,10 @@
 // Finding one element of a row.
 // After extract.rs of datafusion-functions-nested 55.2.0, Apache License 2.0, Apache Software Foundation; changed, see NOTICE.
-use index::Bound;
 use model::Width;
 ghost use Prim.Native.Nat.{_<_, _≤_};
 ghost use Rattle.bitmap.specs.Push.{Covers};
 ghost use Rattle.column.specs.Outputs.{ReadableElems};
-ghost use Rattle.index.specs.Place.{bound, indexBound};
+ghost use Rattle.index.specs.Place.{indexBound, placeOr};
 ghost use Rattle.model.specs.Inner.{nowBits, lentBits, lentElem};
 ghost use Rattle.model.specs.Limits.{narrow};
 ghost use Rattle.model.specs.Widths.{limitsAt};
@@ -61,10 +60,10 @@ pub(crate) fn is_unfit(
     !index::fits_i32(indexes[r])
 }
 
-// Where an index points in a row of len elements.
-fn index_bound(index: i64, len: usize, width: Width) -> Bound
+// Where an index points in a row of len elements, or len.
+fn index_bound(index: i64, len: usize, width: Width) -> usize
     requires { ⌜ len ≤ limitsAt width .offset ⌝ }
-    ensures { λ b. ⌜ b ≡ bound (indexBound (limitsAt width) len index) ⌝ }
+    ensures { λ p. ⌜ p ≡ placeOr (indexBound (limitsAt width) len index) len ⌝ }
 {
     match width {
         Width::Narrow => index::adjusted_array_index(index, len),
@@ -93,10 +92,5 @@ pub(crate) fn element_place(
     if !bitmap::is_valid(index_bits, istart, r, n) {
         return a + k;
     }
-    let found = index_bound(indexes[r], k, width);
-    match found {
-        Bound::Unfit => a + k,
-        Bound::Outside => a + k,
-        Bound::At(p) => a + p,
-    }
+    a + index_bound(indexes[r], k, width)
 }

@@ -119,10 +119,10 @@ put-offset-requires : tie.Need-put-offset-requires Inv-loop μ-loop
 put-offset-requires c κs = (omega (arith, begun c .pre .1 .1 .1 .offsets), omega arith)
 
 first-offset-requires : tie.Need-first-offset-requires Inv-loop μ-loop
-first-offset-requires c κs = c .before .before .before .before .before .row-count .ensures
+first-offset-requires c κs = search
 
 loop-holds : tie.Need-loop-holds Inv-loop μ-loop
-loop-holds c = (walk-begun _ _ _ _ _ _, refl, refl, c .first-offset .ensures)
+loop-holds c = (walk-begun _ _ _ _ _ _, refl, refl, λ z. c .first-offset .ensures)
 
 add-offset-at : tie.Need-add-offset-at Inv-loop μ-loop
 add-offset-at c = omega (arith, c .before .loop .inv .0 .rows, c .loop-test .taken)

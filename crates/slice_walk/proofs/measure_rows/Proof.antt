@@ -1,9 +1,10 @@
 use mathlib.Core.Path.{_≡_, refl, sym, ap, _∙_}
 use mathlib.Core.Bool.{Bool}
+use mathlib.Core.Logic.{⊎-elim}
 use mathlib.Core.List.{List}
-use Prim.Native.Nat.{ℕ, _+_, _-_, _<_}
+use Prim.Native.Nat.{ℕ, _+_, _-_, _%_}
 use native.Mathlib.Omega.{arith}
-use lib.Dec.{ltb}
+use lib.Dec.{ltb, eqb}
 use Rattle.model.specs.Basics.{tab}
 use Rattle.model.specs.Bitmap.{from}
 use Rattle.model.specs.Limits.{Limits}
@@ -21,18 +22,20 @@ use Rattle.made_rows.specs.Made.{rowMadeAt, refusalAt}
 use Rattle.sums.specs.Sums.{letThrough}
 use Rattle.made_rows.proofs.CallLaws.{refusal-of, length-of, length-le}
 use Rattle.made_rows.proofs.LoopLaws.{Measuring, measuring-begun, measuring-more, measuring-stops, measuring-done, rows-stop, rows-end}
-use Rattle.slice_walk.specs.Sliced.{opBy, opIf, NullEmpty}
-use Rattle.slice_walk.proofs.SliceLaws.{op-by, no-resize, served-as, there, first-served, second-served, third-served, known, op-chosen, null-empty, refusal-planned, count-planned}
+use Rattle.bit_words.specs.Words.{lowBits}
+use Rattle.slice_rows.specs.Sliced.{opBy, allValid, opIf, NullEmpty}
+use Rattle.slice_walk.proofs.SliceLaws.{op-by, no-resize, served-as, there, first-served, second-served, third-served, known, Held, held-none, held-anew, held-still, held-first, held-rest, op-chosen, null-empty, refusal-planned, count-planned}
 use Rattle.slice_walk.proofs.measure_rows.Statement.{statement}
 use Rattle.slice_walk.proofs.measure_rows.Tie as tie
 
 abbrev Inv-loop : tie.InvT-loop
-Inv-loop offsets rows rstart values elements estart xs xbits xstart ys ybits ystart zs zbits zstart width large n columns by sure found₀ r₀ left₀ a₀ found r left a =
+Inv-loop offsets rows rstart values elements estart xs xbits xstart ys ybits ystart zs zbits zstart width large n columns by found₀ r₀ left₀ word₀ known₀ a₀ found r left word known a =
     Measuring (rowMadeAt (limitsAt width) (opBy by) (column (used width offsets large) (from rstart rows) values (from estart elements)) (arguments xs (from xstart xbits)) (arguments ys (from ystart ybits)) (arguments zs (from zstart zbits))) (refusalAt (limitsAt width) (opBy by) (column (used width offsets large) (from rstart rows) values (from estart elements)) (arguments xs (from xstart xbits)) (arguments ys (from ystart ybits)) (arguments zs (from zstart zbits))) n a (limitsAt width .offset) found r left
     × (a ≡ offsetAt (used width offsets large) r)
+    × (lowBits word known ≡ tab (allValid by (from rstart rows) (from xstart xbits) (from ystart ybits) (from zstart zbits)) r known)
 
 abbrev μ-loop : tie.MeasureT-loop
-μ-loop offsets rows rstart values elements estart xs xbits xstart ys ybits ystart zs zbits zstart width large n columns by sure found₀ r₀ left₀ a₀ found r left a =
+μ-loop offsets rows rstart values elements estart xs xbits xstart ys ybits ystart zs zbits zstart width large n columns by found₀ r₀ left₀ word₀ known₀ a₀ found r left word known a =
     left
 
 abbrev N : tie.Start Inv-loop μ-loop → Limits
@@ -53,13 +56,13 @@ Z s = arguments (s .args .zs .now) (from (s .args .zstart) (s .args .zbits .now)
 -- ---- places: what the operation takes and the start, from the loop; the loop and the second offset, from a turn's plan
 
 abbrev takes : tie.At-loop Inv-loop μ-loop → tie.After-takes Inv-loop μ-loop
-takes l = l .before .before .before
+takes l = l .before .before
 
 abbrev S : tie.At-loop Inv-loop μ-loop → tie.Start Inv-loop μ-loop
 S l = takes l .before .before .before .before .before .before .before
 
 abbrev second : tie.After-plan-at Inv-loop μ-loop → tie.After-offset-at Inv-loop μ-loop
-second p = p .before .before
+second p = p .before .before .before
 
 abbrev looped : tie.After-plan-at Inv-loop μ-loop → tie.At-loop Inv-loop μ-loop
 looped p = second p .before .before
@@ -87,6 +90,10 @@ serves l = served-as (op-is l) (rows-are l) (S l .pre .1 .0)
 abbrev W : tie.At-loop Inv-loop μ-loop → ℕ → Row
 W l = let s = S l in rowMadeAt (N s) (OP l) (C s) (X s) (Y s) (Z s)
 
+-- which rows are valid with their arguments
+abbrev G : tie.At-loop Inv-loop μ-loop → ℕ → Bool
+G l = let s = S l in allValid (B l) (C s .rows) (X s .bits) (Y s .bits) (Z s .bits)
+
 abbrev K : tie.At-loop Inv-loop μ-loop → ℕ → ℕ
 K l = let s = S l in refusalAt (N s) (OP l) (C s) (X s) (Y s) (Z s)
 
@@ -96,11 +103,20 @@ reads q =
     let l = q .before .before in
     between (C (S l)) (count l) (l .loop .r) (l .loop .a) (q .offset-at .result) (S l .pre .0) (rows-are l) (omega (arith, l .loop .inv .0 .sums .rows, q .before .loop-test .taken)) (l .loop .inv .1) (q .offset-at .ensures .0)
 
+-- the bits that a turn holds
+holds : (j : tie.Joined1 Inv-loop μ-loop) → let l = j .before .before .before in Held (G l) (l .loop .r) (j .if1 .word) (j .if1 .known)
+holds j =
+    let l = j .before .before .before in
+    ⊎-elim
+    (λ w. held-anew (G l) (l .loop .r) (l .loop .left) (w .3) (w .4) (w .2 .ensures) (w .1 .ensures))
+    (λ w. held-still (G l) (l .loop .r) (w .1) (w .2) (omega (arith, w .0 .left)) (l .loop .inv .2))
+    (j .if1 .came)
+
 -- ---- what is done to it
 
 module _ (p : tie.After-plan-at Inv-loop μ-loop) where
   abbrev valid : Bool
-  valid = p .before .is-made .result
+  valid = eqb (p .before .before .if1 .word % 2) 1
 
   abbrev plan : SlicePlan
   plan = p .plan-at .result
@@ -118,7 +134,7 @@ module _ (p : tie.After-plan-at Inv-loop μ-loop) where
   es = let s = S (looped p) in tab (elemAt (C s .values) (C s .elements)) a (b - a)
 
   chosen : let s = S (looped p) in opIf valid plan ≡ opAt (N s) (OP (looped p)) (C s .rows) (X s) (Y s) (Z s) r (b - a)
-  chosen = let s = S (looped p) in op-chosen (N s) (C s .rows) (X s) (Y s) (Z s) r (b - a) (B (looped p)) valid plan (p .before .is-made .ensures) (p .plan-at .ensures)
+  chosen = let s = S (looped p) in op-chosen (N s) (C s .rows) (X s) (Y s) (Z s) r (b - a) (B (looped p)) valid plan (held-first (G (looped p)) (p .before .before .if1 .known) (holds (p .before .before))) (p .plan-at .ensures)
 
   empty : NullEmpty valid plan
   empty = null-empty _ _ _ _ _ _ _ _ _ (p .plan-at .ensures)
@@ -151,14 +167,11 @@ row-count-requires c κs = search
 takes-requires : tie.Need-takes-requires Inv-loop μ-loop
 takes-requires c κs = search
 
-are-bits-absent-requires : tie.Need-are-bits-absent-requires Inv-loop μ-loop
-are-bits-absent-requires c κs = search
-
 first-offset-requires : tie.Need-first-offset-requires Inv-loop μ-loop
 first-offset-requires c κs = search
 
 loop-holds : tie.Need-loop-holds Inv-loop μ-loop
-loop-holds c = (measuring-begun _ _ _ _ _, c .first-offset .ensures)
+loop-holds c = (measuring-begun _ _ _ _ _, c .first-offset .ensures, held-none _ 0 0)
 
 add-offset-at : tie.Need-add-offset-at Inv-loop μ-loop
 add-offset-at c = omega (arith, c .before .loop .inv .0 .sums .rows, c .loop-test .taken)
@@ -169,12 +182,18 @@ offset-at-requires c κs = omega (arith, rows-are (c .before), c .before .loop .
 sub-len : tie.Need-sub-len Inv-loop μ-loop
 sub-len c = reads c .rises
 
-is-made-requires : tie.Need-is-made-requires Inv-loop μ-loop
-is-made-requires c κs = let l = c .before .before in (l .before .before .are-bits-absent .ensures, (known (B l) (C (S l) .rows) (reads c .rows) (serves l), reads c .there))
+valid-bits-requires : tie.Need-valid-bits-requires Inv-loop μ-loop
+valid-bits-requires c κs =
+    let q = c .before in
+    let l = q .before .before in
+    (known (B l) (C (S l) .rows) (reads q .rows) (serves l), (q .before .loop-test .taken, omega (arith, l .loop .inv .0 .sums .rows)))
+
+batch-requires : tie.Need-batch-requires Inv-loop μ-loop
+batch-requires c κs = search
 
 plan-at-requires : tie.Need-plan-at-requires Inv-loop μ-loop
 plan-at-requires c κs =
-    let q = c .before in
+    let q = c .before .before in
     let l = q .before .before in
     let s = S l in
     (there (count l) (X s) (first-served (B l) (serves l)) (l .loop .r) (reads q .there), (there (count l) (Y s) (second-served (B l) (serves l)) (l .loop .r) (reads q .there), (λ h. there (count l) (Z s) (third-served (B l) (serves l) h) (l .loop .r) (reads q .there), omega (arith, q .offset-at .ensures .1))))
@@ -188,7 +207,7 @@ returns c =
     let k = c .before in
     let l = looped (k .before) in
     let s = S l in
-    (rw (op-is l) (rows-stop (N s) (OP l) (C s) (X s) (Y s) (Z s) (count l) (rows-are l) (k .refusal-of .result) (measuring-stops (W l) (K l) (l .loop .inv .0) (k .refusal-of .result) (second (k .before) .before .loop-test .taken) (refuses k) (c .if1 .taken)) (c .if1 .taken)), omega arith)
+    (rw (op-is l) (rows-stop (N s) (OP l) (C s) (X s) (Y s) (Z s) (count l) (rows-are l) (k .refusal-of .result) (measuring-stops (W l) (K l) (l .loop .inv .0) (k .refusal-of .result) (second (k .before) .before .loop-test .taken) (refuses k) (c .if2 .taken)) (c .if2 .taken)), omega arith)
 
 count-of-requires : tie.Need-count-of-requires Inv-loop μ-loop
 count-of-requires c κs = search
@@ -199,17 +218,22 @@ add-found c = omega (arith, more c .small, limits-fit (S (looped (c .before .bef
 add-r : tie.Need-add-r Inv-loop μ-loop
 add-r c = let l = looped (c .before .before .before) in omega (arith, l .loop .inv .0 .sums .rows, second (c .before .before .before) .before .loop-test .taken)
 
+sub-known : tie.Need-sub-known Inv-loop μ-loop
+sub-known c = holds (c .before .before .before .before .before .before) .some
+
 sub-left : tie.Need-sub-left Inv-loop μ-loop
 sub-left c = omega (arith, second (c .before .before .before) .before .loop-test .taken)
 
 loop-less : tie.Need-loop-less Inv-loop μ-loop
-loop-less c = omega (arith, second (c .before .before .before) .before .loop-test .taken)
+loop-less c = omega (arith, second (c .before .before .before .before) .before .loop-test .taken)
 
 loop-again : tie.Need-loop-again Inv-loop μ-loop
 loop-again c =
-    let k = c .before .before in
-    let l = looped (k .before) in
-    (measuring-more (W l) (K l) (l .loop .inv .0) (k .refusal-of .result) (second (k .before) .before .loop-test .taken) (refuses k) (c .before .if1 .left) (more c), second (k .before) .offset-at .ensures .0)
+    let m = c .before in
+    let k = m .before .before in
+    let p = k .before in
+    let l = looped p in
+    (measuring-more (W l) (K l) (l .loop .inv .0) (k .refusal-of .result) (second p .before .loop-test .taken) (refuses k) (m .before .if2 .left) (more m), second p .offset-at .ensures .0, held-rest (G l) (p .before .before .if1 .known) (holds (p .before .before)))
 
 returns-2 : tie.Need-returns-2 Inv-loop μ-loop
 unfolding letThrough
@@ -227,13 +251,13 @@ measure-rows-spec =
     μ-loop
     row-count-requires
     takes-requires
-    are-bits-absent-requires
     first-offset-requires
     loop-holds
     add-offset-at
     offset-at-requires
     sub-len
-    is-made-requires
+    valid-bits-requires
+    batch-requires
     plan-at-requires
     refusal-of-requires
     returns
@@ -241,6 +265,7 @@ measure-rows-spec =
     add-found
     add-r
     sub-left
+    sub-known
     loop-less
     loop-again
     returns-2)

@@ -1,9 +1,10 @@
 use mathlib.Core.Path.{_≡_, refl, sym, ap, _∙_}
 use mathlib.Core.Bool.{Bool}
+use mathlib.Core.Logic.{⊎-elim}
 use mathlib.Core.List.{List}
-use Prim.Native.Nat.{ℕ, _-_}
+use Prim.Native.Nat.{ℕ, _-_, _%_}
 use native.Mathlib.Omega.{arith}
-use lib.Dec.{ltb}
+use lib.Dec.{ltb, eqb}
 use lib.IntN.{ℤ}
 use lib.ListN.{length}
 use Rattle.model.specs.Basics.{tab}
@@ -25,20 +26,22 @@ use Rattle.arguments.specs.Taken.{Served, opAt}
 use Rattle.made_rows.specs.Made.{rowMadeAt}
 use Rattle.made_rows.proofs.RowLaws.{op-doable}
 use Rattle.made_rows.proofs.CallLaws.{row-of, room-at, rows-at}
-use Rattle.slice_walk.specs.Sliced.{opBy, opIf}
-use Rattle.slice_walk.proofs.SliceLaws.{op-by, served-as, size-as, room-as, there, first-served, second-served, third-served, known, op-chosen, null-empty}
+use Rattle.bit_words.specs.Words.{lowBits}
+use Rattle.slice_rows.specs.Sliced.{opBy, allValid, opIf}
+use Rattle.slice_walk.proofs.SliceLaws.{op-by, served-as, size-as, room-as, there, first-served, second-served, third-served, known, Held, held-none, held-anew, held-still, held-first, held-rest, op-chosen, null-empty}
 use Rattle.slice_walk.proofs.write_rows.Statement.{statement}
 use Rattle.slice_walk.proofs.write_rows.Tie as tie
 
 abbrev Inv-loop : tie.InvT-loop
-Inv-loop offsets rows rstart values elements estart xs xbits xstart ys ybits ystart zs zbits zstart out-offsets₀ out-rows₀ out-values₀ out-elements₀ width large out-large₀ n columns by sure r₀ at₀ left₀ a₀ out-offsets out-rows out-values out-elements out-large r at left a =
+Inv-loop offsets rows rstart values elements estart xs xbits xstart ys ybits ystart zs zbits zstart out-offsets₀ out-rows₀ out-values₀ out-elements₀ width large out-large₀ n columns by r₀ at₀ left₀ word₀ known₀ a₀ out-offsets out-rows out-values out-elements out-large r at left word known a =
     Walking (rowMadeAt (limitsAt width) (opBy by) (column (used width offsets large) (from rstart rows) values (from estart elements)) (arguments xs (from xstart xbits)) (arguments ys (from ystart ybits)) (arguments zs (from zstart zbits))) n (used width out-offsets₀ out-large₀) out-rows₀ out-values₀ out-elements₀ (used width out-offsets out-large) out-rows out-values out-elements r at left
     × (length out-offsets ≡ length out-offsets₀)
     × (length out-large ≡ length out-large₀)
     × (a ≡ offsetAt (used width offsets large) r)
+    × (lowBits word known ≡ tab (allValid by (from rstart rows) (from xstart xbits) (from ystart ybits) (from zstart zbits)) r known)
 
 abbrev μ-loop : tie.MeasureT-loop
-μ-loop offsets rows rstart values elements estart xs xbits xstart ys ybits ystart zs zbits zstart out-offsets₀ out-rows₀ out-values₀ out-elements₀ width large out-large₀ n columns by sure r₀ at₀ left₀ a₀ out-offsets out-rows out-values out-elements out-large r at left a =
+μ-loop offsets rows rstart values elements estart xs xbits xstart ys ybits ystart zs zbits zstart out-offsets₀ out-rows₀ out-values₀ out-elements₀ width large out-large₀ n columns by r₀ at₀ left₀ word₀ known₀ a₀ out-offsets out-rows out-values out-elements out-large r at left word known a =
     left
 
 abbrev N : tie.Start Inv-loop μ-loop → Limits
@@ -67,7 +70,7 @@ abbrev put : tie.At-loop Inv-loop μ-loop → tie.After-put-offset Inv-loop μ-l
 put l = l .before .before .before .before
 
 abbrev takes : tie.At-loop Inv-loop μ-loop → tie.After-takes Inv-loop μ-loop
-takes l = put l .before .before .before .before
+takes l = put l .before .before .before
 
 abbrev begun : tie.After-takes Inv-loop μ-loop → tie.Start Inv-loop μ-loop
 begun t = t .before .before .before .before .before .before .before .before .before
@@ -85,7 +88,7 @@ abbrev planned : tie.After-put-slice Inv-loop μ-loop → tie.After-plan-at Inv-
 planned w = w .before .before .before .before
 
 abbrev second : tie.After-plan-at Inv-loop μ-loop → tie.After-offset-at Inv-loop μ-loop
-second p = p .before .before
+second p = p .before .before .before
 
 abbrev looped : tie.After-plan-at Inv-loop μ-loop → tie.At-loop Inv-loop μ-loop
 looped p = second p .before .before
@@ -113,6 +116,10 @@ serves l = served-as (op-is l) (rows-are l) (S l .pre .1 .0)
 abbrev W : tie.At-loop Inv-loop μ-loop → ℕ → Row
 W l = let s = S l in rowMadeAt (N s) (OP l) (C s) (X s) (Y s) (Z s)
 
+-- which rows are valid with their arguments
+abbrev G : tie.At-loop Inv-loop μ-loop → ℕ → Bool
+G l = let s = S l in allValid (B l) (C s .rows) (X s .bits) (Y s .bits) (Z s .bits)
+
 -- room for all rows, from the code's count
 roomy : (l : tie.At-loop Inv-loop μ-loop) (lo : ℕ) → lo ≡ length (O (S l)) → let a = S l .args in RoomInˡ (count l) (length (flat (tab (W l) 0 (count l)))) lo (length (a .out-rows .now)) (length (a .out-values .now)) (length (a .out-elements .now))
 roomy l lo e = let s = S l in room-at (N s) (OP l) (C s) (X s) (Y s) (Z s) (count l) (rows-are l) (room-as (N s) (C s) (X s) (Y s) (Z s) (op-is l) (s .pre .1 .1 .1 .1)) e
@@ -123,11 +130,23 @@ reads q =
     let l = q .before .before in
     between (C (S l)) (count l) (l .loop .r) (l .loop .a) (q .offset-at .result) (S l .pre .0) (rows-are l) (omega (arith, l .loop .inv .0 .rows, q .before .loop-test .taken)) (l .loop .inv .3) (q .offset-at .ensures .0)
 
+-- the bits that a turn holds
+holds : (j : tie.Joined1 Inv-loop μ-loop) → let l = j .before .before .before in Held (G l) (l .loop .r) (j .if1 .word) (j .if1 .known)
+holds j =
+    let l = j .before .before .before in
+    ⊎-elim
+    (λ w. held-anew (G l) (l .loop .r) (l .loop .left) (w .3) (w .4) (w .2 .ensures) (w .1 .ensures))
+    (λ w. held-still (G l) (l .loop .r) (w .1) (w .2) (omega (arith, w .0 .left)) (l .loop .inv .4))
+    (j .if1 .came)
+
 -- ---- what is done to it
 
 module _ (p : tie.After-plan-at Inv-loop μ-loop) where
+  abbrev valid : Bool
+  valid = eqb (p .before .before .if1 .word % 2) 1
+
   abbrev done : RowOp
-  done = opIf (p .before .is-made .result) (p .plan-at .result)
+  done = opIf valid (p .plan-at .result)
 
   abbrev len : ℕ
   len = second p .offset-at .result - looped p .loop .a
@@ -136,7 +155,7 @@ module _ (p : tie.After-plan-at Inv-loop μ-loop) where
   chosen =
       let l = looped p in
       let s = S l in
-      op-chosen (N s) (C s .rows) (X s) (Y s) (Z s) (l .loop .r) len (B l) (p .before .is-made .result) (p .plan-at .result) (p .before .is-made .ensures) (p .plan-at .ensures)
+      op-chosen (N s) (C s .rows) (X s) (Y s) (Z s) (l .loop .r) len (B l) valid (p .plan-at .result) (held-first (G l) (p .before .before .if1 .known) (holds (p .before .before))) (p .plan-at .ensures)
 
   -- the row that a turn makes is row r's
   abbrev made : Row
@@ -154,17 +173,14 @@ row-count-requires c κs = search
 takes-requires : tie.Need-takes-requires Inv-loop μ-loop
 takes-requires c κs = search
 
-are-bits-absent-requires : tie.Need-are-bits-absent-requires Inv-loop μ-loop
-are-bits-absent-requires c κs = search
-
 put-offset-requires : tie.Need-put-offset-requires Inv-loop μ-loop
-put-offset-requires c κs = (omega (arith, begun (c .before .before .before) .pre .1 .1 .1 .1 .offsets), omega arith)
+put-offset-requires c κs = (omega (arith, begun (c .before .before) .pre .1 .1 .1 .1 .offsets), omega arith)
 
 first-offset-requires : tie.Need-first-offset-requires Inv-loop μ-loop
 first-offset-requires c κs = search
 
 loop-holds : tie.Need-loop-holds Inv-loop μ-loop
-loop-holds c = (walk-begun _ _ _ _ _ _, refl, refl, c .first-offset .ensures)
+loop-holds c = (walk-begun _ _ _ _ _ _, refl, refl, c .first-offset .ensures, held-none _ 0 0)
 
 add-offset-at : tie.Need-add-offset-at Inv-loop μ-loop
 add-offset-at c = omega (arith, c .before .loop .inv .0 .rows, c .loop-test .taken)
@@ -175,12 +191,18 @@ offset-at-requires c κs = omega (arith, rows-are (c .before), c .before .loop .
 sub-len : tie.Need-sub-len Inv-loop μ-loop
 sub-len c = reads c .rises
 
-is-made-requires : tie.Need-is-made-requires Inv-loop μ-loop
-is-made-requires c κs = let l = c .before .before in (put l .before .before .before .are-bits-absent .ensures, (known (B l) (C (S l) .rows) (reads c .rows) (serves l), reads c .there))
+valid-bits-requires : tie.Need-valid-bits-requires Inv-loop μ-loop
+valid-bits-requires c κs =
+    let q = c .before in
+    let l = q .before .before in
+    (known (B l) (C (S l) .rows) (reads q .rows) (serves l), (q .before .loop-test .taken, omega (arith, l .loop .inv .0 .rows)))
+
+batch-requires : tie.Need-batch-requires Inv-loop μ-loop
+batch-requires c κs = search
 
 plan-at-requires : tie.Need-plan-at-requires Inv-loop μ-loop
 plan-at-requires c κs =
-    let q = c .before in
+    let q = c .before .before in
     let l = q .before .before in
     let s = S l in
     (there (count l) (X s) (first-served (B l) (serves l)) (l .loop .r) (reads q .there), (there (count l) (Y s) (second-served (B l) (serves l)) (l .loop .r) (reads q .there), (λ h. there (count l) (Z s) (third-served (B l) (serves l) h) (l .loop .r) (reads q .there), omega (arith, q .offset-at .ensures .1))))
@@ -212,16 +234,20 @@ add-r c = let p = planned (turned c) in omega (arith, second p .before, looped p
 sub-left : tie.Need-sub-left Inv-loop μ-loop
 sub-left c = omega (arith, second (planned (turned c)) .before .loop-test .taken)
 
+sub-known : tie.Need-sub-known Inv-loop μ-loop
+sub-known c = holds (planned (turned (c .before)) .before .before) .some
+
 loop-less : tie.Need-loop-less Inv-loop μ-loop
-loop-less c = omega (arith, second (planned (turned c)) .before .loop-test .taken)
+loop-less c = omega (arith, second (planned (turned (c .before))) .before .loop-test .taken)
 
 loop-again : tie.Need-loop-again Inv-loop μ-loop
 loop-again c =
-    let w = turned c in
+    let m = c .before in
+    let w = turned m in
     let p = planned w in
     let l = looped p in
-    let o = c .before .before .put-offset2 in
-    (walk-more (W l) (count l) (made p) (second p .before .loop-test .taken) (same-row p) (l .loop .inv .0) (w .put-slice .ensures) (o .ensures), o .kept .1 .0 ∙ l .loop .inv .1, o .kept .1 .1 .0 ∙ l .loop .inv .2, second p .offset-at .ensures .0)
+    let o = m .before .before .put-offset2 in
+    (walk-more (W l) (count l) (made p) (second p .before .loop-test .taken) (same-row p) (l .loop .inv .0) (w .put-slice .ensures) (o .ensures), o .kept .1 .0 ∙ l .loop .inv .1, o .kept .1 .1 .0 ∙ l .loop .inv .2, second p .offset-at .ensures .0, held-rest (G l) (p .before .before .if1 .known) (holds (p .before .before)))
 
 same-length : tie.Need-same-length Inv-loop μ-loop
 same-length c = c .before .loop .inv .1 ∙ put (c .before) .put-offset .kept .1 .0
@@ -253,20 +279,21 @@ write-rows-spec =
     μ-loop
     row-count-requires
     takes-requires
-    are-bits-absent-requires
     put-offset-requires
     first-offset-requires
     loop-holds
     add-offset-at
     offset-at-requires
     sub-len
-    is-made-requires
+    valid-bits-requires
+    batch-requires
     plan-at-requires
     put-slice-requires
     add-put-offset
     put-offset-requires-2
     add-r
     sub-left
+    sub-known
     loop-less
     loop-again
     same-length
@@ -275,5 +302,3 @@ write-rows-spec =
     same-length-4
     same-length-5
     returns)
-
--- x

@@ -1,4 +1,4 @@
-use mathlib.Core.Path.{refl, _∙_}
+use mathlib.Core.Path.{_∙_}
 use Prim.Native.Nat.{_+_, _-_, _≤_, _<_}
 use native.Mathlib.Omega.{arith}
 use lib.IntN.{pos}
@@ -9,49 +9,46 @@ use Rattle.stores.proofs.copy_backward.Statement.{statement}
 use Rattle.stores.proofs.copy_backward.Tie as tie
 
 abbrev Inv-loop : tie.InvT-loop
-Inv-loop values a n out₀ at p₀ k₀ left₀ out p k left = Turned (λ i. getD values i (pos 0)) a n at out₀ out p k left
+Inv-loop values a n out₀ at k₀ left₀ out k left = Turned (λ i. getD values i (pos 0)) a n at out₀ out k left
 
 abbrev μ-loop : tie.MeasureT-loop
-μ-loop values a n out₀ at p₀ k₀ left₀ out p k left = left
+μ-loop values a n out₀ at k₀ left₀ out k left = left
 
 abbrev Inv-loop2 : tie.InvT-loop2
-Inv-loop2 values a n out₀ at p₀ k₀ left₀ out p k left = Turned (λ i. getD values i (pos 0)) p₀ left₀ at out₀ out p k left
+Inv-loop2 values a n out₀ at k₀ left₀ out k left = Turned (λ i. getD values i (pos 0)) a left₀ k₀ out₀ out k left
 
 abbrev μ-loop2 : tie.MeasureT-loop2
-μ-loop2 values a n out₀ at p₀ k₀ left₀ out p k left = left
+μ-loop2 values a n out₀ at k₀ left₀ out k left = left
 
 -- a turn of each loop
 module _ (i : tie.In-loop Inv-loop μ-loop Inv-loop2 μ-loop2) where
-  inside : (i .before .loop .p + 8 ≤ length (i .before .before .args .values .now)) × (i .before .loop .k - 8 + 8 ≤ length (i .before .loop .out))
+  inside : (i .before .before .args .a + (i .before .loop .left - 8) + 8 ≤ length (i .before .before .args .values .now)) × (i .before .loop .k + 8 ≤ length (i .before .loop .out))
   inside =
       let s = i .before .before in
       let v = i .before .loop .inv in
-      (omega (arith, i .loop-test, v .index, s .pre .0), omega (arith, i .loop-test, v .place, v .fewer, v .same, s .pre .1))
+      (omega (arith, i .loop-test, v .fewer, s .pre .0), omega (arith, i .loop-test, v .place, v .fewer, v .same, s .pre .1))
 
 module _ (i : tie.In-loop2 Inv-loop μ-loop Inv-loop2 μ-loop2) where
   abbrev start : tie.Start Inv-loop μ-loop Inv-loop2 μ-loop2
   start = i .before .before .before .before
 
-  inside2 : (i .before .loop2 .p < length (start .args .values .now)) × (i .before .loop2 .k - 1 < length (i .before .loop2 .out))
+  inside2 : (start .args .a + (i .before .loop2 .left - 1) < length (start .args .values .now)) × (i .before .loop2 .k < length (i .before .loop2 .out))
   inside2 =
       let v = i .before .loop2 .inv in
       let w = i .before .before .before .loop .inv in
-      (omega (arith, i .loop2-test, v .index, w .index, start .pre .0), omega (arith, i .loop2-test, v .place, v .fewer, v .same, w .fewer, w .same, start .pre .1))
-
-add-k : tie.Need-add-k Inv-loop μ-loop Inv-loop2 μ-loop2
-add-k c = omega (arith, c .pre .1, c)
+      (omega (arith, i .loop2-test, v .fewer, w .fewer, start .pre .0), omega (arith, i .loop2-test, v .place, v .fewer, v .same, w .place, w .fewer, w .same, start .pre .1))
 
 loop-holds : tie.Need-loop-holds Inv-loop μ-loop Inv-loop2 μ-loop2
-loop-holds c = turned-none _ _ _ _ _ refl
+loop-holds c = turned-none _ _ _ _ _
 
-sub-k : tie.Need-sub-k Inv-loop μ-loop Inv-loop2 μ-loop2
-sub-k c = omega (arith, c .loop-test, c .before .loop .inv .place)
+add-turn-eight : tie.Need-add-turn-eight Inv-loop μ-loop Inv-loop2 μ-loop2
+add-turn-eight c = omega (arith, inside c .0, c .before .before)
 
 turn-eight-requires : tie.Need-turn-eight-requires Inv-loop μ-loop Inv-loop2 μ-loop2
 turn-eight-requires c κs = inside (c .before)
 
-add-p : tie.Need-add-p Inv-loop μ-loop Inv-loop2 μ-loop2
-add-p c = let i = c .before .before .before in omega (arith, inside i .0, i .before .before)
+add-k : tie.Need-add-k Inv-loop μ-loop Inv-loop2 μ-loop2
+add-k c = let i = c .before .before .before in omega (arith, inside i .1, i .before .before, i .before .loop .inv .same)
 
 loop-less : tie.Need-loop-less Inv-loop μ-loop Inv-loop2 μ-loop2
 loop-less c = let t = c .before .before .before .loop-test in omega arith
@@ -60,10 +57,13 @@ loop-again : tie.Need-loop-again Inv-loop μ-loop Inv-loop2 μ-loop2
 loop-again c = let i = c .before .before .before in turned-more _ _ _ _ _ (i .before .loop .inv) 8 (i .loop-test .taken) (c .before .turn-eight .ensures)
 
 loop2-holds : tie.Need-loop2-holds Inv-loop μ-loop Inv-loop2 μ-loop2
-loop2-holds c = turned-none _ _ _ _ _ (c .before .loop .inv .place)
+loop2-holds c = turned-none _ _ _ _ _
 
-sub-k-2 : tie.Need-sub-k-2 Inv-loop μ-loop Inv-loop2 μ-loop2
-sub-k-2 c = omega (arith, c .loop2-test, c .before .loop2 .inv .place)
+sub-left : tie.Need-sub-left Inv-loop μ-loop Inv-loop2 μ-loop2
+sub-left c = let t = c .loop2-test in omega arith
+
+add-out : tie.Need-add-out Inv-loop μ-loop Inv-loop2 μ-loop2
+add-out c = omega (arith, inside2 c .0, start c)
 
 mul-out : tie.Need-mul-out Inv-loop μ-loop Inv-loop2 μ-loop2
 mul-out c = omega (arith, inside2 c .0, start c)
@@ -71,17 +71,14 @@ mul-out c = omega (arith, inside2 c .0, start c)
 shared-slice-copy-out-out : tie.Need-shared-slice-copy-out-out Inv-loop μ-loop Inv-loop2 μ-loop2
 shared-slice-copy-out-out c = inside2 c .0
 
-mul-t17 : tie.Need-mul-t17 Inv-loop μ-loop Inv-loop2 μ-loop2
-mul-t17 c = omega (arith, inside2 (c .before) .1, start (c .before), c .before .before .loop2 .inv .same, c .before .before .before .before .loop .inv .same)
+mul-t18 : tie.Need-mul-t18 Inv-loop μ-loop Inv-loop2 μ-loop2
+mul-t18 c = omega (arith, inside2 (c .before) .1, start (c .before), c .before .before .loop2 .inv .same, c .before .before .before .before .loop .inv .same)
 
 slice-set-from-out : tie.Need-slice-set-from-out Inv-loop μ-loop Inv-loop2 μ-loop2
 slice-set-from-out c = inside2 (c .before) .1
 
-add-p-2 : tie.Need-add-p-2 Inv-loop μ-loop Inv-loop2 μ-loop2
-add-p-2 c = omega (arith, inside2 (c .before) .0, start (c .before))
-
-sub-left : tie.Need-sub-left Inv-loop μ-loop Inv-loop2 μ-loop2
-sub-left c = let t = c .before .loop2-test in omega arith
+add-k-2 : tie.Need-add-k-2 Inv-loop μ-loop Inv-loop2 μ-loop2
+add-k-2 c = omega (arith, inside2 (c .before) .1, start (c .before), c .before .before .loop2 .inv .same, c .before .before .before .before .loop .inv .same)
 
 loop2-less : tie.Need-loop2-less Inv-loop μ-loop Inv-loop2 μ-loop2
 loop2-less c = let t = c .before .loop2-test in omega arith
@@ -103,21 +100,20 @@ copy-backward-spec =
     μ-loop
     Inv-loop2
     μ-loop2
-    add-k
     loop-holds
-    sub-k
+    add-turn-eight
     turn-eight-requires
-    add-p
+    add-k
     loop-less
     loop-again
     loop2-holds
-    sub-k-2
+    sub-left
+    add-out
     mul-out
     shared-slice-copy-out-out
-    mul-t17
+    mul-t18
     slice-set-from-out
-    add-p-2
-    sub-left
+    add-k-2
     loop2-less
     loop2-again
     same-length

@@ -1,28 +1,30 @@
-use mathlib.Core.Path.{_≡_, refl}
 use mir.Syntax.{w64}
-use mir.Val.{toZ, ofZ}
-use Rattle.model.specs.Limits.{wide}
-use Rattle.model.specs.Slice.{fits}
-use Rattle.index.proofs.SignedLaws.{read-back}
-use Rattle.index.proofs.SliceLaws.{length-some, length-none, to-empty-row, to-fits}
+use Rattle.index.proofs.ReadLaws as laws
 use Rattle.large_index.proofs.slice.adjusted_to_index.Statement.{statement}
 use Rattle.large_index.proofs.slice.adjusted_to_index.Tie as tie
 
-read-len : (s : tie.Start) → toZ w64 (ofZ w64 (s .args .len)) ≡ s .args .len
-read-len s = read-back w64 (s .args .len) (s .fits .len)
+add-result : tie.Need-add-result
+add-result c = let s = c .before in laws.from-end-fits w64 _ _ (s .fits .index) (s .fits .len) (s .pre) (c .if1 .taken)
 
 returns : tie.Need-returns
-unfolding fits
-returns c = to-empty-row wide _ _ refl (length-none _ (rw (read-len (c .before)) at (c .if1 .taken)))
+returns c =
+    let s = c .before in
+    laws.to-back w64 _ _ (s .fits .index) (s .fits .len) (laws.row-some w64 _ _ (s .fits .index) (s .fits .len) (s .pre)) (c .if1 .taken)
 
-to-place-requires : tie.Need-to-place-requires
-to-place-requires c κs = let n = read-len (c .before) in rw n (length-some _ (rw n at (c .if1 .left)))
+sub-result : tie.Need-sub-result
+sub-result c = let s = c .before .before in laws.last-fits w64 _ _ (s .fits .index) (s .fits .len) (s .pre)
 
 returns-2 : tie.Need-returns-2
-unfolding fits
-returns-2 c =
+returns-2 c = let s = c .before .before in laws.to-last w64 _ _ (s .fits .index) (s .fits .len) (s .pre) (c .if2 .taken)
+
+sub-result-2 : tie.Need-sub-result-2
+sub-result-2 c = let s = c .before .before in laws.natural-fits w64 _ _ (s .fits .index) (s .fits .len) (c .before .if1 .left)
+
+returns-3 : tie.Need-returns-3
+returns-3 c =
     let s = c .before .before in
-    to-fits wide _ _ _ refl (rw (read-back w64 (s .args .index) (s .fits .index), read-len s) at (c .to-place .ensures))
+    laws.to-on w64 _ _ (s .fits .index) (s .fits .len) (c .before .if1 .left) (laws.row-some w64 _ _ (s .fits .index) (s .fits .len) (s .pre)) (c .if2 .left)
 
 pub adjusted-to-index-spec : {M : Type 1} → statement M
-adjusted-to-index-spec = tie.close (tie.spec returns to-place-requires returns-2)
+adjusted-to-index-spec =
+    tie.close (tie.spec add-result returns sub-result returns-2 sub-result-2 returns-3)

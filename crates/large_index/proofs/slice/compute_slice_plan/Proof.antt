@@ -1,69 +1,60 @@
-use mathlib.Core.Logic.{_⊎_, inl, inr}
 use mathlib.Core.Path.{_≡_, refl, _∙_}
-use Prim.Native.Nat.{ℕ, _<_}
+use mathlib.Core.Bool.{false}
+use Prim.Native.Nat.{_<_}
 use native.Mathlib.Omega.{arith}
-use borrow.Author.Needs.{needs}
+use lib.Dec.{T}
 use lib.IntN.{pos}
+use lib.Signed.{leZ, nonNeg}
 use mir.Facts.{toZ-pos}
 use mir.Syntax.{w64}
-use mir.Val.{toZ}
+use mir.Val.{toZ, ofZ}
 use Rattle.model.specs.Column.{count}
 use Rattle.model.specs.Limits.{wide}
-use Rattle.model.specs.Slice.{fits, fromBound, toBound}
-use Rattle.index.specs.Place.{bound}
-use Rattle.index.proofs.SignedLaws.{read-back}
-use Rattle.index.proofs.SliceLaws.{plan-empty-row, plan-from-outside, plan-to-outside, plan-strided, from-within, to-within}
+use Rattle.model.specs.Slice.{fits, fromPlace, toPlace}
+use Rattle.index.specs.Plan.{placeTold}
+use Rattle.index.proofs.SignedLaws.{read-back, not-below}
+use Rattle.index.proofs.SliceLaws.{plan-empty-row, plan-from-past, plan-to-before, plan-between, first-placed, last-placed}
 use Rattle.large_index.proofs.slice.compute_slice_plan.Statement.{statement}
 use Rattle.large_index.proofs.slice.compute_slice_plan.Tie as tie
 
--- a place is the third kind of bound
-not-third : (_≡_ {A = ℕ} 2 0) ⊎ (_≡_ {A = ℕ} 2 1) → ⊥
-not-third (inl e) = omega arith
-not-third (inr e) = omega arith
+read-len : (s : tie.Start) → toZ w64 (s .args .len) ≡ pos (s .args .len)
+read-len s = toZ-pos w64 (omega (arith, s .pre))
 
--- ---- the two bounds
+some : (c : tie.Else1) → 0 < c .before .args .len
+some c = omega (arith, c)
+
+-- ---- the two places
 
 module _ (c : tie.After-adjusted-to-index) where
   abbrev start : tie.Start
   start = c .before .before .before
 
-  read-len : toZ w64 (start .args .len) ≡ pos (start .args .len)
-  read-len = toZ-pos w64 (omega (arith, start .pre))
+  full : 0 < start .args .len
+  full = some (c .before .before)
 
-  some : 0 < start .args .len
-  some = omega (arith, c .before .before)
+  read-first : toZ w64 (ofZ w64 (c .before .adjusted-from-index .result)) ≡ c .before .adjusted-from-index .result
+  read-first = read-back w64 _ (record { sfits = c .before .adjusted-from-index .ok })
 
-  from-is : c .before .adjusted-from-index .result ≡ bound (fromBound wide (start .args .len) (start .args .from))
+  read-last : toZ w64 (ofZ w64 (c .adjusted-to-index .result)) ≡ c .adjusted-to-index .result
+  read-last = read-back w64 _ (record { sfits = c .adjusted-to-index .ok })
+
+  first-is : c .before .adjusted-from-index .result ≡ pos (fromPlace (start .args .len) (start .args .from))
   unfolding count
-  from-is = rw (read-len, read-back w64 _ (start .fits .from)) at (c .before .adjusted-from-index .ensures)
+  first-is = rw (read-back w64 _ (start .fits .from), read-len start) at (c .before .adjusted-from-index .ensures)
 
-  to-is : c .adjusted-to-index .result ≡ bound (toBound wide (start .args .len) (start .args .to))
+  last-is : placeTold (c .adjusted-to-index .result) ≡ toPlace (start .args .len) (start .args .to)
   unfolding count
-  to-is = rw (read-len, read-back w64 _ (start .fits .to)) at (c .adjusted-to-index .ensures)
+  last-is = rw (read-back w64 _ (start .fits .to), read-len start) at (c .adjusted-to-index .ensures)
 
--- ---- the two places
+module _ (c : tie.Else3) where
+  abbrev places : tie.After-adjusted-to-index
+  places = c .before .before
 
-module _ (c : tie.After-known-told2) where
-  abbrev bounds : tie.After-adjusted-to-index
-  bounds = c .before .before .before .before .before .before
+  first-inside : leZ (pos (start places .args .len)) (places .before .adjusted-from-index .result) ≡ false
+  first-inside = rw (read-len (start places), read-first places) at (c .before .if2 .left)
 
-  abbrev first : ℕ
-  first = c .before .before .before .before .first .given .0 .0
-
-  abbrev last : ℕ
-  last = c .before .last .given .0 .0
-
-  first-small : first < wide .offset
-  first-small = from-within wide _ _ _ (start bounds .pre) (from-is bounds) first (c .before .before .before .before .first .given .1)
-
-  last-small : last < wide .offset
-  last-small = to-within wide _ _ _ (start bounds .pre) (to-is bounds) last (c .before .last .given .1)
-
-  read-first : toZ w64 first ≡ pos first
-  read-first = toZ-pos w64 (omega (arith, first-small))
-
-  read-last : toZ w64 last ≡ pos last
-  read-last = toZ-pos w64 (omega (arith, last-small))
+  last-natural : T (nonNeg (places .adjusted-to-index .result))
+  last-natural = not-below (places .adjusted-to-index .result) 0 (rw (read-last places) at (c .if3 .left))
 
 -- ---- each way
 
@@ -71,55 +62,47 @@ returns : tie.Need-returns
 returns c = plan-empty-row wide _ _ _ _ (c .if1 .taken)
 
 cast-n : tie.Need-cast-n
-cast-n c = search needs
+cast-n c = record { sfits = omega (arith, c .before .pre) }
 
 adjusted-from-index-requires : tie.Need-adjusted-from-index-requires
-adjusted-from-index-requires c κs = search
+unfolding count
+adjusted-from-index-requires c κs = rw (read-len (c .before)) (some c)
 
 adjusted-to-index-requires : tie.Need-adjusted-to-index-requires
-adjusted-to-index-requires c κs = search
+unfolding count
+adjusted-to-index-requires c κs = rw (read-len (c .before .before)) (some (c .before))
 
-enum-known-first : tie.Need-enum-known-first
-enum-known-first c = search
+returns-2 : tie.Need-returns-2
+unfolding fits
+returns-2 c =
+    let p = c .before in
+    plan-from-past wide _ _ _ _ (full p) refl refl _ _ (first-is p) (last-is p) (rw (read-len (start p), read-first p) at (c .if2 .taken))
 
-enum-known-last : tie.Need-enum-known-last
-enum-known-last c = search
-
-cast-plan-steps : tie.Need-cast-plan-steps
-cast-plan-steps c = record { sfits = omega (arith, first-small c) }
-
-cast-plan-steps-2 : tie.Need-cast-plan-steps-2
-cast-plan-steps-2 c = record { sfits = omega (arith, last-small c) }
+returns-3 : tie.Need-returns-3
+unfolding fits
+returns-3 c =
+    let p = c .before .before in
+    plan-to-before wide _ _ _ _ (full p) refl refl _ _ (first-is p) (last-is p) (rw (read-last p) at (c .if3 .taken))
 
 stride-of-requires : tie.Need-stride-of-requires
 stride-of-requires c κs = search
 
 plan-steps-requires : tie.Need-plan-steps-requires
 plan-steps-requires c κs =
-    let t = c .before in
-    rw (read-first t, read-last t) (record { natural = tt; small = first-small t }, record { natural = tt; small = last-small t })
-
-returns-2 : tie.Need-returns-2
-unfolding count fits
-returns-2 c =
-    let r = c .before .stride-of in
-    let t = c .before .before in
-    let b = bounds t in
-    rw (← r .ensures)
-    ((rw (read-first t, read-last t, read-back w64 (r .result) (record { sfits = r .ok })) at (c .plan-steps .ensures))
-    ∙ plan-strided wide _ _ _ _ (some b) refl refl _ _ (from-is b) (to-is b) (first t) (t .before .before .before .before .first .given .1) (last t) (t .before .last .given .1))
-
-returns-3 : tie.Need-returns-3
-unfolding fits
-returns-3 c =
-    let b = c .before .before .before .before in
-    plan-to-outside wide _ _ _ _ (some b) refl refl _ _ (from-is b) (to-is b) _ (c .before .before .first .given .1) (λ p e. not-third (rw e at (c .match2 .keys2)))
+    let e = c .before in
+    let p = places e in
+    rw (read-first p, read-last p)
+    (first-placed wide _ _ _ (start p .pre) (first-is p) (first-inside e), last-placed wide _ _ _ (start p .pre) (last-is p) (last-natural e))
 
 returns-4 : tie.Need-returns-4
 unfolding fits
 returns-4 c =
-    let b = c .before in
-    plan-from-outside wide _ _ _ _ (some b) refl refl _ _ (from-is b) (to-is b) (λ p e. not-third (rw e at (c .match .keys2)))
+    let r = c .before .stride-of in
+    let e = c .before .before in
+    let p = places e in
+    rw (← r .ensures)
+    ((rw (read-first p, read-last p, read-back w64 (r .result) (record { sfits = r .ok })) at (c .plan-steps .ensures))
+    ∙ plan-between wide _ _ _ _ (full p) refl refl _ _ (first-is p) (last-is p) (first-inside e) (last-natural e))
 
 pub compute-slice-plan-spec : {M : Type 1} → statement M
 compute-slice-plan-spec =
@@ -129,12 +112,8 @@ compute-slice-plan-spec =
     cast-n
     adjusted-from-index-requires
     adjusted-to-index-requires
-    enum-known-first
-    enum-known-last
-    cast-plan-steps
-    cast-plan-steps-2
-    stride-of-requires
-    plan-steps-requires
     returns-2
     returns-3
+    stride-of-requires
+    plan-steps-requires
     returns-4)

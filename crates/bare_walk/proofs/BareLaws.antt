@@ -52,7 +52,7 @@ module _ (u : Unary) (vs : List ℤ) (a n : ℕ) where
   last-length e = rw (e, pop_back (bare_elem vs) a n) (length-tab (bare_elem vs) a (n - 1))
 
 module _ (vs : List ℤ) (at : ℕ) {vo vo' : List ℤ} where
-  pub forward_written : (a n : ℕ) → vo' ≡ sets vo at (tab (λ i. get_or vs i (pos 0)) a n) → WritesBareˡ (bare_elems vs a n) at vo vo' (at + n)
+  forward_written : (a n : ℕ) → vo' ≡ sets vo at (tab (λ i. get_or vs i (pos 0)) a n) → WritesBareˡ (bare_elems vs a n) at vo vo' (at + n)
   unfolding value_of
   forward_written a n v = record {
     values = v ∙ ap (λ (l : List ℤ). sets vo at l) (sym (map-tab value_of (bare_elem vs) a n));
@@ -94,97 +94,69 @@ pub record Baring (W : ℕ → Row) (o : List ℤ) (n : ℕ) (o₀ d oo v : List
   pub walk : Walking W n o₀ (replicate (bytes_for n) 0) d (replicate (bytes_for (length (flat (tab W 0 n)))) 0) oo rows v elements r at left
   pub first : a ≡ offset_at o r
 
-module _ (W : ℕ → Row) (o : List ℤ) (n : ℕ) where
-  pub baring_begun : (o₀ d : List ℤ) {a : ℕ} → a ≡ offset_at o 0 → Baring W o n o₀ d o₀ d a 0 0 n
-  baring_begun o₀ d e = record { rows = _; elements = _; walk = walk_begun W n o₀ _ d _; first = e }
+module _ (u : Unary) (o vs : List ℤ) (n : ℕ) where
+  abbrev W : ℕ → Row
+  W = bare_at u o vs
+
+  pub bare_begun : (o₀ d : List ℤ) {a : ℕ} → a ≡ offset_at o 0 → Baring W o n o₀ d o₀ d a 0 0 n
+  bare_begun o₀ d e = record { rows = _; elements = _; walk = walk_begun W n o₀ _ d _; first = e }
 
   -- a turn, which reads the offset b
   module _ {o₀ d oo v : List ℤ} {a r at left : ℕ} (s : Baring W o n o₀ d oo v a r at left) (h : 0 < left) (b : ℕ) (eb : b ≡ offset_at o (r + 1)) where
-    baring_next : n ≡ row_count o → r + 1 < length o
-    baring_next e = omega (arith, s.walk.rows)
+    abbrev es : List Elem
+    es = unary_elems u (bare_elems vs a (b - a))
 
-    pub baring_reads : (vs : List ℤ) → n ≡ row_count o → bad_offsets o (length vs) ≡ false → (a ≤ b) × (b ≤ length vs)
-    baring_reads vs e w = rw (s.first, eb) (mono o (length vs) r w (baring_next e), top o (length vs) (r + 1) w (baring_next e))
+    bare_next : n ≡ row_count o → r + 1 < length o
+    bare_next e = omega (arith, s.walk.rows)
 
-    pub baring_slot : n + 1 ≤ length o₀ → r + 1 < length oo
-    baring_slot m = omega (arith, s.walk.rows, s.walk.lo)
+    pub bare_reads : n ≡ row_count o → bad_offsets o (length vs) ≡ false → (a ≤ b) × (b ≤ length vs)
+    bare_reads e w = rw (s.first, eb) (mono o (length vs) r w (bare_next e), top o (length vs) (r + 1) w (bare_next e))
 
-    -- it writes row r as w
-    module _ (w : Row) (same_row : w ≡ W r) where
-      turn : length (flat (tab W r left)) ≡ length (elems_of w) + length (flat (tab W (r + 1) (left - 1)))
-      turn = length-step W r left h ∙ rw same_row
+    same_row : list_row es ≡ W r
+    same_row = rw (s.first, eb)
 
-      pub baring_room : length (flat (tab W 0 n)) ≤ length d → at + length (elems_of w) ≤ length v
-      baring_room m = omega (arith, s.walk.sum, s.walk.lv, turn)
+    turn : length (flat (tab W r left)) ≡ length es + length (flat (tab W (r + 1) (left - 1)))
+    unfolding elems_of
+    turn = length-step W r left h ∙ rw (s.first, eb)
 
-      module _ {v' : List ℤ} {k : ℕ} (p : WritesBareˡ (elems_of w) at v v' k) where
-        pub baring_small : k ≤ length (flat (tab W 0 n))
-        baring_small = omega (arith, s.walk.sum, p.next, turn)
+    pub bare_room : length (flat (tab W 0 n)) ≤ length d → at + length es ≤ length v
+    bare_room m = omega (arith, s.walk.sum, s.walk.lv, turn)
 
-        pub baring_more : {oo' : List ℤ} → oo' ≡ set oo (r + 1) (pos k) → Baring W o n o₀ d oo' v' b (r + 1) k (left - 1)
-        baring_more q = record {
-          rows = push_bit s.rows r (is_row w);
-          elements = put_elements s.elements at (elems_of w);
-          walk = walk_more W n w h same_row s.walk (record { rows = refl; values = p.values; elements = refl; place = p.next }) q;
-          first = eb;
-        }
+    pub bare_slot : n + 1 ≤ length o₀ → r + 1 < length oo
+    bare_slot m = omega (arith, s.walk.rows, s.walk.lo)
 
-  pub baring_done : (d₁ : List ℤ) {o₀ d oo v : List ℤ} {a r at left : ℕ} → Baring W o n o₀ d oo v a r at left → left ≤ 0 → o₀ ≡ set d₁ 0 (pos 0) → n + 1 ≤ length d₁ → length (flat (tab W 0 n)) ≤ length d → WritesFormˡ (tab W 0 n) d₁ oo d v at
-  baring_done d₁ {r = r} {left = left} s h q lo lv =
+    module _ {v' : List ℤ} {k : ℕ} (p : WritesBareˡ es at v v' k) where
+      pub bare_small : k ≤ length (flat (tab W 0 n))
+      bare_small = omega (arith, s.walk.sum, p.next, turn)
+
+      pub bare_more : {oo' : List ℤ} → oo' ≡ set oo (r + 1) (pos k) → Baring W o n o₀ d oo' v' b (r + 1) k (left - 1)
+      unfolding elems_of is_row
+      bare_more q = record {
+        rows = push_bit s.rows r true;
+        elements = put_elements s.elements at es;
+        walk = walk_more W n (list_row es) h same_row s.walk (record { rows = refl; values = p.values; elements = refl; place = p.next }) q;
+        first = eb;
+      }
+
+  pub bare_done : (d₁ : List ℤ) {o₀ d oo v : List ℤ} {a r at left : ℕ} → Baring W o n o₀ d oo v a r at left → left ≤ 0 → o₀ ≡ set d₁ 0 (pos 0) → n + 1 ≤ length d₁ → length (flat (tab W 0 n)) ≤ length d → WritesFormˡ (tab W 0 n) d₁ oo d v at
+  bare_done d₁ {r = r} {left = left} s h q lo lv =
       let x = length-replicate {A = ℕ} (bytes_for n) 0 in
       let y = length-replicate {A = ℕ} (bytes_for (length (flat (tab W 0 n)))) 0 in
       let f = walk_done W n d₁ s.walk h q (record { offsets = lo; rows = omega arith; values = lv; elements = omega arith }) in
       record { offsets = f.offsets; values = f.values; count = omega (arith, s.walk.sum, length_none W r left h) }
 
--- the same, where the operation u makes the rows
-module _ (u : Unary) (o vs : List ℤ) (n : ℕ) where
-  abbrev R : ℕ → Row
-  R = bare_at u o vs
-
-  pub bare_begun : (o₀ d : List ℤ) {a : ℕ} → a ≡ offset_at o 0 → Baring R o n o₀ d o₀ d a 0 0 n
-  bare_begun = baring_begun R o n
-
-  module _ {o₀ d oo v : List ℤ} {a r at left : ℕ} (s : Baring R o n o₀ d oo v a r at left) (h : 0 < left) (b : ℕ) (eb : b ≡ offset_at o (r + 1)) where
-    abbrev es : List Elem
-    es = unary_elems u (bare_elems vs a (b - a))
-
-    pub bare_reads : n ≡ row_count o → bad_offsets o (length vs) ≡ false → (a ≤ b) × (b ≤ length vs)
-    bare_reads = baring_reads R o n s h b eb vs
-
-    same_row : list_row es ≡ R r
-    same_row = rw (s.first, eb)
-
-    pub bare_room : length (flat (tab R 0 n)) ≤ length d → at + length es ≤ length v
-    unfolding elems_of
-    bare_room = baring_room R o n s h b eb (list_row es) same_row
-
-    pub bare_slot : n + 1 ≤ length o₀ → r + 1 < length oo
-    bare_slot = baring_slot R o n s h b eb
-
-    module _ {v' : List ℤ} {k : ℕ} (p : WritesBareˡ es at v v' k) where
-      pub bare_small : k ≤ length (flat (tab R 0 n))
-      unfolding elems_of
-      bare_small = baring_small R o n s h b eb (list_row es) same_row p
-
-      pub bare_more : {oo' : List ℤ} → oo' ≡ set oo (r + 1) (pos k) → Baring R o n o₀ d oo' v' b (r + 1) k (left - 1)
-      unfolding elems_of
-      bare_more q = baring_more R o n s h b eb (list_row es) same_row p q
-
-  pub bare_done : (d₁ : List ℤ) {o₀ d oo v : List ℤ} {a r at left : ℕ} → Baring R o n o₀ d oo v a r at left → left ≤ 0 → o₀ ≡ set d₁ 0 (pos 0) → n + 1 ≤ length d₁ → length (flat (tab R 0 n)) ≤ length d → WritesFormˡ (tab R 0 n) d₁ oo d v at
-  bare_done d₁ s h q lo lv = baring_done R o n d₁ s h q lo lv
-
-  pub bare_rows_lem : n ≡ row_count o → tab R 0 n ≡ bare_rows u o vs
+  pub bare_rows_lem : n ≡ row_count o → tab W 0 n ≡ bare_rows u o vs
   unfolding bare_rows
   bare_rows_lem e = rw e
 
 -- ---- the bits
 
 -- bits that are all set, at once
-pub all_pushed : (d : List ℕ) (bs : List Bool) (n : ℕ) → bs ≡ replicate n true → bytes_for n ≤ length d → push_bits d 0 (replicate n true) ≡ over (pack bs) d
+all_pushed : (d : List ℕ) (bs : List Bool) (n : ℕ) → bs ≡ replicate n true → bytes_for n ≤ length d → push_bits d 0 (replicate n true) ≡ over (pack bs) d
 unfolding pack pack_n
 all_pushed d bs n e h = rw e (pushes_pack [] (replicate n true) d (omega (arith, length-replicate n true)))
 
-pub flat-set : (W : ℕ → Row) → ((i : ℕ) → map is_val (elems_of (W i)) ≡ replicate (length (elems_of (W i))) true) → (a n : ℕ) → map is_val (flat (tab W a n)) ≡ replicate (length (flat (tab W a n))) true
+flat-set : (W : ℕ → Row) → ((i : ℕ) → map is_val (elems_of (W i)) ≡ replicate (length (elems_of (W i))) true) → (a n : ℕ) → map is_val (flat (tab W a n)) ≡ replicate (length (flat (tab W a n))) true
 unfolding tab flat
 flat-set W h a zero = refl
 flat-set W h a (suc n) = rw (map-append, h a, flat-set W h (suc a) n, length-append) (replicate-append-replicate (length (elems_of (W a))) (length (flat (tab W (suc a) n))) true)

@@ -2,18 +2,18 @@
 use mathlib.Core.Bool.{Bool, true, false, ◌&&◌}
 use mathlib.Core.List.{List, [], ◌∷◌, ◌++◌, reverse, reverse-append}
 use mathlib.Core.Path.{◌≡◌, refl, sym, ap, ◌∙◌}
-use Prim.Native.Nat.{ℕ, zero, suc, ◌+◌, ◌*◌, ◌/◌, ◌%◌, ◌^◌, ◌≤◌, ◌<◌}
-use native.Mathlib.Nat.{lt_of_lt_of_le}
+use Prim.Native.Nat.{ℕ, zero, suc, ◌+◌, ◌-◌, ◌*◌, ◌/◌, ◌%◌, ◌^◌, ◌≤◌, ◌<◌}
+use native.Mathlib.Nat.{mod-eq_of_lt}
 use native.Mathlib.Omega.{arith}
 use borrow.Author.Count.{below_more}
 use borrow.Author.Tests.{eqb-true}
-use lib.Bits.{bit_and, bit_or, or_lt, or_shifted}
+use lib.Bits.{bit_and, bit_or}
 use lib.Dec.{eqb}
 use lib.ListN.{length, drop, length-reverse}
-use lib.Pow.{high, low, pow_mono, shl_exact, shl_lt}
+use lib.Pow.{shr_lt}
 use lib.Seq.{drop_at}
 use Rattle.bit_words.specs.Words.{low_bits}
-use Rattle.bit_words.proofs.WordLaws.{length_low, low_mod, low_split}
+use Rattle.bit_words.proofs.WordLaws.{length_low, low_split}
 use Rattle.model.specs.Bitmap.{bit, byte_of}
 use Rattle.model.proofs.BoolLaws.{and_true}
 
@@ -59,24 +59,20 @@ turned_byte n h =
     let e = eqb-true (ones (pairs (halves n))) (byte_of (reverse (low_bits n 8))) (each (λ (i : ℕ). eqb (ones (pairs (halves i))) (byte_of (reverse (low_bits i 8)))) 256 refl n h) in
     ap (λ (r : ℕ). low_bits r 8) e ∙ low_byte_of (reverse (low_bits n 8))
 
--- ---- more than a byte
+-- ---- the lowest bits of a byte that has none above them: the highest of the turned byte
 
--- two halves turned and changed over, as a machine of w bits joins them
-pub turned_halves : (m w v x y : ℕ) → m + m ≤ w → low_bits x m ≡ reverse (low_bits (v % 2 ^ m) m) → x < 2 ^ m → low_bits y m ≡ reverse (low_bits (v / 2 ^ m) m) → y < 2 ^ m
-    → (low_bits (bit_or (x * 2 ^ m % 2 ^ w) y) (m + m) ≡ reverse (low_bits v (m + m))) × (bit_or (x * 2 ^ m % 2 ^ w) y < 2 ^ (m + m))
-turned_halves m w v x y o a h b k =
-    rw (shl_exact {a = x} m m w h o) (
-      rw (or_shifted x m y k)
-          (low_split m m (x * 2 ^ m + y)
-          ∙ rw (low x m {lo = y} k, high x m {lo = y} k, a, b) (sym (reverse-append (low_bits (v % 2 ^ m) m) (low_bits (v / 2 ^ m) m)) ∙ ap reverse (sym (low_split m m v)))),
-      or_lt (m + m) (x * 2 ^ m) y (shl_lt {a = x} m m h) (lt_of_lt_of_le k (pow_mono {i = m} {j = m + m} (omega arith))),
+pub turned_few : (m x y : ℕ) → m ≤ 8 → x < 2 ^ m → y < 256 → low_bits y 8 ≡ reverse (low_bits x 8)
+    → (low_bits (y / 2 ^ (8 - m)) m ≡ reverse (low_bits x m)) × (y / 2 ^ (8 - m) < 2 ^ m)
+turned_few m x y q h b e =
+    let g = 8 - m in
+    let n : m + g ≡ 8 = omega arith in
+    let n' : g + m ≡ 8 = omega arith in
+    let low : low_bits y 8 ≡ low_bits (y % 2 ^ g) g ++ low_bits (y / 2 ^ g) m = rw n' at (low_split g m y) in
+    let all : low_bits x 8 ≡ low_bits x m ++ low_bits (x / 2 ^ m) g = rw (n, mod-eq_of_lt h) at (low_split m g x) in
+    let back : reverse (low_bits x 8) ≡ reverse (low_bits (x / 2 ^ m) g) ++ reverse (low_bits x m) = rw (all, reverse-append) in
+    let size : length (reverse (low_bits (x / 2 ^ m) g)) ≡ g = length-reverse (low_bits (x / 2 ^ m) g) ∙ length_low (x / 2 ^ m) g in (
+      sym (drop_at (low_bits (y % 2 ^ g) g) (low_bits (y / 2 ^ g) m) g (length_low (y % 2 ^ g) g))
+          ∙ ap (λ (r : List Bool). drop g r) (sym low ∙ e ∙ back)
+          ∙ drop_at (reverse (low_bits (x / 2 ^ m) g)) (reverse (low_bits x m)) g size,
+      shr_lt {n = y} m g (rw n b),
     )
-
--- the lowest m bits turned are the highest of all of them turned
-pub turned_part : (m g x y : ℕ) → low_bits y (g + m) ≡ reverse (low_bits x (m + g)) → low_bits (y / 2 ^ g) m ≡ reverse (low_bits x m)
-turned_part m g x y e =
-    let above = low_bits (x / 2 ^ m) g in
-    let all : reverse (low_bits x (m + g)) ≡ reverse above ++ reverse (low_bits x m) = ap reverse (low_split m g x) ∙ rw (low_mod m x, reverse-append) in
-    sym (drop_at (low_bits (y % 2 ^ g) g) (low_bits (y / 2 ^ g) m) g (length_low (y % 2 ^ g) g))
-    ∙ ap (λ (r : List Bool). drop g r) (sym (low_split g m y) ∙ e ∙ all)
-    ∙ drop_at (reverse above) (reverse (low_bits x m)) g (length-reverse above ∙ length_low (x / 2 ^ m) g)

@@ -217,32 +217,3 @@ pub last_placed : (L : Limits) (n : ℕ) (t y : ℤ) → n ≤ L.offset → plac
 unfolding place_told
 last_placed L n t (pos b) h e v = let l = to-place-inside n t b (sym e) in record { natural = tt; small = omega arith }
 last_placed L n t (negsuc b) h e v = absurd v
-
--- ---- the plan without a stride: the places that the code found, the first inside the row
-
-told-from : (x y : ℤ) (a : ℕ) → x ≡ pos a → lt_z y x ≡ false → T (non_neg y)
-told-from x (pos b) a d u = tt
-told-from x (negsuc b) a d u = never_true (rw d at u)
-
-module _ (L : Limits) (n : ℕ) (f t : ℤ) (h : 0 < n) (p : fits L f ≡ true) (q : fits L t ≡ true) (x y : ℤ) (d : x ≡ pos (from_place n f)) (e : place_told y ≡ to_place n t) (i : le_z (pos n) x ≡ false) where
-  pub run_against : lt_z y x ≡ true → P.Empty ≡ plan_of (slice_plan L n f t (pos 1))
-  unfolding against is_zero count
-  run_against u = cases y e u
-    where
-      cases : (z : ℤ) → place_told z ≡ to_place n t → lt_z z x ≡ true → P.Empty ≡ plan_of (slice_plan L n f t (pos 1))
-      cases (pos b) e u =
-          let l : ltb b (count x) ≡ true = rw d (rw d at u) in
-          stride_against L (count x) b (pos 1) refl l ∙ plan_between L n f t (pos 1) h p q x (pos b) d e i tt
-      cases (negsuc b) e u = plan_to_before L n f t (pos 1) h p q x (negsuc b) d e refl
-
-  -- the last place is not before the first
-  module _ (m : n ≤ L.offset) (u : lt_z y x ≡ false) where
-    pub run_suits : Suits L x y (pos 1)
-    unfolding is_zero
-    run_suits =
-        let a = first_placed L n (from_place n f) x m d i in
-        let b = last_placed L n t y m e (told-from x y (from_place n f) d u) in
-        record { from = a; to = b; some = refl; direction = sym (against_up L x y (pos 1) a b refl) ∙ u }
-
-    pub run_steps : fits L (pos 1) ≡ true → P.Steps (nat_abs x) (pos 1) (step_count (count x) (count y) (pos 1)) ≡ plan_of (slice_plan L n f t (pos 1))
-    run_steps g = stride_steps L x y (pos 1) run_suits g ∙ plan_between L n f t (pos 1) h p q x y d e i (told-from x y (from_place n f) d u)

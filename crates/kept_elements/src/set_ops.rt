@@ -1,10 +1,10 @@
 // What union and intersect ask of one element and of two rows.
 // After set_ops.rs of datafusion-functions-nested 55.2.0, Apache License 2.0, Apache Software Foundation; changed, see NOTICE.
-ghost use Rattle.std.specs.Prelude.{◌+◌, ◌<◌, ◌≤◌, ltb, length, ◌≡◌};
+ghost use Rattle.std.specs.Prelude.{◌+◌, ◌<◌, ltb, length, ◌≡◌};
 ghost use Rattle.column.specs.Outputs.{ReadableElems};
 ghost use Rattle.model.specs.Basics.{pick};
 ghost use Rattle.model.specs.Inner.{lent_elem, lent_elems};
-ghost use Rattle.set_elements.specs.Pairs.{keeps, plain, plains};
+ghost use Rattle.set_elements.specs.Pairs.{keeps};
 
 // Whether element a + k is kept of its row: it is not among the k elements before it, and it is among the others where shared
 // ones are wanted, and is not where new ones are.
@@ -36,32 +36,6 @@ pub fn is_kept(
         return found;
     }
     !found
-}
-
-// Whether value a + k is kept of its row, where no element can be null: it is not among the k values before it, and it is among the
-// others where shared ones are wanted, and is not where new ones are.
-pub fn is_kept_bare(
-    values: &[i64],
-    a: usize,
-    k: usize,
-    others: &[i64],
-    b: usize,
-    m: usize,
-    shared: bool,
-) -> bool
-    requires row { a + k < length values.now }
-    requires other { b + m ≤ length others.now }
-    ensures { result ≡ keeps shared (plains others.now b m) (plains values.now a k) (plain values.now (a + k)) }
-{
-    let v = values[a + k];
-    if set_elements::has_value(values, a, k, v) {
-        return false;
-    }
-    let among = set_elements::has_value(others, b, m, v);
-    if shared {
-        return among;
-    }
-    !among
 }
 
 // The longer of two rows' values, the left one on equal lengths: the part that intersect walks.

@@ -140,28 +140,3 @@ pub fn compute_slice_plan(len: usize, from: i64, to: i64, stride: Stride) -> Sli
     }
     plan_steps(first, last, index::slice::stride_of(stride))
 }
-
-// The places that a slice without a stride takes of a row of len elements.
-pub fn compute_run_plan(len: usize, from: i64, to: i64) -> SlicePlan
-    requires { len ≤ wide.offset }
-    ensures { result ≡ plan_of (slice_plan wide len from to (pos 1)) }
-{
-    if len == 0 {
-        return SlicePlan::Empty;
-    }
-    let n = len as i64;
-    let first = adjusted_from_index(from, n);
-    let last = adjusted_to_index(to, n);
-    if n <= first {
-        return SlicePlan::Empty;
-    }
-    if last < first {
-        return SlicePlan::Empty;
-    }
-    let count = last - first + 1;
-    SlicePlan::Steps {
-        start: first as usize,
-        stride: 1,
-        count: count as usize,
-    }
-}

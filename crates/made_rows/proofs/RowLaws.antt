@@ -97,7 +97,7 @@ module _ (N : Limits) (n : ℕ) (P : RowOp → Type 0) (null : P R.Null) (plan :
     valid_all L.Replace h x y z = replace_all x y z
     valid_all L.Remove h x y z = remove_all x y
 
-pub plan_doable : (N : Limits) (n : ℕ) (f t s : ℤ) (p : Plan) → n ≤ 9223372036854775807 → slice_plan N n f t s ≡ p → Doable (plan_op (I.plan_of p)) n
+plan_doable : (N : Limits) (n : ℕ) (f t s : ℤ) (p : Plan) → n ≤ 9223372036854775807 → slice_plan N n f t s ≡ p → Doable (plan_op (I.plan_of p)) n
 unfolding Doable plan_op I.plan_of
 plan_doable N n f t s (refuse k) h e = tt
 plan_doable N n f t s empty h e = tt
@@ -120,7 +120,7 @@ op_doable N op rb x y z r n o e h = rw e (doable N op (valid_at rb r) n _ _ _ h)
 
 -- ---- no row grows but by resize
 
-pub plan_le : (N : Limits) (n : ℕ) (es : List Elem) (f t s : ℤ) (p : Plan) → length es ≡ n → slice_plan N n f t s ≡ p → length (op_elems (plan_op (I.plan_of p)) es) ≤ n
+plan_le : (N : Limits) (n : ℕ) (es : List Elem) (f t s : ℤ) (p : Plan) → length es ≡ n → slice_plan N n f t s ≡ p → length (op_elems (plan_op (I.plan_of p)) es) ≤ n
 unfolding op_elems plan_op I.plan_of
 plan_le N n es f t s (refuse k) h e = omega arith
 plan_le N n es f t s empty h e = omega arith

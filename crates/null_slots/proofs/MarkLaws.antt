@@ -1,6 +1,6 @@
 -- The marks of a word, its bits turned over: taken from the lowest on, each a null slot's place.
 use mathlib.Core.Bool.{Bool, true, false, not}
-use mathlib.Core.List.{List, ◌∷◌, ◌++◌, map, map-append}
+use mathlib.Core.List.{List, [], ◌∷◌, ◌++◌, map, map-append, reverse, reverse-append, reverse-cons}
 use mathlib.Core.Path.{◌≡◌, refl, sym, ap, ap₂, ◌∙◌}
 use Prim.Native.Nat.{ℕ, zero, suc, ◌+◌, ◌-◌, ◌/◌, ◌%◌, ◌^◌, ◌≤◌, ◌<◌}
 use native.Mathlib.Nat.{pow-suc}
@@ -9,11 +9,13 @@ use native.Mathlib.Omega.{arith}
 use lib.Count.{count_trailing_zeros, under}
 use lib.Dec.{eqb}
 use lib.IntN.{ℤ}
-use lib.ListN.{length, set, replicate, length-set, length-replicate}
+use lib.ListN.{length, set, replicate, length-set, length-reverse, length-replicate, replicate-append-replicate}
 use lib.Pow.{shr-shr}
+use Rattle.bit_words.proofs.WordLaws.{length_low}
 use Rattle.bit_words.specs.Words.{low_bits}
+use Rattle.model.proofs.TabLaws.{length-map}
 use Rattle.model.specs.Form.{under_null}
-use Rattle.null_slots.proofs.NulledLaws.{nulled-append, nulled-trues}
+use Rattle.null_slots.proofs.NulledLaws.{nulled-append, nulled-trues, nulled-set}
 use Rattle.null_slots.specs.Nulled.{nulled}
 use Rattle.runs.proofs.PlainLaws.{map_same}
 
@@ -125,4 +127,66 @@ module _ {d₀ : List ℤ} {at m : ℕ} {bs : List Bool} where
     marks_done z =
         sym (nulled-trues (at + m - k) d k)
         ∙ ap (λ (r : List Bool). nulled d k r) (sym (map_same not false (at + m - k)) ∙ ap (map not) (sym (low_zero (at + m - k))))
+        ∙ (rw z at s.written)
+
+-- ---- the same from the last place on
+
+pub record MarkingBack (d₀ : List ℤ) (at m : ℕ) (bs : List Bool) (d : List ℤ) (marks k : ℕ) : Type 0 where
+  pub written : nulled d at (reverse (map not (low_bits marks (k - at)))) ≡ nulled d₀ at (reverse bs)
+  pub within : k ≤ at + m
+  pub above : at ≤ k
+  pub few : marks < 2 ^ (k - at)
+  pub same : length d ≡ length d₀
+
+reverse_same : {A : Type 0} (n : ℕ) (x : A) → reverse (replicate n x) ≡ replicate n x
+reverse_same zero x = refl
+reverse_same (suc n) x =
+    let e : n + 1 ≡ suc n = omega arith in
+    reverse-cons x (replicate n x) ∙ rw (reverse_same n x, replicate-append-replicate n 1 x, e)
+
+-- marks the last first: the lowest one's place is the last of those that are left
+back_marked : (xs : List Bool) (j : ℕ) (d : List ℤ) (at : ℕ) → nulled d at (reverse (replicate j true ++ (false ∷ xs))) ≡ nulled (set d (at + length xs) under_null) at (reverse xs)
+unfolding nulled
+back_marked xs j d at =
+    ap (λ (r : List Bool). nulled d at r) (reverse-append (replicate j true) (false ∷ xs))
+    ∙ nulled-append (reverse (false ∷ xs)) (reverse (replicate j true)) d at
+    ∙ rw (reverse_same j true, nulled-trues j)
+    (ap (λ (r : List Bool). nulled d at r) (reverse-cons false xs)
+    ∙ nulled-append (reverse xs) (false ∷ []) d at
+    ∙ rw (length-reverse xs) (nulled-set (reverse xs) d at (at + length xs)))
+
+module _ {d₀ : List ℤ} {at m : ℕ} {bs : List Bool} where
+  pub back_begun : (x : ℕ) → map not (low_bits x m) ≡ bs → x < 2 ^ m → MarkingBack d₀ at m bs d₀ x (at + m)
+  back_begun x e b =
+      let z : at + m - at ≡ m = omega arith in
+      record { written = rw z (ap (λ (r : List Bool). nulled d₀ at (reverse r)) e); within = omega arith; above = omega arith; few = rw z b; same = refl }
+
+  module _ {d : List ℤ} {x k : ℕ} (s : MarkingBack d₀ at m bs d x k) where
+    module _ (h : m ≤ 64) (n : x ≡ 0 → ⊥) where
+      pub back_here : Lowest x (k - at) (count_trailing_zeros 64 x)
+      back_here = lowest 64 x (k - at) (omega (arith, s.within)) (omega arith) s.few
+
+      pub back_more : MarkingBack d₀ at m bs (set d (k - (count_trailing_zeros 64 x + 1)) under_null) (x / 2 ^ count_trailing_zeros 64 x / 2) (k - (count_trailing_zeros 64 x + 1))
+      back_more =
+          let j = count_trailing_zeros 64 x in
+          let l = back_here in
+          let rest = map not (low_bits (x / 2 ^ j / 2) (k - at - (j + 1))) in
+          let e : k - (j + 1) - at ≡ k - at - (j + 1) = omega arith in
+          let p : at + length rest ≡ k - (j + 1) = omega (arith, l.inside, length-map not (low_bits (x / 2 ^ j / 2) (k - at - (j + 1))), length_low (x / 2 ^ j / 2) (k - at - (j + 1))) in
+          let w : nulled d at (reverse (map not (low_bits x (k - at)))) ≡ nulled (set d (k - (j + 1)) under_null) at (reverse rest) =
+          ap (λ (r : List Bool). nulled d at (reverse r)) (marked x (k - at) j l)
+          ∙ back_marked rest j d at
+          ∙ ap (λ (r : ℕ). nulled (set d r under_null) at (reverse rest)) p in
+          record {
+            written = rw e (sym w ∙ s.written);
+            within = omega (arith, s.within);
+            above = omega (arith, l.inside);
+            few = rw e l.fewer;
+            same = length-set d (k - (j + 1)) under_null ∙ s.same;
+          }
+
+    pub back_done : x ≡ 0 → d ≡ nulled d₀ at (reverse bs)
+    back_done z =
+        sym (nulled-trues (k - at) d at)
+        ∙ ap (λ (r : List Bool). nulled d at r) (sym (reverse_same (k - at) true) ∙ ap (λ (r : List Bool). reverse r) (sym (map_same not false (k - at)) ∙ ap (map not) (sym (low_zero (k - at)))))
         ∙ (rw z at s.written)

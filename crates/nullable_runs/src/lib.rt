@@ -1,6 +1,5 @@
 // Runs of elements that may be null: values at once, what null slots hold, and bits by words. An inner crate: its callers meet what it asks.
-ghost use Rattle.std.specs.Prelude.{◌*◌, ◌+◌, ◌/◌, ◌<◌, ◌^◌, ◌≤◌, length, reverse, ◌≡◌};
-ghost use Rattle.bit_words.specs.Words.{low_bits};
+ghost use Rattle.std.specs.Prelude.{◌*◌, ◌+◌, ◌/◌, ◌<◌, ◌≤◌, length, reverse, ◌≡◌};
 ghost use Rattle.bitmap.specs.Push.{push_bits};
 ghost use Rattle.column.specs.Outputs.{ReadableElems, RoomForElems, Writes};
 ghost use Rattle.model.specs.Basics.{tab};
@@ -16,47 +15,8 @@ fn byte_from(start: usize, a: usize) -> usize
     a / 8 + (start + a % 8) / 8
 }
 
-// Writes what null slots hold, and the bits, of n elements: the bits of a byte that has none above them.
-fn put_short(few: u8, n: usize, out_values: &mut [i64], out_elements: &mut [u8], at: usize)
-    requires n_nonzero { 0 < n }
-    requires n_bound { n ≤ 8 }
-    requires few_bound { few < 2 ^ n }
-    requires n_in_bounds { at + n ≤ length out_values.old }
-    requires n_in_bounds_2 { bytes_for (at + n) ≤ length out_elements.old }
-    ensures out_values_after { out_values.new ≡ nulled out_values.old at (low_bits few n) }
-    ensures out_elements_after { out_elements.new ≡ push_bits out_elements.old at (low_bits few n) }
-{
-    null_slots::put_few(few as u64, n, out_values, at);
-    bit_runs::push_few(out_elements, at, few, n);
-}
-
-// The same by the n lowest bits of a word.
-fn put_part(word: u64, n: usize, out_values: &mut [i64], out_elements: &mut [u8], at: usize)
-    requires n_nonzero { 0 < n }
-    requires n_bound { n ≤ 64 }
-    requires n_in_bounds { at + n ≤ length out_values.old }
-    requires n_in_bounds_2 { bytes_for (at + n) ≤ length out_elements.old }
-    requires n_bound_2 { at + n < 18446744073709551616 }
-    ensures out_values_after { out_values.new ≡ nulled out_values.old at (low_bits word n) }
-    ensures out_elements_after { out_elements.new ≡ push_bits out_elements.old at (low_bits word n) }
-{
-    null_slots::put_few(word, n, out_values, at);
-    bit_runs::push_part(out_elements, at, word, n);
-}
-
-// The same by all bits of a word.
-fn put_word(word: u64, out_values: &mut [i64], out_elements: &mut [u8], at: usize)
-    requires at_in_bounds { at + 64 ≤ length out_values.old }
-    requires at_in_bounds_2 { bytes_for (at + 64) ≤ length out_elements.old }
-    ensures out_values_after { out_values.new ≡ nulled out_values.old at (low_bits word 64) }
-    ensures out_elements_after { out_elements.new ≡ push_bits out_elements.old at (low_bits word 64) }
-{
-    null_slots::put_few(word, 64, out_values, at);
-    bit_words::push_word(out_elements, at, word);
-}
-
-// Writes what null slots hold, and the bits, of n elements, bit s of byte k being the first, word by word.
-fn put_long(
+// Writes what null slots hold, and the bits, of n elements, bit s of byte k being the first; the bits are read once.
+fn put_short(
     bits: &[u8],
     k: usize,
     s: usize,
@@ -66,40 +26,20 @@ fn put_long(
     at: usize,
 )
     requires s_bound { s < 8 }
+    requires n_nonzero { 0 < n }
+    requires n_bound { n ≤ 8 }
     requires n_in_bounds { bytes_for (8 * k + s + n) ≤ length bits.now }
     requires n_in_bounds_2 { at + n ≤ length out_values.old }
     requires n_in_bounds_3 { bytes_for (at + n) ≤ length out_elements.old }
-    requires n_bound { at + n < 18446744073709551616 }
     ensures out_values_after { out_values.new ≡ nulled out_values.old at (tab (bit_at bits.now) (8 * k + s) n) }
     ensures out_elements_after { out_elements.new ≡ push_bits out_elements.old at (tab (bit_at bits.now) (8 * k + s) n) }
 {
-    let mut j = k;
-    let mut p = at;
-    let mut left = n;
-    while 64 <= left {
-        put_word(
-            bit_words::word_from(bits, j, s),
-            out_values,
-            out_elements,
-            p,
-        );
-        j += 8;
-        p += 64;
-        left -= 64;
-    }
-    if left == 0 {
-        return;
-    }
-    put_part(
-        bit_runs::part_from(bits, j, s, left),
-        left,
-        out_values,
-        out_elements,
-        p,
-    );
+    let few = bit_runs::few_at(bits, k, s, n);
+    null_slots::put_few(few as u64, n, out_values, at);
+    bit_runs::push_few(out_elements, at, few, n);
 }
 
-// The same, up to eight elements by a byte.
+// The same of any number of elements.
 fn put_bits(
     bits: &[u8],
     k: usize,
@@ -118,56 +58,14 @@ fn put_bits(
     ensures out_elements_after { out_elements.new ≡ push_bits out_elements.old at (tab (bit_at bits.now) (8 * k + s) n) }
 {
     if 8 < n {
-        put_long(bits, k, s, n, out_values, out_elements, at);
+        null_slots::put_nulls(bits, k, s, n, out_values, at);
+        bit_runs::push_copied(bits, k, s, n, out_elements, at);
         return;
     }
     if n == 0 {
         return;
     }
-    put_short(
-        bit_runs::few_at(bits, k, s, n),
-        n,
-        out_values,
-        out_elements,
-        at,
-    );
-}
-
-// Writes what null slots hold, and the bits, of the n elements from bit s of byte k on, the last element first, word by word.
-fn put_bits_back(
-    bits: &[u8],
-    k: usize,
-    s: usize,
-    n: usize,
-    out_values: &mut [i64],
-    out_elements: &mut [u8],
-    at: usize,
-)
-    requires s_bound { s < 8 }
-    requires n_in_bounds { bytes_for (8 * k + s + n) ≤ length bits.now }
-    requires n_in_bounds_2 { at + n ≤ length out_values.old }
-    requires n_in_bounds_3 { bytes_for (at + n) ≤ length out_elements.old }
-    requires n_bound { at + n < 18446744073709551616 }
-    ensures out_values_after { out_values.new ≡ nulled out_values.old at (reverse (tab (bit_at bits.now) (8 * k + s) n)) }
-    ensures out_elements_after { out_elements.new ≡ push_bits out_elements.old at (reverse (tab (bit_at bits.now) (8 * k + s) n)) }
-{
-    let last = s + n % 8;
-    let t = last % 8;
-    let mut j = k + n / 8 + last / 8;
-    let mut p = at;
-    let mut left = n;
-    while 64 <= left {
-        j -= 8;
-        left -= 64;
-        let back = bit_runs::word_turned(bit_words::word_from(bits, j, t));
-        put_word(back, out_values, out_elements, p);
-        p += 64;
-    }
-    if left == 0 {
-        return;
-    }
-    let back = bit_runs::part_turned(bit_runs::part_from(bits, k, s, left), left);
-    put_part(back, left, out_values, out_elements, p);
+    put_short(bits, k, s, n, out_values, out_elements, at);
 }
 
 // Writes the n elements from element a on, from place at of the result on; gives the next place.
@@ -212,6 +110,7 @@ pub fn write_backward(
     let byte = byte_from(estart, a);
     let first = bitmap::start_from(estart, a);
     stores::copy_backward(values, a, n, out_values, at);
-    put_bits_back(elements, byte, first, n, out_values, out_elements, at);
+    null_slots::put_nulls_back(elements, byte, first, n, out_values, at);
+    bit_runs::push_turned(elements, byte, first, n, out_elements, at);
     at + n
 }

@@ -14,7 +14,7 @@ use Rattle.model.specs.Bitmap.{Bits}
 use Rattle.model.specs.Column.{Elem, nul, val, elem_at}
 use Rattle.model.specs.Elements.{eq_z, same_elem, is_in}
 use Rattle.model.proofs.TabLaws.{tab_split, tab_ext}
-use Rattle.set_elements.specs.Pairs.{plain, plains, has_value}
+use Rattle.set_elements.specs.Pairs.{plain, has_value}
 
 -- ---- two elements
 
@@ -61,10 +61,6 @@ module _ (e : Elem) (f : ℕ → Elem) (p : ℕ) where
 
 -- ---- columns without nulls
 
--- the elements are the values
-pub elems_plain : (vs : List ℤ) (eb : Bits) → length eb.bytes ≡ 0 → (a n : ℕ) → tab (elem_at vs eb) a n ≡ plains vs a n
-elems_plain vs eb z a n = tab_ext (elem_at vs eb) (plain vs) a a n (λ i h. elem_plain vs eb (a + i) z)
-
 -- looking for an element is looking for its value
 pub is_in-plain : (vs others : List ℤ) (eb ob : Bits) → length eb.bytes ≡ 0 → length ob.bytes ≡ 0 → (i a k : ℕ) → has_value (get_or vs i (pos 0)) others a k ≡ is_in (elem_at vs eb i) (tab (elem_at others ob) a k)
-is_in-plain vs others eb ob y z i a k = rw (elem_plain vs eb i y, elems_plain others ob z a k)
+is_in-plain vs others eb ob y z i a k = rw (elem_plain vs eb i y, tab_ext (elem_at others ob) (plain others) a a k (λ j h. elem_plain others ob (a + j) z))

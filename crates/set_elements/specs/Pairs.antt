@@ -8,13 +8,9 @@ use Rattle.model.specs.Elements.{is_in}
 abbrev pub plain : List ℤ → ℕ → Elem
 plain vs i = val (get_or vs i (pos 0))
 
--- the n of them from value a on
-abbrev pub plains : List ℤ → ℕ → ℕ → List Elem
-plains vs a n = tab (plain vs) a n
-
 -- is a value one of the k values from value a on
 abbrev pub has_value : ℤ → List ℤ → ℕ → ℕ → Bool
-has_value v vs a k = is_in (val v) (plains vs a k)
+has_value v vs a k = is_in (val v) (tab (plain vs) a k)
 
 -- an element that was not seen before, and that is among the others where shared ones are wanted, and is not where new ones are
 unfoldable pub keeps : Bool → List Elem → List Elem → Elem → Bool

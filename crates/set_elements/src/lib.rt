@@ -69,7 +69,7 @@ fn has_value_singly(values: &[i64], a: usize, k: usize, v: i64) -> bool
 }
 
 // Whether a value is one of the k values from value a on: four after four, then the rest.
-pub fn has_value(values: &[i64], a: usize, k: usize, v: i64) -> bool
+fn has_value(values: &[i64], a: usize, k: usize, v: i64) -> bool
     requires { a + k ≤ length values.now }
     ensures { result ≡ has_value v values.now a k }
 {

@@ -1,42 +1,16 @@
 // Union and intersect of one pair of rows, by comparing with the elements before.
 // After set_ops.rs of datafusion-functions-nested 55.2.0, Apache License 2.0, Apache Software Foundation; changed, see NOTICE.
-ghost use Rattle.std.specs.Prelude.{◌+◌, ◌<◌, ◌≤◌, ◌^◌, length, [], ◌≡◌};
+ghost use Rattle.std.specs.Prelude.{◌+◌, ◌<◌, ◌^◌, length, [], ◌≡◌};
 ghost use Rattle.column.specs.Outputs.{ReadableElems, RoomForElems, Writes};
 ghost use Rattle.model.specs.Elements.{set_elems};
 ghost use Rattle.model.specs.Inner.{now_elems, lent_elems};
-ghost use Rattle.set_elements.specs.Pairs.{kept, plains};
+ghost use Rattle.set_elements.specs.Pairs.{kept};
 
 use column::elements;
 use kept_elements::set_ops;
 use model::SetOp;
 
-// How many of the n values from value a on are kept, where no element can be null.
-fn measure_bare(
-    values: &[i64],
-    a: usize,
-    n: usize,
-    others: &[i64],
-    b: usize,
-    m: usize,
-    shared: bool,
-) -> usize
-    requires row { a + n ≤ length values.now }
-    requires other { b + m ≤ length others.now }
-    ensures { result ≡ length (kept shared (plains others.now b m) [] (plains values.now a n)) }
-{
-    let mut len: usize = 0;
-    let mut k: usize = 0;
-    let mut left = n;
-    while 0 < left {
-        let new = set_ops::is_kept_bare(values, a, k, others, b, m, shared);
-        len += new as usize;
-        k += 1;
-        left -= 1;
-    }
-    len
-}
-
-// How many of the n elements from element a on are kept: by values alone where no element can be null.
+// How many of the n elements from element a on are kept.
 fn measure_kept(
     values: &[i64],
     elements: &[u8],
@@ -54,9 +28,6 @@ fn measure_kept(
     requires other { ReadableElems others oelements ostart b m }
     ensures { result ≡ length (kept shared (lent_elems others oelements ostart b m) [] (lent_elems values elements estart a n)) }
 {
-    if (elements.len() == 0) & (oelements.len() == 0) {
-        return measure_bare(values, a, n, others, b, m, shared);
-    }
     let mut len: usize = 0;
     let mut k: usize = 0;
     let mut left = n;
@@ -71,41 +42,7 @@ fn measure_kept(
     len
 }
 
-// Writes those of the n values from value a on that are kept, where no element can be null.
-fn write_bare(
-    values: &[i64],
-    a: usize,
-    n: usize,
-    others: &[i64],
-    b: usize,
-    m: usize,
-    shared: bool,
-    out_values: &mut [i64],
-    out_elements: &mut [u8],
-    at: usize,
-) -> usize
-    requires row { a + n ≤ length values.now }
-    requires other { b + m ≤ length others.now }
-    requires room { RoomForElems (kept shared (plains others.now b m) [] (plains values.now a n)) at out_values out_elements }
-    ensures { Writes (kept shared (plains others.now b m) [] (plains values.now a n)) at out_values out_elements result }
-{
-    let mut k: usize = 0;
-    let mut left = n;
-    let mut p = at;
-    while 0 < left {
-        if set_ops::is_kept_bare(values, a, k, others, b, m, shared) {
-            let i = a + k;
-            out_values[p] = values[i];
-            bitmap::push_bit(out_elements, p, true);
-            p += 1;
-        }
-        k += 1;
-        left -= 1;
-    }
-    p
-}
-
-// Writes those of the n elements from element a on that are kept: by values alone where no element can be null.
+// Writes those of the n elements from element a on that are kept.
 #[rattlefmt::skip]
 fn write_kept(
     values: &[i64], elements: &[u8], estart: usize,
@@ -118,9 +55,6 @@ fn write_kept(
     requires room { RoomForElems (kept shared (now_elems others oelements ostart b m) [] (now_elems values elements estart a n)) at out_values out_elements }
     ensures { Writes (kept shared (lent_elems others oelements ostart b m) [] (lent_elems values elements estart a n)) at out_values out_elements result }
 {
-    if (elements.len() == 0) & (oelements.len() == 0) {
-        return write_bare(values, a, n, others, b, m, shared, out_values, out_elements, at);
-    }
     let mut k: usize = 0;
     let mut left = n;
     let mut p = at;

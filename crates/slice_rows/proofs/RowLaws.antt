@@ -4,7 +4,6 @@ use mathlib.Core.Path.{◌≡◌, refl, sym, ◌∙◌}
 use mathlib.Core.Bool.{Bool, true, false}
 use mathlib.Core.List.{List, []}
 use lib.IntN.{ℤ}
-use lib.ListN.{length}
 use Rattle.model.specs.Column.{Elem, Row, null_row, list_row}
 use Rattle.model.specs.Form.{is_row, elems_of}
 use Rattle.model.specs.Rows.{row_made}
@@ -16,11 +15,10 @@ use Rattle.column.specs.Rows.{RoomForRowˡ, WritesRowˡ}
 use Rattle.index.specs.declared.slice.SlicePlan.{SlicePlan}
 use Rattle.index.specs.declared.slice.SlicePlan.TheVariants as P
 use Rattle.strides.specs.Strides.{Walks}
-use Rattle.strides.proofs.StrideLaws.{length-sliced}
 use Rattle.ops.specs.Ops.{plan_op, op_elems, op_made}
 use Rattle.ops.specs.declared.RowOp.TheVariants as R
 use Rattle.row_ops.specs.Doable.{Doable}
-use Rattle.slice_rows.specs.Sliced.{NullEmpty, op_if, plan_count}
+use Rattle.slice_rows.specs.Sliced.{NullEmpty, op_if}
 
 module _ (valid : Bool) (p : SlicePlan) (es : List Elem) where
   abbrev row : Row
@@ -75,11 +73,3 @@ module _ (valid : Bool) (p : SlicePlan) (es : List Elem) where
 -- a row's elements and its bit make the row
 pub row_put : (w : Row) (b : Bool) (es : List Elem) {r at k : ℕ} {ro ro' : List ℕ} {vo vo' : List ℤ} {eo eo' : List ℕ} → is_row w ≡ b → elems_of w ≡ es → ro' ≡ push_bit ro r b → Writesˡ es at vo vo' eo eo' k → WritesRowˡ w r at ro ro' vo vo' eo eo' k
 row_put w b es i q p t = record { rows = rw i p; values = rw q t.values; elements = rw q t.elements; place = rw q t.next }
-
--- the elements of a plan, counted
-pub count-planned : (valid : Bool) (p : SlicePlan) (es : List Elem) → NullEmpty valid p → plan_count p ≡ length (op_elems (op_if valid p) es)
-unfolding plan_count op_elems op_if plan_op
-count-planned true P.Empty es h = refl
-count-planned true (P.Steps a s n) es h = sym (length-sliced a s n es)
-count-planned true (P.Refused k) es h = refl
-count-planned false p es h = rw (h refl)

@@ -1,5 +1,5 @@
 // The plan of a row, from its arguments' numbers.
-ghost use Rattle.std.specs.Prelude.{◌<◌, ◌≤◌, pos, length, true, ◌≡◌};
+ghost use Rattle.std.specs.Prelude.{◌<◌, ◌≤◌, length, true, ◌≡◌};
 ghost use Rattle.index.specs.Plan.{plan_of};
 ghost use Rattle.model.specs.Slice.{slice_plan};
 ghost use Rattle.model.specs.Widths.{limits_at};
@@ -7,6 +7,17 @@ ghost use Rattle.slice_rows.specs.Sliced.{plan_at, plan_count, plan_refusal, str
 
 use index::slice::{SlicePlan, Stride};
 use model::Width;
+
+// The stride of row r: an absent one is 1.
+fn stride_at(by: bool, zs: &[i64], r: usize) -> i64
+    requires { by ≡ true → r < length zs.now }
+    ensures { result ≡ stride_at by zs.now r }
+{
+    if by {
+        return zs[r];
+    }
+    1
+}
 
 // The plan of a slice between these bounds, of a row of len elements.
 fn plan_of(len: usize, from: i64, to: i64, stride: i64, width: Width) -> SlicePlan
@@ -17,37 +28,6 @@ fn plan_of(len: usize, from: i64, to: i64, stride: i64, width: Width) -> SlicePl
         Width::Narrow => index::slice::compute_slice_plan(len, from, to, Stride::By(stride)),
         Width::Wide => large_index::slice::compute_slice_plan(len, from, to, Stride::By(stride)),
     }
-}
-
-// The plan of a slice between these bounds without a stride, of a row of len elements.
-fn run_of(len: usize, from: i64, to: i64, width: Width) -> SlicePlan
-    requires { len ≤ (limits_at width).offset }
-    ensures { result ≡ plan_of (slice_plan (limits_at width) len from to (pos 1)) }
-{
-    match width {
-        Width::Narrow => index::slice::compute_run_plan(len, from, to),
-        Width::Wide => large_index::slice::compute_run_plan(len, from, to),
-    }
-}
-
-// The plan of row r, of len elements, between these bounds.
-pub fn plan_bare(
-    by: bool,
-    from: i64,
-    to: i64,
-    zs: &[i64],
-    r: usize,
-    len: usize,
-    width: Width,
-) -> SlicePlan
-    requires third { by ≡ true → r < length zs.now }
-    requires small { len ≤ (limits_at width).offset }
-    ensures { result ≡ plan_of (slice_plan (limits_at width) len from to (stride_at by zs.now r)) }
-{
-    if by {
-        return plan_of(len, from, to, zs[r], width);
-    }
-    run_of(len, from, to, width)
 }
 
 // The plan of row r, of len elements; an empty one where the row or an argument is null.
@@ -70,7 +50,7 @@ pub fn plan_at(
     if !valid {
         return SlicePlan::Empty;
     }
-    plan_bare(by, xs[r], ys[r], zs, r, len, width)
+    plan_of(len, xs[r], ys[r], stride_at(by, zs, r), width)
 }
 
 // The refusal of a plan; 0 where it has none.

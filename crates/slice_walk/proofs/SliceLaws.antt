@@ -1,41 +1,35 @@
 -- Laws of a walk of slices: what it needs of its columns, and what is done to a row.
 use Prim.Native.Nat.{ℕ, zero, suc, ◌+◌, ◌-◌, ◌/◌, ◌%◌, ◌≤◌, ◌<◌}
 use mathlib.Core.Path.{◌≡◌, refl, sym, ◌∙◌}
-use mathlib.Core.Bool.{Bool, true, false, not, ◌&&◌, ◌||◌}
+use mathlib.Core.Bool.{Bool, true, false, not, ◌&&◌}
 use mathlib.Core.List.{List}
 use native.Mathlib.Omega.{arith}
-use borrow.Author.Tests.{eqb-true, ltb-false, le-ltb}
+use borrow.Author.Tests.{ltb-false, le-ltb}
 use lib.Dec.{ltb, eqb}
 use lib.IntN.{ℤ, pos}
 use lib.ListN.{length}
 use Rattle.model.specs.Basics.{pick, tab}
 use Rattle.model.specs.Bitmap.{Bits, valid_at, bytes_for, short_bits}
-use Rattle.model.specs.Column.{nul, val, Column, Arguments, elem_at, offset_at, length_at, row_count}
+use Rattle.model.specs.Column.{Elem, nul, val, Column, Arguments, elem_at}
 use Rattle.model.specs.Form.{flat}
 use Rattle.model.specs.Limits.{Limits}
 use Rattle.model.specs.Slice.{slice_plan}
 use Rattle.model.proofs.BoolLaws.{never_true}
 use Rattle.bitmap.specs.Push.{Covers}
-use Rattle.model.proofs.TabLaws.{tab_ext}
-use Rattle.column.specs.Put.{RoomInˡ, Fillsˡ}
-use Rattle.column.proofs.RowLaws.{elem_plain}
+use Rattle.column.specs.Put.{RoomInˡ}
 use Rattle.index.specs.Plan.{plan_of, stride_in}
 use Rattle.index.specs.declared.slice.SlicePlan.{SlicePlan}
 use Rattle.index.specs.declared.slice.SlicePlan.TheVariants as P
 use Rattle.index.specs.declared.slice.Stride.TheVariants as S
-use Rattle.ops.specs.Ops.{is_slice, is_resize, takes_of, table, plan_op, slice_op, stride_op, valid_op, row_op_of}
+use Rattle.strides.proofs.StrideLaws.{length-sliced}
+use Rattle.ops.specs.Ops.{is_slice, is_resize, takes_of, table, plan_op, slice_op, stride_op, valid_op, row_op_of, op_elems}
 use Rattle.ops.specs.declared.ListOp.{ListOp}
 use Rattle.ops.specs.declared.ListOp.TheVariants as L
 use Rattle.ops.specs.declared.RowOp.TheVariants as R
 use Rattle.arguments.specs.Taken.{cell_of, place_in, taken_at, op_at, Serves, Served}
-use Rattle.made_rows.specs.Made.{row_made_at, refusal_at, op_refusal, call_rows, rows_measure}
-use Rattle.made_rows.proofs.CallLaws.{row_of_lem, refusal_of_lem}
-use Rattle.bare_walk.specs.Bare.{bare_elem, bare_elems}
+use Rattle.made_rows.specs.Made.{op_refusal, call_rows}
 use Rattle.bit_words.specs.Words.{low_bits}
-use Rattle.slice_rows.specs.Sliced.{op_by, valid_if, all_valid, batch_of, Known, stride_at, plan_at, NullEmpty, op_if, plan_refusal}
-use Rattle.slice_rows.proofs.WordLaws.{empty_valid}
-use Rattle.bare_slices.specs.Bare.{Bounds, bare_plan, sliced_at, sliced_rows, sliced_refusal, sliced_measure}
-use Rattle.bare_slices.proofs.SlicedLaws.{Bared}
+use Rattle.slice_rows.specs.Sliced.{op_by, valid_if, all_valid, batch_of, Known, stride_at, plan_at, NullEmpty, op_if, plan_refusal, plan_count}
 
 -- ---- the operation
 
@@ -200,56 +194,9 @@ refusal-planned true (P.Steps a s n) h = refl
 refusal-planned true (P.Refused k) h = refl
 refusal-planned false p h = rw (h refl)
 
--- ---- where no bitmap is lent
-
-pub bounds : {n : ℕ} {x y z : Arguments} (by : Bool) → Served (op_by by) n x y z → Bounds by n x.values y.values z.values
-bounds {n} {x} {y} {z} by s = record { first = there n x (first-served by s); second = there n y (second-served by s); third = λ h. there n z (third-served by s h) }
-
-module _ (lim : Limits) (by : Bool) (c : Column) (x y z : Arguments) (h : Bared by c.rows.bytes c.elements.bytes x.bits.bytes y.bits.bytes z.bits.bytes) where
-  all_valid_lem : (r : ℕ) → true ≡ all_valid by c.rows x.bits y.bits z.bits r
-  unfolding all_valid valid_if
-  all_valid_lem r = rw (empty_valid c.rows h.rows r, empty_valid x.bits h.first r, empty_valid y.bits h.second r) (cases by h.third)
-    where
-      cases : (t : Bool) → not t || eqb (length z.bits.bytes) 0 ≡ true → true ≡ not t || valid_at z.bits r
-      cases false e = refl
-      cases true e = sym (empty_valid z.bits (eqb-true (length z.bits.bytes) 0 e) r)
-
-  bare_elems_lem : (a n : ℕ) → tab (elem_at c.values c.elements) a n ≡ bare_elems c.values a n
-  bare_elems_lem a n = tab_ext (elem_at c.values c.elements) (bare_elem c.values) a a n (λ i l. elem_plain c.values c.elements (a + i) h.elements)
-
-  module _ (r : ℕ) where
-    abbrev p : SlicePlan
-    p = bare_plan lim by c.offsets x.values y.values z.values r
-
-    chosen : op_if true p ≡ op_at lim (op_by by) c.rows x y z r (length_at c r)
-    chosen = op_chosen lim c.rows x y z r (length_at c r) by true p (all_valid_lem r) refl
-
-    row_bare : row_made_at lim (op_by by) c x y z r ≡ sliced_at lim by c.offsets c.values x.values y.values z.values r
-    unfolding op_if
-    row_bare = sym (row_of_lem lim (op_by by) c x y z r (offset_at c.offsets r) (offset_at c.offsets (r + 1)) (op_if true p) refl refl chosen) ∙ rw (bare_elems_lem (offset_at c.offsets r) (length_at c r))
-
-    refusal_bare : refusal_at lim (op_by by) c x y z r ≡ sliced_refusal lim by c.offsets x.values y.values z.values r
-    refusal_bare = sym (refusal-planned true p (λ e. never_true e) ∙ refusal_of_lem lim (op_by by) c x y z r (offset_at c.offsets r) (offset_at c.offsets (r + 1)) (op_if true p) refl refl chosen)
-
-  call_bare : call_rows lim (op_by by) c x y z ≡ sliced_rows lim by c.offsets c.values x.values y.values z.values
-  unfolding call_rows sliced_rows
-  call_bare = tab_ext (row_made_at lim (op_by by) c x y z) (sliced_at lim by c.offsets c.values x.values y.values z.values) 0 0 (row_count c.offsets) (λ r l. row_bare (0 + r))
-
-  -- by the operation that the code tested
-  module _ {op : ListOp} (e : op ≡ op_by by) where
-    pub rows_bare : call_rows lim op c x y z ≡ sliced_rows lim by c.offsets c.values x.values y.values z.values
-    rows_bare = rw e call_bare
-
-    pub measure_bare : sliced_measure lim by c.offsets c.values x.values y.values z.values ≡ rows_measure lim op c x y z
-    unfolding sliced_measure rows_measure
-    measure_bare =
-        rw (e, call_bare, tab_ext (refusal_at lim (op_by by) c x y z) (sliced_refusal lim by c.offsets x.values y.values z.values) 0 0 (row_count c.offsets) (λ r l. refusal_bare (0 + r)))
-
-    pub small_bare : {m : ℕ} → length (flat (call_rows lim op c x y z)) ≤ m → length (flat (sliced_rows lim by c.offsets c.values x.values y.values z.values)) ≤ m
-    small_bare l = rw (← rows_bare) l
-
-    pub room_bare : {n lo lr lv le : ℕ} → RoomInˡ n (length (flat (call_rows lim op c x y z))) lo lr lv le → RoomInˡ n (length (flat (sliced_rows lim by c.offsets c.values x.values y.values z.values))) lo lr lv le
-    room_bare l = rw (← rows_bare) l
-
-    pub fills_bare : {oo oo' vo vo' : List ℤ} {ro ro' eo eo' : List ℕ} → Fillsˡ (sliced_rows lim by c.offsets c.values x.values y.values z.values) oo oo' ro ro' vo vo' eo eo' → Fillsˡ (call_rows lim op c x y z) oo oo' ro ro' vo vo' eo eo'
-    fills_bare l = rw rows_bare l
+pub count-planned : (valid : Bool) (p : SlicePlan) (es : List Elem) → NullEmpty valid p → plan_count p ≡ length (op_elems (op_if valid p) es)
+unfolding plan_count op_elems op_if plan_op
+count-planned true P.Empty es h = refl
+count-planned true (P.Steps a s n) es h = sym (length-sliced a s n es)
+count-planned true (P.Refused k) es h = refl
+count-planned false p es h = rw (h refl)

@@ -18,9 +18,9 @@ use ops::ListOp;
 use slice_rows::{plans, validity};
 use sums::Measure;
 
-// How many elements the slices make, or the refusal of the first row that has one, row by row with the bits of the rows and arguments.
+// How many elements the slices make, or the refusal of the first row that has one.
 #[rattlefmt::skip]
-fn measure_each(
+pub fn measure_rows(
     op: ListOp,
     offsets: &[i32], rows: &[u8], rstart: usize, values: &[i64], elements: &[u8], estart: usize,
     xs: &[i64], xbits: &[u8], xstart: usize,
@@ -68,41 +68,9 @@ fn measure_each(
     Measure::Sum(found)
 }
 
-// How many elements the slices make, or the refusal of the first row that has one.
+// Writes the rows that the slices make, in result form.
 #[rattlefmt::skip]
-pub fn measure_rows(
-    op: ListOp,
-    offsets: &[i32], rows: &[u8], rstart: usize, values: &[i64], elements: &[u8], estart: usize,
-    xs: &[i64], xbits: &[u8], xstart: usize,
-    ys: &[i64], ybits: &[u8], ystart: usize,
-    zs: &[i64], zbits: &[u8], zstart: usize,
-    width: Width, large: &[i64],
-) -> Measure
-    requires column { Readable (now_column_at width offsets large rows rstart values elements estart) }
-    requires arguments { Served op (row_count (used width offsets.now large.now)) (now_arguments xs xbits xstart) (now_arguments ys ybits ystart) (now_arguments zs zbits zstart) }
-    requires kind { is_slice op ≡ true }
-    ensures value { result ≡ rows_measure (limits_at width) op (lent_at width offsets large rows rstart values elements estart) (lent_arguments_from xs xbits xstart) (lent_arguments_from ys ybits ystart) (lent_arguments_from zs zbits zstart) }
-    ensures result_bound { let_through result ≤ (limits_at width).offset }
-{
-    let t = ops::takes(op);
-    let columns = t.columns;
-    let by = 2 < columns;
-    if bare_slices::is_bare(by, rows, elements, xbits, ybits, zbits) {
-        return bare_slices::measure_rows(by, offsets, values, xs, ys, zs, width, large);
-    }
-    measure_each(
-        op,
-        offsets, rows, rstart, values, elements, estart,
-        xs, xbits, xstart,
-        ys, ybits, ystart,
-        zs, zbits, zstart,
-        width, large,
-    )
-}
-
-// Writes the rows that the slices make, in result form, row by row with their bits.
-#[rattlefmt::skip]
-fn write_each(
+pub fn write_rows(
     op: ListOp,
     offsets: &[i32], rows: &[u8], rstart: usize, values: &[i64], elements: &[u8], estart: usize,
     xs: &[i64], xbits: &[u8], xstart: usize,
@@ -150,44 +118,4 @@ fn write_each(
         word /= 2;
         known -= 1;
     }
-}
-
-// Writes the rows that the slices make, in result form: all bits at once where none is lent.
-#[rattlefmt::skip]
-pub fn write_rows(
-    op: ListOp,
-    offsets: &[i32], rows: &[u8], rstart: usize, values: &[i64], elements: &[u8], estart: usize,
-    xs: &[i64], xbits: &[u8], xstart: usize,
-    ys: &[i64], ybits: &[u8], ystart: usize,
-    zs: &[i64], zbits: &[u8], zstart: usize,
-    out_offsets: &mut [i32], out_rows: &mut [u8], out_values: &mut [i64], out_elements: &mut [u8],
-    width: Width, large: &[i64], out_large: &mut [i64],
-)
-    requires column { Readable (now_column_at width offsets large rows rstart values elements estart) }
-    requires arguments { Served op (row_count (used width offsets.now large.now)) (now_arguments xs xbits xstart) (now_arguments ys ybits ystart) (now_arguments zs zbits zstart) }
-    requires kind { is_slice op ≡ true }
-    requires small { length (flat (call_rows (limits_at width) op (now_column_at width offsets large rows rstart values elements estart) (now_arguments xs xbits xstart) (now_arguments ys ybits ystart) (now_arguments zs zbits zstart))) ≤ (limits_at width).offset }
-    requires room { RoomAt width (row_count (used width offsets.now large.now)) (length (flat (call_rows (limits_at width) op (now_column_at width offsets large rows rstart values elements estart) (now_arguments xs xbits xstart) (now_arguments ys ybits ystart) (now_arguments zs zbits zstart)))) out_offsets out_large out_rows out_values out_elements }
-    ensures { FillsAt width (call_rows (limits_at width) op (lent_at width offsets large rows rstart values elements estart) (lent_arguments_from xs xbits xstart) (lent_arguments_from ys ybits ystart) (lent_arguments_from zs zbits zstart)) out_offsets out_large out_rows out_values out_elements }
-{
-    let t = ops::takes(op);
-    let columns = t.columns;
-    let by = 2 < columns;
-    if bare_slices::is_bare(by, rows, elements, xbits, ybits, zbits) {
-        bare_slices::write_rows(
-            by, offsets, values, xs, ys, zs,
-            out_offsets, out_rows, out_values, out_elements,
-            width, large, out_large,
-        );
-        return;
-    }
-    write_each(
-        op,
-        offsets, rows, rstart, values, elements, estart,
-        xs, xbits, xstart,
-        ys, ybits, ystart,
-        zs, zbits, zstart,
-        out_offsets, out_rows, out_values, out_elements,
-        width, large, out_large,
-    );
 }

@@ -65,7 +65,7 @@ fn write_each_place(
 
 // Copies count values of the n from value a on: those at start, start + stride, and so on. The last is copied after the loop, so that no
 // place past it is computed.
-pub fn copy_places(
+fn copy_places(
     values: &[i64],
     a: usize,
     n: usize,

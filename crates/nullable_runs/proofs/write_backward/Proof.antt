@@ -19,11 +19,11 @@ use Rattle.nullable_runs.proofs.write_backward.Tie as tie
 abbrev start-of-bits : tie.After-start-from → tie.Start
 start-of-bits p = p.before.before.before.before
 
-abbrev values-of-bits : tie.After-put-bits-back → tie.After-copy-backward
-values-of-bits p = p.before.before.before.before
+abbrev bits-of-nulls : tie.After-put-nulls-back → tie.After-start-from
+bits-of-nulls p = p.before.before.before.before.before
 
-abbrev bits-of-values : tie.After-copy-backward → tie.After-start-from
-bits-of-values p = p.before.before
+abbrev nulls-of-pushed : tie.After-push-turned → tie.After-put-nulls-back
+nulls-of-pushed p = p.before.before.before
 
 module _ (s : tie.Start) where
   -- room for the values and the bits
@@ -52,31 +52,35 @@ start-from-requires c κs = c.before.before.before.requires.0.bits.small
 copy-backward-requires : tie.Need-copy-backward-requires
 copy-backward-requires c κs = let s = start-of-bits c.before in (s.pre.0.inside, (many s).0)
 
-put-bits-back-requires : tie.Need-put-bits-back-requires
-put-bits-back-requires c κs =
-    let v = c.before.before.before in
-    let b = bits-of-values v in
+put-nulls-back-requires : tie.Need-put-nulls-back-requires
+put-nulls-back-requires c κs =
+    let b = c.before.before.before.before in
+    (omega (arith, b.start-from.ensures), (covered b, omega (arith, (many (start-of-bits b)).0, c.before.before.copy-backward.auto.1.1.1.0)))
+
+push-turned-requires : tie.Need-push-turned-requires
+push-turned-requires c κs =
+    let b = bits-of-nulls c.before.before in
     let m = many (start-of-bits b) in
-    (omega (arith, b.start-from.ensures), (covered b, (omega (arith, m.0, v.copy-backward.auto.1.1.1.0), (m.1, omega (arith, m.0, b.before.before)))))
+    (omega (arith, b.start-from.ensures), (covered b, (m.1, omega (arith, m.0, b.before.before))))
 
 add-result : tie.Need-overflow-add-result
-add-result c = let b = bits-of-values (values-of-bits c.before.before.before) in omega (arith, (many (start-of-bits b)).0, b.before.before)
+add-result c = let b = bits-of-nulls (nulls-of-pushed c.before.before) in omega (arith, (many (start-of-bits b)).0, b.before.before)
 
 same_length : tie.Need-same-length
-same_length c = let p = c.before.before.before in p.put-bits-back.auto.1.1.1.1.0 ∙ (values-of-bits p).copy-backward.auto.1.1.1.0
+same_length c = let p = nulls-of-pushed c.before.before in p.put-nulls-back.kept.1.1.1.1.0 ∙ p.before.before.before.copy-backward.kept.1.1.1.0
 
 same-length-2 : tie.Need-same-length-2
-same-length-2 c = c.before.before.before.put-bits-back.auto.1.1.1.1.1.0
+same-length-2 c = c.before.before.push-turned.auto.1.1.1.1.0
 
 returns : tie.Need-returns
 returns c =
-    let p = c.before.before.before in
-    let v = values-of-bits p in
-    let b = bits-of-values v in
+    let q = c.before.before in
+    let p = nulls-of-pushed q in
+    let b = bits-of-nulls p in
     let s = start-of-bits b in
     nullable_back_written s.args.values.now s.args.elements.now s.args.estart b.before.byte-from.result b.start-from.result s.args.a (λ z. omega (arith, s.pre.1.1)) (stands b) s.args.n s.args.at
-    (p.put-bits-back.ensures.0 ∙ ap (λ (r : List ℤ). nulled r s.args.at (reverse (tab (bit_at s.args.elements.now) (8 * b.before.byte-from.result + b.start-from.result) s.args.n))) v.copy-backward.ensures)
-    p.put-bits-back.ensures.1
+    (p.put-nulls-back.ensures ∙ ap (λ (r : List ℤ). nulled r s.args.at (reverse (tab (bit_at s.args.elements.now) (8 * b.before.byte-from.result + b.start-from.result) s.args.n))) p.before.before.before.copy-backward.ensures)
+    q.push-turned.ensures
 
 pub write_backward_spec : {M : Type 1} → statement M
 write_backward_spec =
@@ -85,7 +89,8 @@ write_backward_spec =
     byte-from-requires
     start-from-requires
     copy-backward-requires
-    put-bits-back-requires
+    put-nulls-back-requires
+    push-turned-requires
     add-result
     same_length
     same-length-2

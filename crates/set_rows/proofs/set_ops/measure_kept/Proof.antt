@@ -1,7 +1,5 @@
 use native.Mathlib.Omega.{arith}
 use Prim.Native.Nat.{◌+◌, ◌≤◌}
-use borrow.Author.Tests.{eqb-true}
-use lib.Dec.{eqb}
 use lib.ListN.{length}
 use mathlib.Core.List.{[]}
 use mathlib.Core.Path.{◌≡◌, ap}
@@ -9,9 +7,7 @@ use Rattle.bitmap.proofs.BitLaws.{bit_le}
 use Rattle.model.specs.Basics.{tab}
 use Rattle.model.specs.Bitmap.{from}
 use Rattle.model.specs.Column.{elem_at}
-use Rattle.model.proofs.BoolLaws.{and_true}
 use Rattle.set_elements.specs.Pairs.{kept}
-use Rattle.set_elements.proofs.PairLaws.{elems_plain}
 use Rattle.set_rows.proofs.SetLaws.{kept_later, kept_all, kept-none, length-kept}
 use Rattle.set_rows.proofs.set_ops.measure_kept.Statement.{statement}
 use Rattle.set_rows.proofs.set_ops.measure_kept.Tie as tie
@@ -26,25 +22,15 @@ abbrev decreases-loop : tie.decreases-loop
 decreases-loop values elements estart a n others oelements ostart b m shared len₀ k₀ left₀ len k left =
     left
 
-measure-bare-requires : tie.Need-measure-bare-requires invariant-loop decreases-loop
-measure-bare-requires c κs = let s = c.before.before.before in (s.requires.0.inside, s.requires.1.inside)
-
-returns : tie.Need-returns invariant-loop decreases-loop
-returns c =
-    let t = c.before in
-    let a = t.before.before.before.args in
-    let z = and_true (eqb (length a.elements.now) 0) (eqb (length a.oelements.now) 0) t.if1.true in
-    rw (elems_plain a.others.now (from a.ostart a.oelements.now) (eqb-true _ _ z.1) a.b a.m, elems_plain a.values.now (from a.estart a.elements.now) (eqb-true _ _ z.0) a.a a.n) c.measure-bare.ensures
-
 loop-holds : tie.Need-loop-init invariant-loop decreases-loop
 loop-holds c =
-    let a = c.before.before.before.args in
+    let a = c.before.before.args in
     let O = tab (elem_at a.others.now (from a.ostart a.oelements.now)) a.b a.m in
     (omega (arith, ap length (kept_all a.shared O (elem_at a.values.now (from a.estart a.elements.now)) a.a a.n)), omega arith, omega arith)
 
 is-kept-requires : tie.Need-is-kept-requires invariant-loop decreases-loop
 is-kept-requires c κs =
-    let s = c.before.before.before.before.before in
+    let s = c.before.before.before.before in
     (record { inside = omega (arith, s.requires.0.inside); bits = s.requires.0.bits }, s.requires.1)
 
 cast-len : tie.Need-overflow-cast-len invariant-loop decreases-loop
@@ -66,16 +52,16 @@ loop-again : tie.Need-loop-preserved invariant-loop decreases-loop
 loop-again c =
     let i = c.before in
     let l = i.before.loop in
-    let a = i.before.before.before.before.before.args in
+    let a = i.before.before.before.before.args in
     let O = tab (elem_at a.others.now (from a.ostart a.oelements.now)) a.b a.m in
     let E = elem_at a.values.now (from a.estart a.elements.now) in
     let p = length-kept a.shared O E a.a l.k l.left i.loop-test.true c.is-kept.ensures in
     (omega (arith, i), omega (arith, i), omega (arith, i, bit_le c.is-kept.result))
 
-returns-2 : tie.Need-returns-2 invariant-loop decreases-loop
-returns-2 c =
+returns : tie.Need-returns invariant-loop decreases-loop
+returns c =
     let l = c.before.loop in
-    let a = c.before.before.before.before.before.args in
+    let a = c.before.before.before.before.args in
     let O = tab (elem_at a.others.now (from a.ostart a.oelements.now)) a.b a.m in
     let E = elem_at a.values.now (from a.estart a.elements.now) in
     omega (arith, ap length (kept-none a.shared O E a.a l.k l.left c.loop-test.false))
@@ -86,8 +72,6 @@ measure_kept_spec =
     (tie.spec
     invariant-loop
     decreases-loop
-    measure-bare-requires
-    returns
     loop-holds
     is-kept-requires
     cast-len
@@ -96,4 +80,4 @@ measure_kept_spec =
     sub-left
     loop-less
     loop-again
-    returns-2)
+    returns)

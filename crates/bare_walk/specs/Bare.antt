@@ -2,10 +2,10 @@
 use Rattle.std.specs.Prelude.{ℕ, ◌+◌, ◌-◌, ◌≡◌, Bool, true, false, ◌&&◌, List, eqb, ℤ, pos, length, get_or}
 use Rattle.model.specs.Basics.{tab}
 use Rattle.model.specs.Column.{Elem, val, Row, list_row, offset_at, row_count}
-use Rattle.model.specs.Contract.{Slice}
+use Rattle.model.specs.Contract.{MutSlice}
 use Rattle.model.specs.Elements.{unary_elems}
 use Rattle.model.specs.Form.{flat, over, form_offsets, form_values}
-use Rattle.model.specs.Widths.{entry_at, exit_at}
+use Rattle.model.specs.Widths.{mut_entry_at, exit_at}
 use Rattle.model.specs.declared.Unary.{Unary}
 use Rattle.model.specs.declared.Unary.TheVariants.{Reverse, Distinct, PopFront, PopBack}
 use Rattle.model.specs.declared.Width.{Width}
@@ -49,8 +49,8 @@ pub record WritesFormˡ (ws : List Row) (oo oo' vo vo' : List ℤ) (m : ℕ) : T
   pub count : m ≡ length (flat ws)
 
 -- the same, said of slices
-abbrev pub WritesBare : List Elem → ℕ → Slice ℤ → ℕ → Type 0
+abbrev pub WritesBare : List Elem → ℕ → MutSlice ℤ → ℕ → Type 0
 WritesBare es k v r = WritesBareˡ es k v.entry.now v.exit.now r
 
-abbrev pub WritesForm : Width → List Row → Slice ℤ → Slice ℤ → Slice ℤ → ℕ → Type 0
-WritesForm w ws o x v m = WritesFormˡ ws (entry_at w o x) (exit_at w o x) v.entry.now v.exit.now m
+abbrev pub WritesForm : Width → List Row → MutSlice ℤ → MutSlice ℤ → MutSlice ℤ → ℕ → Type 0
+WritesForm w ws o x v m = WritesFormˡ ws (mut_entry_at w o x) (exit_at w o x) v.entry.now v.exit.now m

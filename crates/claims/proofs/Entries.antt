@@ -20,7 +20,7 @@ use Rattle.model.specs.Outcome.{Outcome, refused, made, list_outcome, any_value_
 use Rattle.model.specs.Recipe.{recipe_outcome, stationed}
 use Rattle.model.specs.Tally.{Tally, moved}
 use Rattle.model.specs.Call.{Call, End, Formed, Alike, shown, end_shown, list, any_value, element, list_repeat, recipe, end, list_end, value_end, repeat_end, trays_end, recipe_end, list_numbers, list_bitmaps, answer_of, written, tally_taken, move_in}
-use Rattle.model.specs.Contract.{Slice}
+use Rattle.model.specs.Contract.{Slice, MutSlice}
 use Rattle.model.specs.declared.Unary.{Unary}
 use Rattle.model.specs.declared.SetOp.{SetOp}
 use Rattle.model.proofs.Agreement.{agreement}
@@ -62,14 +62,14 @@ same_bytes P P' {q} {q'} f f' a h h' =
     (rw (← g.exact) h, rw (← g.exact, g.shares) h')
 
 -- w is what both wrote at the front of their slices a and b
-abbrev SameFront : List ℕ → Slice ℕ → Slice ℕ → Type 0
+abbrev SameFront : List ℕ → MutSlice ℕ → MutSlice ℕ → Type 0
 SameFront w a b = take (length w) a.exit.now ≡ take (length w) b.exit.now
 
-same_front : (w : List ℕ) (a b : Slice ℕ) → HoldsOver w a → HoldsOver w b → SameFront w a b
+same_front : (w : List ℕ) (a b : MutSlice ℕ) → HoldsOver w a → HoldsOver w b → SameFront w a b
 same_front w a b h k = rw (h, k) (take_at w _ _ refl ∙ sym (take_at w _ _ refl))
 
 -- of two alike calls with a list answer: one number, the same counts, and the same bytes in each of the four outputs; x is their end
-pub record SameWritten (x : End) (n n' : ℕ) (o o' : ByteSlices) (c c' : Slice ℕ) : Type 0 where
+pub record SameWritten (x : End) (n n' : ℕ) (o o' : ByteSlices) (c c' : MutSlice ℕ) : Type 0 where
   pub number : n ≡ n'
   pub counts : SameFront (bytes_of_counts (counts_in x.answer)) c c'
   pub offsets : SameFront (offset_bytes x 0) o.offsets o'.offsets
@@ -77,7 +77,7 @@ pub record SameWritten (x : End) (n n' : ℕ) (o o' : ByteSlices) (c c' : Slice 
   pub values : SameFront (value_bytes x 1) o.values o'.values
   pub elements : SameFront (bitmap_bytes x 1) o.elements o'.elements
 
-pub same_written : (x : End) {n n' : ℕ} (o o' : ByteSlices) (c c' : Slice ℕ) → ListBytes x n o c → ListBytes x n' o' c' → SameWritten x n n' o o' c c'
+pub same_written : (x : End) {n n' : ℕ} (o o' : ByteSlices) (c c' : MutSlice ℕ) → ListBytes x n o c → ListBytes x n' o' c' → SameWritten x n n' o o' c c'
 same_written x o o' c c' h k = record {
   number = h.answer.number ∙ sym k.answer.number;
   counts = same_front (bytes_of_counts (counts_in x.answer)) c c' h.answer.counts k.answer.counts;
@@ -88,13 +88,13 @@ same_written x o o' c c' h k = record {
 }
 
 -- the same of a value answer, and of list-repeat's
-pub record SameValues (x : End) (n n' : ℕ) (o o' : BytePair) (c c' : Slice ℕ) : Type 0 where
+pub record SameValues (x : End) (n n' : ℕ) (o o' : BytePair) (c c' : MutSlice ℕ) : Type 0 where
   pub number : n ≡ n'
   pub counts : SameFront (bytes_of_counts (counts_in x.answer)) c c'
   pub values : SameFront (value_bytes x 0) o.numbers o'.numbers
   pub rows : SameFront (bitmap_bytes x 0) o.bits o'.bits
 
-pub same_values : (x : End) {n n' : ℕ} (o o' : BytePair) (c c' : Slice ℕ) → ValueBytes x n o c → ValueBytes x n' o' c' → SameValues x n n' o o' c c'
+pub same_values : (x : End) {n n' : ℕ} (o o' : BytePair) (c c' : MutSlice ℕ) → ValueBytes x n o c → ValueBytes x n' o' c' → SameValues x n n' o o' c c'
 same_values x o o' c c' h k = record {
   number = h.answer.number ∙ sym k.answer.number;
   counts = same_front (bytes_of_counts (counts_in x.answer)) c c' h.answer.counts k.answer.counts;
@@ -102,7 +102,7 @@ same_values x o o' c c' h k = record {
   rows = same_front (bitmap_bytes x 0) o.bits o'.bits h.rows k.rows;
 }
 
-pub record SameRepeats (x : End) (n n' : ℕ) (p p' : BytePair) (o o' : ByteSlices) (c c' : Slice ℕ) : Type 0 where
+pub record SameRepeats (x : End) (n n' : ℕ) (p p' : BytePair) (o o' : ByteSlices) (c c' : MutSlice ℕ) : Type 0 where
   pub number : n ≡ n'
   pub counts : SameFront (bytes_of_counts (counts_in x.answer)) c c'
   pub outer-offsets : SameFront (offset_bytes x 0) p.numbers p'.numbers
@@ -112,7 +112,7 @@ pub record SameRepeats (x : End) (n n' : ℕ) (p p' : BytePair) (o o' : ByteSlic
   pub values : SameFront (value_bytes x 2) o.values o'.values
   pub elements : SameFront (bitmap_bytes x 2) o.elements o'.elements
 
-pub same_repeats : (x : End) {n n' : ℕ} (p p' : BytePair) (o o' : ByteSlices) (c c' : Slice ℕ) → RepeatBytes x n p o c → RepeatBytes x n' p' o' c' → SameRepeats x n n' p p' o o' c c'
+pub same_repeats : (x : End) {n n' : ℕ} (p p' : BytePair) (o o' : ByteSlices) (c c' : MutSlice ℕ) → RepeatBytes x n p o c → RepeatBytes x n' p' o' c' → SameRepeats x n n' p p' o o' c c'
 same_repeats x p p' o o' c c' h k = record {
   number = h.answer.number ∙ sym k.answer.number;
   counts = same_front (bytes_of_counts (counts_in x.answer)) c c' h.answer.counts k.answer.counts;
@@ -125,17 +125,17 @@ same_repeats x p p' o o' c c' h k = record {
 }
 
 -- and of a recipe: its list answer, and the bytes of the tally t after it
-pub same_tally : (x : End) (u : Tally) {n n' : ℕ} {l l' m m' o o' : ByteSlices} {c c' : Slice ℕ} (t t' : Slice ℕ) → x.tally ≡ given u → RecipeBytes x n l m o c t → RecipeBytes x n' l' m' o' c' t'
+pub same_tally : (x : End) (u : Tally) {n n' : ℕ} {l l' m m' o o' : ByteSlices} {c c' : MutSlice ℕ} (t t' : MutSlice ℕ) → x.tally ≡ given u → RecipeBytes x n l m o c t → RecipeBytes x n' l' m' o' c' t'
     → SameFront (bytes_of_counts u.finished ++ bytes_of_counts u.refused) t t'
 unfolding over_tally
 same_tally x u t t' e h k = same_front (bytes_of_counts u.finished ++ bytes_of_counts u.refused) t t' (rw e at h.tally) (rw e at k.tally)
 
-pub one_number : {q q' : Call Column Arguments View} {n n' : ℕ} {c c' : Slice ℕ} → Formed q → Formed q' → Alike q q' → AnswerBytes (end narrow q) n c → AnswerBytes (end narrow q') n' c' → n ≡ n'
+pub one_number : {q q' : Call Column Arguments View} {n n' : ℕ} {c c' : MutSlice ℕ} → Formed q → Formed q' → Alike q q' → AnswerBytes (end narrow q) n c → AnswerBytes (end narrow q') n' c' → n ≡ n'
 one_number {q} {q'} f f' a h h' = h.number ∙ ap (λ (x : End). number_in x.answer) (one_end narrow q q' f f' a) ∙ sym h'.number
 
 -- ---- an outcome's bytes are those of its end
 
-list-bytes : (x : Outcome (List Row)) {n : ℕ} (o : ByteSlices) (c : Slice ℕ) → ListReturned (λ l. x) n o.offsets o.rows o.values o.elements c → ListBytes (list_end x) n o c
+list-bytes : (x : Outcome (List Row)) {n : ℕ} (o : ByteSlices) (c : MutSlice ℕ) → ListReturned (λ l. x) n o.offsets o.rows o.values o.elements c → ListBytes (list_end x) n o c
 unfolding list_end list_numbers list_bitmaps answer_of written number_of number_in counts_in bytes_of bytes_of_counts flat_map
 list-bytes (refused k) o c h = record {
   answer = record { number = h.number; counts = h.counts };
@@ -152,12 +152,12 @@ list-bytes (made ws) o c h = record {
   elements = h.elements;
 }
 
-value_bytes_lem : (x : Outcome (List Elem)) {n : ℕ} (o : BytePair) (c : Slice ℕ) → ValueReturned (λ l. x) n o.numbers o.bits c → ValueBytes (value_end x) n o c
+value_bytes_lem : (x : Outcome (List Elem)) {n : ℕ} (o : BytePair) (c : MutSlice ℕ) → ValueReturned (λ l. x) n o.numbers o.bits c → ValueBytes (value_end x) n o c
 unfolding value_end answer_of written number_of number_in counts_in bytes_of bytes_of_counts flat_map
 value_bytes_lem (refused k) o c h = record { answer = record { number = h.number; counts = h.counts }; values = h.values; rows = h.rows }
 value_bytes_lem (made es) o c h = record { answer = record { number = h.number; counts = h.counts }; values = h.values; rows = h.rows }
 
-repeat_bytes : (x : Outcome (List Outer)) {n : ℕ} (b : BytePair) (o : ByteSlices) (c : Slice ℕ)
+repeat_bytes : (x : Outcome (List Outer)) {n : ℕ} (b : BytePair) (o : ByteSlices) (c : MutSlice ℕ)
     → RepeatReturned (λ l. x) n b.numbers b.bits o.offsets o.rows o.values o.elements c → RepeatBytes (repeat_end x) n b o c
 unfolding repeat_end answer_of written number_of number_in counts_in bytes_of bytes_of_counts flat_map
 repeat_bytes (refused k) b o c h = record {
@@ -211,16 +211,16 @@ unfolding entered
 taken f l k n far e h = gate_open k (f l) (below f l k n far e h)
 
 module _ {n : ℕ} (b : n < 100) (k : ℕ) (far : Far k) where
-  list-taken : (o : ByteSlices) (c : Slice ℕ) {F : Lent (Room → Outcome (List Row))} (f : Room → Outcome (List Row)) → F ≡ given f
+  list-taken : (o : ByteSlices) (c : MutSlice ℕ) {F : Lent (Room → Outcome (List Row))} (f : Room → Outcome (List Row)) → F ≡ given f
       → ListReturned (entered F k) n o.offsets o.rows o.values o.elements c → ListBytes (list_end (f (room_in o))) n o c
   list-taken o c f e h =
       let g = rw e at h in
       list-bytes (f (room_in o)) o c (rw (taken f (room_in o) k n far g.number b) at g)
 
-  value_taken : (o : BytePair) (c : Slice ℕ) (f : ValueRoom → Outcome (List Elem)) → ValueReturned (entered (given f) k) n o.numbers o.bits c → ValueBytes (value_end (f (value_room_in o))) n o c
+  value_taken : (o : BytePair) (c : MutSlice ℕ) (f : ValueRoom → Outcome (List Elem)) → ValueReturned (entered (given f) k) n o.numbers o.bits c → ValueBytes (value_end (f (value_room_in o))) n o c
   value_taken o c f h = value_bytes_lem (f (value_room_in o)) o c (rw (taken f (value_room_in o) k n far h.number b) at h)
 
-  repeat_taken : (p : BytePair) (o : ByteSlices) (c : Slice ℕ) (f : RepeatRoom → Outcome (List Outer))
+  repeat_taken : (p : BytePair) (o : ByteSlices) (c : MutSlice ℕ) (f : RepeatRoom → Outcome (List Outer))
       → RepeatReturned (entered (given f) k) n p.numbers p.bits o.offsets o.rows o.values o.elements c → RepeatBytes (repeat_end (f (repeat_room_in p o))) n p o c
   repeat_taken p o c f h = repeat_bytes (f (repeat_room_in p o)) p o c (rw (taken f (repeat_room_in p o) k n far h.number b) at h)
 
@@ -231,45 +231,45 @@ names f e = rw e
 -- ---- the entries: c and d are the lists lent, x, y and z the argument columns, o the output, cs the counts, n the number returned
 
 -- k is the operation that the code names
-pub one_list : (κs : Lfts 9) (op op' : ℕ) (c : ListBytesLent) (o : ByteSlices) (cs : Slice ℕ) (n : ℕ) (k : Unary)
+pub one_list : (κs : Lfts 9) (op op' : ℕ) (c : ListBytesLent) (o : ByteSlices) (cs : MutSlice ℕ) (n : ℕ) (k : Unary)
     → OneList.Post κs (op, enter6 c (enter4 o (cs.entry, tt))) n (op', leave6 c (leave4 o (cs.exit, tt)))
     → n < 100 → unary_of op ≡ given k → ListBytes (end narrow (list (unary k (list_in c)) (room_in o))) n o cs
 unfolding end unary_call
 one_list κs op op' c o cs n k h b e = list-taken b _ (size_far _ _ _) o cs _ (names (λ j. list_outcome narrow (unary j (list_in c))) e) h
 
-pub list_with : (κs : Lfts 15) (op op' : ℕ) (c : ListBytesLent) (x y z : ValueBytesLent) (o : ByteSlices) (cs : Slice ℕ) (n : ℕ) (k : ListOp)
+pub list_with : (κs : Lfts 15) (op op' : ℕ) (c : ListBytesLent) (x y z : ValueBytesLent) (o : ByteSlices) (cs : MutSlice ℕ) (n : ℕ) (k : ListOp)
     → ListWith.Post κs (op, enter6 c (enter3 x (enter3 y (enter3 z (enter4 o (cs.entry, tt)))))) n (op', leave6 c (leave3 x (leave3 y (leave3 z (leave4 o (cs.exit, tt))))))
     → n < 100 → with_of op ≡ given k → ListBytes (end narrow (list (call_of k (list_in c) (arguments_in x) (arguments_in y) (arguments_in z)) (room_in o))) n o cs
 unfolding end with_call
 list_with κs op op' c x y z o cs n k h b e = list-taken b _ (size_far _ _ _) o cs _ (names (λ j. list_outcome narrow (call_of j (list_in c) (arguments_in x) (arguments_in y) (arguments_in z))) e) h
 
-pub two-lists : (κs : Lfts 13) (op op' : ℕ) (c d : ListBytesLent) (o : ByteSlices) (cs : Slice ℕ) (n : ℕ) (k : SetOp)
+pub two-lists : (κs : Lfts 13) (op op' : ℕ) (c d : ListBytesLent) (o : ByteSlices) (cs : MutSlice ℕ) (n : ℕ) (k : SetOp)
     → TwoLists.Post κs (op, enter6 c (enter6 d (enter4 o (cs.entry, tt)))) n (op', leave6 c (leave6 d (leave4 o (cs.exit, tt))))
     → n < 100 → set_of op ≡ given k → ListBytes (end narrow (list (set_op_call k (list_in c) (list_in d)) (room_in o))) n o cs
 unfolding end set_call
 two-lists κs op op' c d o cs n k h b e = list-taken b _ (size_far _ _ _) o cs _ (names (λ j. list_outcome narrow (set_op_call j (list_in c) (list_in d))) e) h
 
-pub any_value_lem : (κs : Lfts 7) (c : ListBytesLent) (o : BytePair) (cs : Slice ℕ) (n : ℕ)
+pub any_value_lem : (κs : Lfts 7) (c : ListBytesLent) (o : BytePair) (cs : MutSlice ℕ) (n : ℕ)
     → AnyValue.Post κs (enter6 c (enter2 o (cs.entry, tt))) n (leave6 c (leave2 o (cs.exit, tt)))
     → n < 100 → ValueBytes (end narrow (any_value (list_in c) (value_room_in o))) n o cs
 unfolding end
 any_value_lem κs c o cs n h b = value_taken b _ (size_far _ _ _) o cs (any_value_outcome (list_in c)) h
 
-pub elements : (κs : Lfts 9) (c : ListBytesLent) (x : ValueBytesLent) (o : BytePair) (cs : Slice ℕ) (n : ℕ)
+pub elements : (κs : Lfts 9) (c : ListBytesLent) (x : ValueBytesLent) (o : BytePair) (cs : MutSlice ℕ) (n : ℕ)
     → Element.Post κs (enter6 c (enter3 x (enter2 o (cs.entry, tt)))) n (leave6 c (leave3 x (leave2 o (cs.exit, tt))))
     → n < 100 → ValueBytes (end narrow (element (list_in c) (arguments_in x) (value_room_in o))) n o cs
 unfolding end
 elements κs c x o cs n h b = value_taken b _ (size_far _ _ _) o cs (element_outcome narrow (list_in c) (arguments_in x)) h
 
 -- p is the output's outer lists
-pub repeats : (κs : Lfts 13) (c : ListBytesLent) (x : ValueBytesLent) (p : BytePair) (o : ByteSlices) (cs : Slice ℕ) (n : ℕ)
+pub repeats : (κs : Lfts 13) (c : ListBytesLent) (x : ValueBytesLent) (p : BytePair) (o : ByteSlices) (cs : MutSlice ℕ) (n : ℕ)
     → ListRepeat.Post κs (enter6 c (enter3 x (enter2 p (enter4 o (cs.entry, tt))))) n (leave6 c (leave3 x (leave2 p (leave4 o (cs.exit, tt)))))
     → n < 100 → RepeatBytes (end narrow (list_repeat (list_in c) (arguments_in x) (repeat_room_in p o))) n p o cs
 unfolding end
 repeats κs c x p o cs n h b = repeat_taken b _ (size_far _ _ _) p o cs (repeat_outcome narrow (list_in c) (arguments_in x)) h
 
 -- s is the station, ns are the recipe's numbers, l and m the trays, t the tally
-pub recipes : (κs : Lfts 25) (s s' k k' : ℕ) (ns : Slice ℕ) (c d : ListBytesLent) (x : ValueBytesLent) (l m o : ByteSlices) (cs t : Slice ℕ) (n : ℕ)
+pub recipes : (κs : Lfts 25) (s s' k k' : ℕ) (ns : Slice ℕ) (c d : ListBytesLent) (x : ValueBytesLent) (l m o : ByteSlices) (cs t : MutSlice ℕ) (n : ℕ)
     → Recipe.Post κs (s, (k, (ns.entry, enter6 c (enter6 d (enter3 x (enter4 l (enter4 m (enter4 o (cs.entry, (t.entry, tt))))))))))
     n (s', (k', (ns.exit, leave6 c (leave6 d (leave3 x (leave4 l (leave4 m (leave4 o (cs.exit, (t.exit, tt))))))))))
     → n < 100 → RecipeBytes (end narrow (recipe s (recipeOf (nats 4 ns.entry.now) k) (list_in c) (list_in d) (arguments_in x) (room_in l) (room_in m) (room_in o) (tally_in t.entry.now))) n l m o cs t
@@ -285,7 +285,7 @@ recipes κs s s' k k' ns c d x l m o cs t n h b =
     }
 
 -- the tally's bytes, after a call that took the tally in them, hold the tally that the call gives
-pub recipes_gave : (q : Call Column Arguments View) {n : ℕ} {l m o : ByteSlices} {cs : Slice ℕ} (t : Slice ℕ) → All (λ (b : ℕ). b < 256) t.entry.now → tally_taken q ≡ given (tally_in t.entry.now)
+pub recipes_gave : (q : Call Column Arguments View) {n : ℕ} {l m o : ByteSlices} {cs : MutSlice ℕ} (t : MutSlice ℕ) → All (λ (b : ℕ). b < 256) t.entry.now → tally_taken q ≡ given (tally_in t.entry.now)
     → RecipeBytes (end narrow q) n l m o cs t → (end narrow q).tally ≡ given (tally_in t.exit.now)
 unfolding over_tally
 recipes_gave q t a h r =

@@ -8,7 +8,7 @@ use lib.ListN.{length}
 use contract.Lifetimes.{Lfts}
 use Rattle.model.specs.Basics.{none, more}
 use Rattle.model.specs.Column.{Row, Column, rows_of, WellFormed, EqualRows}
-use Rattle.model.specs.Contract.{Slice, Clears}
+use Rattle.model.specs.Contract.{Slice, MutSlice, Clears}
 use Rattle.model.specs.Form.{Room}
 use Rattle.model.specs.Grade.{graded, grade_outcome}
 use Rattle.model.specs.Limits.{narrow}
@@ -34,12 +34,12 @@ use Rattle.claims.proofs.Runs.{demand_3}
 use Rattle.claims.proofs.Typed.{long, was_served, list-served, Same, same, SameAnswer, same_answer}
 
 -- k is what is graded by, c the list lent, g the grades, a the answer
-pub grades : (κs : Lfts 5) (k k' : ℕ) (c : LentList) (g : Slice ℕ) (a : GradeAnswer) → GradeColumn.Post κs (k, entry6 c (g.entry, tt)) a (k', exit6 c (g.exit, tt)) → GradeRuns k (list_lent c) a g
+pub grades : (κs : Lfts 5) (k k' : ℕ) (c : LentList) (g : MutSlice ℕ) (a : GradeAnswer) → GradeColumn.Post κs (k, entry6 c (g.entry, tt)) a (k', exit6 c (g.exit, tt)) → GradeRuns k (list_lent c) a g
 grades κs k k' c g a h = grade_column_run h
 
 -- t is the tally that goes in, s the station, ns are the recipe's numbers, j how many argument columns there are, c and d the lists, l and m the
 -- trays, o the output
-pub graded_recipes : (κs : Lfts 23) (t t' : Tally) (k k' s s' : ℕ) (ns : Slice ℕ) (j j' : ℕ) (c d : LentList) (x : LentValues) (l m o : Slices) (g : Slice ℕ) (a : RecipeAnswer)
+pub graded_recipes : (κs : Lfts 23) (t t' : Tally) (k k' s s' : ℕ) (ns : Slice ℕ) (j j' : ℕ) (c d : LentList) (x : LentValues) (l m o : Slices) (g : MutSlice ℕ) (a : RecipeAnswer)
     → GradeRecipe.Post κs (t, (k, (s, (ns.entry, (j, entry6 c (entry6 d (entry3 x (entry4 l (entry4 m (entry4 o (g.entry, tt))))))))))) a (t', (k', (s', (ns.exit, (j', exit6 c (exit6 d (exit3 x (exit4 l (exit4 m (exit4 o (g.exit, tt)))))))))))
     → GradedRuns k s (recipe ns.entry.now j) c d x l m o g t a
 graded_recipes κs t t' k k' s s' ns j j' c d x l m o g a h = grade_recipe_run h.0 h.1.0 h.1.1.0 h.1.1.1.0 h.1.1.1.1
@@ -54,18 +54,18 @@ same_grades k g {c} {d} r r' w w' q = ap (λ (x : End). x.grades) (demand_3 narr
 
 -- ---- the typed entries: n is the number returned, cs are the counts, u is the tally
 
-grade_typed : (k : ℕ) (x : Outcome (List Row)) {n : ℕ} (g c : Slice ℕ) → TypedGrades k x n g.entry.now g.exit.now c.entry.now c.exit.now → GradeTyped (grade_end k x) n g c
+grade_typed : (k : ℕ) (x : Outcome (List Row)) {n : ℕ} (g c : MutSlice ℕ) → TypedGrades k x n g.entry.now g.exit.now c.entry.now c.exit.now → GradeTyped (grade_end k x) n g c
 unfolding grade_end answer_of written number_of number_in counts_in
 grade_typed k (refused j) g c h = record { answer = record { number = h.number; counts = h.counts }; grades = h.grades }
 grade_typed k (made ws) g c h = record { answer = record { number = h.number; counts = h.counts }; grades = h.grades }
 
-pub typed_grade : (κs : Lfts 6) (k k' : ℕ) (c : LentList) (g cs : Slice ℕ) (n : ℕ)
+pub typed_grade : (κs : Lfts 6) (k k' : ℕ) (c : LentList) (g cs : MutSlice ℕ) (n : ℕ)
     → TypedGrade.Post κs (k, entry6 c (g.entry, (cs.entry, tt))) n (k', exit6 c (g.exit, (cs.exit, tt)))
     → (n ≡ 100 → ⊥) → GradeTyped (end narrow (grade_column k (list_lent c) (length g.entry.now))) n g cs
 unfolding end
 typed_grade κs k k' c g cs n h s = grade_typed k _ g cs (rw (was_served (grade_outcome k (list_lent c)) (length g.entry.now) s _ h.number) at h)
 
-pub typed_recipe : (κs : Lfts 25) (k k' t t' j j' : ℕ) (ns : Slice ℕ) (c d : LentList) (x : LentValues) (l m o : Slices) (g cs u : Slice ℕ) (n : ℕ)
+pub typed_recipe : (κs : Lfts 25) (k k' t t' j j' : ℕ) (ns : Slice ℕ) (c d : LentList) (x : LentValues) (l m o : Slices) (g cs u : MutSlice ℕ) (n : ℕ)
     → TypedRecipe.Post κs (k, (t, (ns.entry, (j, entry6 c (entry6 d (entry3 x (entry4 l (entry4 m (entry4 o (g.entry, (cs.entry, (u.entry, tt))))))))))))
     n (k', (t', (ns.exit, (j', exit6 c (exit6 d (exit3 x (exit4 l (exit4 m (exit4 o (g.exit, (cs.exit, (u.exit, tt))))))))))))
     → (n ≡ 100 → ⊥)
@@ -86,8 +86,8 @@ typed_recipe κs k k' t t' j j' ns c d x l m o g cs u n h s =
 
 -- two alike calls, which end in one thing x, returned one number, counted alike and wrote the same grades; of a recipe `same_list` and `same_recipe`
 -- (Typed.antt) say the rest
-pub same_grade : (x : End) {n n' : ℕ} (g g' c c' : Slice ℕ) → GradeTyped x n g c → GradeTyped x n' g' c' → SameAnswer x n n' c c' × Same x.grades g g'
+pub same_grade : (x : End) {n n' : ℕ} (g g' c c' : MutSlice ℕ) → GradeTyped x n g c → GradeTyped x n' g' c' → SameAnswer x n n' c c' × Same x.grades g g'
 same_grade x g g' c c' h k = (same_answer x c c' h.answer k.answer, same x.grades g g' h.grades k.grades)
 
-pub same_graded : (x : End) {n n' : ℕ} {l l' m m' o o' : Slices} (g g' : Slice ℕ) {c c' t t' : Slice ℕ} → GradedTyped x n l m o g c t → GradedTyped x n' l' m' o' g' c' t' → Same x.grades g g'
+pub same_graded : (x : End) {n n' : ℕ} {l l' m m' o o' : Slices} (g g' : MutSlice ℕ) {c c' t t' : MutSlice ℕ} → GradedTyped x n l m o g c t → GradedTyped x n' l' m' o' g' c' t' → Same x.grades g g'
 same_graded x g g' h k = same x.grades g g' h.grades k.grades

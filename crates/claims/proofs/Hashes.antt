@@ -16,7 +16,7 @@ use Rattle.model.specs.Hash as H
 use Rattle.model.specs.Outcome.{Outcome}
 use Rattle.model.specs.Rows.{on_lent}
 use Rattle.model.specs.Call.{list, hashed, End, end, hashed_end, list_end}
-use Rattle.model.specs.Contract.{Slice}
+use Rattle.model.specs.Contract.{MutSlice}
 use Rattle.model.specs.Run.{Run, hashed_run}
 use Rattle.model.specs.declared.ListAnswer.{ListAnswer}
 use Rattle.model.specs.declared.SetOp.{SetOp}
@@ -33,10 +33,10 @@ use Rattle.claims.specs.Numbers.{HashTyped}
 use Rattle.claims.proofs.Typed.{list-served}
 
 -- c and d are the lists lent, o the output, w the work area, a the answer
-pub distinct-hashed : (κs : Lfts 9) (c : LentList) (o : Slices) (w : Slice ℕ) (a : ListAnswer) → Distinct.Post κs (entry6 c (entry4 o (w.entry, tt))) a (exit6 c (exit4 o (w.exit, tt))) → HashRuns (distinct_of (list_lent c)) a o w
+pub distinct-hashed : (κs : Lfts 9) (c : LentList) (o : Slices) (w : MutSlice ℕ) (a : ListAnswer) → Distinct.Post κs (entry6 c (entry4 o (w.entry, tt))) a (exit6 c (exit4 o (w.exit, tt))) → HashRuns (distinct_of (list_lent c)) a o w
 distinct-hashed κs c o w a h = hashed_run h
 
-pub sets_hashed : (κs : Lfts 12) (k k' : SetOp) (c d : LentList) (o : Slices) (w : Slice ℕ) (a : ListAnswer) → Sets.Post κs (entry6 c (entry6 d (k, entry4 o (w.entry, tt)))) a (exit6 c (exit6 d (k', exit4 o (w.exit, tt)))) → HashRuns (H.set_of k (list_lent c) (list_lent d)) a o w
+pub sets_hashed : (κs : Lfts 12) (k k' : SetOp) (c d : LentList) (o : Slices) (w : MutSlice ℕ) (a : ListAnswer) → Sets.Post κs (entry6 c (entry6 d (k, entry4 o (w.entry, tt)))) a (exit6 c (exit6 d (k', exit4 o (w.exit, tt)))) → HashRuns (H.set_of k (list_lent c) (list_lent d)) a o w
 sets_hashed κs k k' c d o w a h = hashed_run h
 
 -- a run with enough slots, and one of the plain operation: one answer, and the same written results
@@ -48,7 +48,7 @@ hashed_as_plain L {h} {n} {l} r r' s =
 
 -- ---- the typed entries: n is the number returned, cs are the counts
 
-hash_typed : (h : Hashed Column) {n : ℕ} (s : n ≡ 100 → ⊥) (o : Slices) (w cs : Slice ℕ) (F : ℕ → Lent (Room → Outcome (List Row))) → F (length w.entry.now) ≡ given (hashed_outcome narrow h (length w.entry.now))
+hash_typed : (h : Hashed Column) {n : ℕ} (s : n ≡ 100 → ⊥) (o : Slices) (w cs : MutSlice ℕ) (F : ℕ → Lent (Room → Outcome (List Row))) → F (length w.entry.now) ≡ given (hashed_outcome narrow h (length w.entry.now))
     → HashServed F n o.offsets o.rows o.values o.elements w cs
     → HashTyped (end narrow (hashed h (length w.entry.now) (slices_room o))) n o w cs
 unfolding end hashed_end list_end
@@ -59,13 +59,13 @@ hash_typed h s o w cs F e t =
       area = ap given (sym t.area);
     }
 
-pub typed_distinct-hashed : (κs : Lfts 10) (c : LentList) (o : Slices) (w cs : Slice ℕ) (n : ℕ)
+pub typed_distinct-hashed : (κs : Lfts 10) (c : LentList) (o : Slices) (w cs : MutSlice ℕ) (n : ℕ)
     → TypedDistinct.Post κs (entry6 c (entry4 o (w.entry, (cs.entry, tt)))) n (exit6 c (exit4 o (w.exit, (cs.exit, tt))))
     → (n ≡ 100 → ⊥) → HashTyped (end narrow (hashed (distinct_of (list_lent c)) (length w.entry.now) (slices_room o))) n o w cs
 typed_distinct-hashed κs c o w cs n h s = hash_typed (distinct_of (list_lent c)) s o w cs (λ m. given (hashed_outcome narrow (distinct_of (list_lent c)) m)) refl h
 
 -- k is the operation that the code names
-pub typed_sets_hashed : (κs : Lfts 13) (op op' : ℕ) (c d : LentList) (o : Slices) (w cs : Slice ℕ) (n : ℕ) (k : SetOp)
+pub typed_sets_hashed : (κs : Lfts 13) (op op' : ℕ) (c d : LentList) (o : Slices) (w cs : MutSlice ℕ) (n : ℕ) (k : SetOp)
     → TypedSets.Post κs (op, entry6 c (entry6 d (entry4 o (w.entry, (cs.entry, tt))))) n (op', exit6 c (exit6 d (exit4 o (w.exit, (cs.exit, tt)))))
     → (n ≡ 100 → ⊥) → set_of op ≡ given k → HashTyped (end narrow (hashed (H.set_of k (list_lent c) (list_lent d)) (length w.entry.now) (slices_room o))) n o w cs
 unfolding hashed_call on_lent

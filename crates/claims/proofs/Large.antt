@@ -19,7 +19,7 @@ use Rattle.model.specs.Tally.{Sixteen, moved, While, no_more, still}
 use Rattle.model.specs.Tally as M
 use Rattle.model.specs.Call.{Call, End, end, refusal, counts, list, any_value, element, list_repeat, recipe, measure_list, measure_any_value, measure_element, measure_repeat, limit_recipe, measure_end, limit_counts}
 use Rattle.model.specs.Call as C
-use Rattle.model.specs.Contract.{Slice, lent_if, repeat_room_of, told_repeat_lengths, told_limits}
+use Rattle.model.specs.Contract.{Slice, MutSlice, lent_if, repeat_room_of, told_repeat_lengths, told_limits}
 use Rattle.model.specs.Run.{Run, list_run, any_value_run, element_run, repeat_run, recipe_run, measure_list_run, measure_any_value_run, measure_element_run, measure_repeat_run, limit_recipe_run}
 use Rattle.model.proofs.AskedLaws.{list_measures, value_measures, repeat_measures, recipe_limited}
 use Rattle.model.proofs.LargeLaws.{Neither, no_four_or_six}
@@ -219,62 +219,62 @@ recipe-limits κs ns k k' c d x a h = limit_recipe_run (recipe_limited h)
 
 -- ---- the entries of `duthlan_large`: cs is the slice of the counts or of the lengths, n the number returned, k the operation that the code names
 
-pub typed_one : (κs : Lfts 15) (op op' : ℕ) (c : LentList) (x y z : LentValues) (o : Slices) (cs : Slice ℕ) (n : ℕ) (k : ListOp)
+pub typed_one : (κs : Lfts 15) (op op' : ℕ) (c : LentList) (x y z : LentValues) (o : Slices) (cs : MutSlice ℕ) (n : ℕ) (k : ListOp)
     → TypedOne.Post κs (op, entry6 c (entry3 x (entry3 y (entry3 z (entry4 o (cs.entry, tt)))))) n (op', exit6 c (exit3 x (exit3 y (exit3 z (exit4 o (cs.exit, tt))))))
     → (n ≡ 100 → ⊥) → one_of op ≡ given k → ListTyped (end wide (list (call_of k (list_lent c) (values_lent x) (values_lent y) (values_lent z)) (slices_room o))) n o cs
 typed_one κs op op' c x y z o cs n k h s e = one_typed wide s c cs op x y z o k h e
 
-pub typed_two : (κs : Lfts 12) (op op' : ℕ) (c d : LentList) (o : Slices) (cs : Slice ℕ) (n : ℕ) (k : SetOp)
+pub typed_two : (κs : Lfts 12) (op op' : ℕ) (c d : LentList) (o : Slices) (cs : MutSlice ℕ) (n : ℕ) (k : SetOp)
     → TypedTwo.Post κs (op, entry6 c (entry6 d (entry4 o (cs.entry, tt)))) n (op', exit6 c (exit6 d (exit4 o (cs.exit, tt))))
     → (n ≡ 100 → ⊥) → set_of op ≡ given k → ListTyped (end wide (list (set_op_call k (list_lent c) (list_lent d)) (slices_room o))) n o cs
 typed_two κs op op' c d o cs n k h s e = two_typed wide s c cs op d o k h e
 
-pub typed_any_value : (κs : Lfts 7) (c : LentList) (o : Pair) (cs : Slice ℕ) (n : ℕ)
+pub typed_any_value : (κs : Lfts 7) (c : LentList) (o : Pair) (cs : MutSlice ℕ) (n : ℕ)
     → TypedAnyValue.Post κs (entry6 c (entry2 o (cs.entry, tt))) n (exit6 c (exit2 o (cs.exit, tt)))
     → (n ≡ 100 → ⊥) → ValueTyped (end wide (any_value (list_lent c) (pair_room o))) n o cs
 typed_any_value κs c o cs n h s = any_typed wide s c cs o h
 
-pub typed_element : (κs : Lfts 9) (c : LentList) (x : LentValues) (o : Pair) (cs : Slice ℕ) (n : ℕ)
+pub typed_element : (κs : Lfts 9) (c : LentList) (x : LentValues) (o : Pair) (cs : MutSlice ℕ) (n : ℕ)
     → TypedElement.Post κs (entry6 c (entry3 x (entry2 o (cs.entry, tt)))) n (exit6 c (exit3 x (exit2 o (cs.exit, tt))))
     → (n ≡ 100 → ⊥) → ValueTyped (end wide (element (list_lent c) (values_lent x) (pair_room o))) n o cs
 typed_element κs c x o cs n h s = element_typed wide s c cs x o h
 
 -- p is the output's outer lists
-pub typed_repeat : (κs : Lfts 13) (c : LentList) (x : LentValues) (p : Pair) (o : Slices) (cs : Slice ℕ) (n : ℕ)
+pub typed_repeat : (κs : Lfts 13) (c : LentList) (x : LentValues) (p : Pair) (o : Slices) (cs : MutSlice ℕ) (n : ℕ)
     → TypedRepeat.Post κs (entry6 c (entry3 x (entry2 p (entry4 o (cs.entry, tt))))) n (exit6 c (exit3 x (exit2 p (exit4 o (cs.exit, tt)))))
     → (n ≡ 100 → ⊥) → RepeatTyped (end wide (list_repeat (list_lent c) (values_lent x) (repeat_room_of p.values p.bits o.offsets o.rows o.values o.elements))) n p o cs
 typed_repeat κs c x p o cs n h s = repeats_typed wide s c cs x p o h
 
 -- t is the station, ns are the recipe's numbers, k how many argument columns there are, l and m the trays, u the tally
-pub typed_recipe : (κs : Lfts 24) (t t' k k' : ℕ) (ns : Slice ℕ) (c d : LentList) (x : LentValues) (l m o : Slices) (cs u : Slice ℕ) (n : ℕ)
+pub typed_recipe : (κs : Lfts 24) (t t' k k' : ℕ) (ns : Slice ℕ) (c d : LentList) (x : LentValues) (l m o : Slices) (cs u : MutSlice ℕ) (n : ℕ)
     → TypedRecipe.Post κs (t, (ns.entry, (k, entry6 c (entry6 d (entry3 x (entry4 l (entry4 m (entry4 o (cs.entry, (u.entry, tt))))))))))
     n (t', (ns.exit, (k', exit6 c (exit6 d (exit3 x (exit4 l (exit4 m (exit4 o (cs.exit, (u.exit, tt))))))))))
     → (n ≡ 100 → ⊥) → RecipeTyped (end wide (recipe t (recipeOf ns.entry.now k) (list_lent c) (list_lent d) (values_lent x) (slices_room l) (slices_room m) (slices_room o) (tally_at u.entry.now))) n l m o cs u
 typed_recipe κs t t' k k' ns c d x l m o cs u n h s = recipe_typed wide s c cs t (recipeOf ns.entry.now k) d x l m o u h.0 h.1.0 h.1.1
 
-pub typed_one-lengths : (κs : Lfts 11) (op op' : ℕ) (c : LentList) (x y z : LentValues) (cs : Slice ℕ) (n : ℕ) (k : ListOp)
+pub typed_one-lengths : (κs : Lfts 11) (op op' : ℕ) (c : LentList) (x y z : LentValues) (cs : MutSlice ℕ) (n : ℕ) (k : ListOp)
     → OneLengths.Post κs (op, entry6 c (entry3 x (entry3 y (entry3 z (cs.entry, tt))))) n (op', exit6 c (exit3 x (exit3 y (exit3 z (cs.exit, tt)))))
     → (n ≡ 100 → ⊥) → one_of op ≡ given k → AnswerTyped (end wide (measure_list (call_of k (list_lent c) (values_lent x) (values_lent y) (values_lent z)))) n cs
 typed_one-lengths κs op op' c x y z cs n k h s e = one-measured wide s c cs op x y z k h e
 
-pub typed_two-lengths : (κs : Lfts 8) (op op' : ℕ) (c d : LentList) (cs : Slice ℕ) (n : ℕ) (k : SetOp)
+pub typed_two-lengths : (κs : Lfts 8) (op op' : ℕ) (c d : LentList) (cs : MutSlice ℕ) (n : ℕ) (k : SetOp)
     → TwoLengths.Post κs (op, entry6 c (entry6 d (cs.entry, tt))) n (op', exit6 c (exit6 d (cs.exit, tt)))
     → (n ≡ 100 → ⊥) → set_of op ≡ given k → AnswerTyped (end wide (measure_list (set_op_call k (list_lent c) (list_lent d)))) n cs
 typed_two-lengths κs op op' c d cs n k h s e = two-measured wide s c cs op d k h e
 
-pub typed_any_value_lengths : (κs : Lfts 5) (c : LentList) (cs : Slice ℕ) (n : ℕ) → TypedAnyLengths.Post κs (entry6 c (cs.entry, tt)) n (exit6 c (cs.exit, tt))
+pub typed_any_value_lengths : (κs : Lfts 5) (c : LentList) (cs : MutSlice ℕ) (n : ℕ) → TypedAnyLengths.Post κs (entry6 c (cs.entry, tt)) n (exit6 c (cs.exit, tt))
     → (n ≡ 100 → ⊥) → AnswerTyped (end wide (measure_any_value (list_lent c))) n cs
 typed_any_value_lengths κs c cs n h s = any-measured wide s c cs h
 
-pub typed_element-lengths : (κs : Lfts 7) (c : LentList) (x : LentValues) (cs : Slice ℕ) (n : ℕ) → TypedElementLengths.Post κs (entry6 c (entry3 x (cs.entry, tt))) n (exit6 c (exit3 x (cs.exit, tt)))
+pub typed_element-lengths : (κs : Lfts 7) (c : LentList) (x : LentValues) (cs : MutSlice ℕ) (n : ℕ) → TypedElementLengths.Post κs (entry6 c (entry3 x (cs.entry, tt))) n (exit6 c (exit3 x (cs.exit, tt)))
     → (n ≡ 100 → ⊥) → AnswerTyped (end wide (measure_element (list_lent c) (values_lent x))) n cs
 typed_element-lengths κs c x cs n h s = element-measured wide s c cs x h
 
-pub typed_repeat_lengths : (κs : Lfts 7) (c : LentList) (x : LentValues) (cs : Slice ℕ) (n : ℕ) → TypedRepeatLengths.Post κs (entry6 c (entry3 x (cs.entry, tt))) n (exit6 c (exit3 x (cs.exit, tt)))
+pub typed_repeat_lengths : (κs : Lfts 7) (c : LentList) (x : LentValues) (cs : MutSlice ℕ) (n : ℕ) → TypedRepeatLengths.Post κs (entry6 c (entry3 x (cs.entry, tt))) n (exit6 c (exit3 x (cs.exit, tt)))
     → (n ≡ 100 → ⊥) → AnswerTyped (end wide (measure_repeat (list_lent c) (values_lent x))) n cs
 typed_repeat_lengths κs c x cs n h s = repeats_measured wide s c cs x h
 
-pub typed_limits : (κs : Lfts 11) (ns : Slice ℕ) (k k' : ℕ) (c d : LentList) (x : LentValues) (cs : Slice ℕ) (n : ℕ)
+pub typed_limits : (κs : Lfts 11) (ns : Slice ℕ) (k k' : ℕ) (c d : LentList) (x : LentValues) (cs : MutSlice ℕ) (n : ℕ)
     → TypedLimits.Post κs (ns.entry, (k, entry6 c (entry6 d (entry3 x (cs.entry, tt))))) n (ns.exit, (k', exit6 c (exit6 d (exit3 x (cs.exit, tt)))))
     → (n ≡ 100 → ⊥) → AnswerTyped (end wide (limit_recipe (recipeOf ns.entry.now k) (list_lent c) (list_lent d) (values_lent x))) n cs
 typed_limits κs ns k k' c d x cs n h s = recipe-measured wide s c cs (recipeOf ns.entry.now k) d x h

@@ -17,7 +17,7 @@ use Rattle.model.specs.Rows.{unary, set_op_call, slice, resize, replace, remove,
 use Rattle.model.specs.Outcome.{Outcome, gate}
 use Rattle.model.specs.Recipe.{Recipe}
 use Rattle.model.specs.Call.{Call, End, end, answer_of, measure_end, measure_list, measure_any_value, measure_element, measure_repeat, limit_recipe, room_counts, value_room_counts, repeat_room_counts, limit_counts, written}
-use Rattle.model.specs.Contract.{Slice, lent_if, told_lengths, told_value_lengths, told_repeat_lengths, told_limits}
+use Rattle.model.specs.Contract.{Slice, MutSlice, lent_if, told_lengths, told_value_lengths, told_repeat_lengths, told_limits}
 use Rattle.model.specs.Run.{Run, measure_list_run, measure_any_value_run, measure_element_run, measure_repeat_run, limit_recipe_run}
 use Rattle.model.proofs.AskedLaws.{list_measures, value_measures, repeat_measures, recipe_limited}
 use Rattle.model.specs.declared.ListLengths.{ListLengths}
@@ -120,7 +120,7 @@ module _ {A : Type 0} (f : A → List ℕ) {n : ℕ} (s : n ≡ 100 → ⊥) whe
   own false x e = refl
 
   -- X is what the entry serves by its code
-  told : (b : Bool) {X : Lent (Outcome A)} (x : Outcome A) (cs : Slice ℕ) → X ≡ given x → TypedLengths f (measured X b) n cs.entry.now cs.exit.now → AnswerTyped (measure_end (answer_of f x)) n cs
+  told : (b : Bool) {X : Lent (Outcome A)} (x : Outcome A) (cs : MutSlice ℕ) → X ≡ given x → TypedLengths f (measured X b) n cs.entry.now cs.exit.now → AnswerTyped (measure_end (answer_of f x)) n cs
   told b x cs e h =
       let g = rw e at h in
       let k = rw (own b x g.number) at g in
@@ -131,7 +131,7 @@ unfolding on_lent
 names f e = rw e
 
 -- what the contracts of the entries come to, at the width of L; k is the operation that the code names
-module _ (L : Limits) {n : ℕ} (s : n ≡ 100 → ⊥) (c : LentList) (cs : Slice ℕ) where
+module _ (L : Limits) {n : ℕ} (s : n ≡ 100 → ⊥) (c : LentList) (cs : MutSlice ℕ) where
   pub one-measured : (op : ℕ) (x y z : LentValues) (k : ListOp) → LengthsServed room_counts 4 (one_lengths L op (list_lent c) (values_lent x) (values_lent y) (values_lent z)) n cs
       → one_of op ≡ given k → AnswerTyped (end L (measure_list (call_of k (list_lent c) (values_lent x) (values_lent y) (values_lent z)))) n cs
   unfolding end one_lengths
@@ -159,29 +159,29 @@ module _ (L : Limits) {n : ℕ} (s : n ≡ 100 → ⊥) (c : LentList) (cs : Sli
   unfolding end
   recipe-measured p d x h = told limit_counts s _ (recipe_limits L p (list_lent c) (list_lent d) (values_lent x)) cs refl h
 
-pub typed_one : (κs : Lfts 11) (op op' : ℕ) (c : LentList) (x y z : LentValues) (cs : Slice ℕ) (n : ℕ) (k : ListOp)
+pub typed_one : (κs : Lfts 11) (op op' : ℕ) (c : LentList) (x y z : LentValues) (cs : MutSlice ℕ) (n : ℕ) (k : ListOp)
     → TypedOne.Post κs (op, entry6 c (entry3 x (entry3 y (entry3 z (cs.entry, tt))))) n (op', exit6 c (exit3 x (exit3 y (exit3 z (cs.exit, tt)))))
     → (n ≡ 100 → ⊥) → one_of op ≡ given k → AnswerTyped (end narrow (measure_list (call_of k (list_lent c) (values_lent x) (values_lent y) (values_lent z)))) n cs
 typed_one κs op op' c x y z cs n k h s e = one-measured narrow s c cs op x y z k h e
 
-pub typed_two : (κs : Lfts 8) (op op' : ℕ) (c d : LentList) (cs : Slice ℕ) (n : ℕ) (k : SetOp)
+pub typed_two : (κs : Lfts 8) (op op' : ℕ) (c d : LentList) (cs : MutSlice ℕ) (n : ℕ) (k : SetOp)
     → TypedTwo.Post κs (op, entry6 c (entry6 d (cs.entry, tt))) n (op', exit6 c (exit6 d (cs.exit, tt)))
     → (n ≡ 100 → ⊥) → set_of op ≡ given k → AnswerTyped (end narrow (measure_list (set_op_call k (list_lent c) (list_lent d)))) n cs
 typed_two κs op op' c d cs n k h s e = two-measured narrow s c cs op d k h e
 
-pub typed_any_value : (κs : Lfts 5) (c : LentList) (cs : Slice ℕ) (n : ℕ) → TypedAnyValue.Post κs (entry6 c (cs.entry, tt)) n (exit6 c (cs.exit, tt))
+pub typed_any_value : (κs : Lfts 5) (c : LentList) (cs : MutSlice ℕ) (n : ℕ) → TypedAnyValue.Post κs (entry6 c (cs.entry, tt)) n (exit6 c (cs.exit, tt))
     → (n ≡ 100 → ⊥) → AnswerTyped (end narrow (measure_any_value (list_lent c))) n cs
 typed_any_value κs c cs n h s = any-measured narrow s c cs h
 
-pub typed_element : (κs : Lfts 7) (c : LentList) (x : LentValues) (cs : Slice ℕ) (n : ℕ) → TypedElement.Post κs (entry6 c (entry3 x (cs.entry, tt))) n (exit6 c (exit3 x (cs.exit, tt)))
+pub typed_element : (κs : Lfts 7) (c : LentList) (x : LentValues) (cs : MutSlice ℕ) (n : ℕ) → TypedElement.Post κs (entry6 c (entry3 x (cs.entry, tt))) n (exit6 c (exit3 x (cs.exit, tt)))
     → (n ≡ 100 → ⊥) → AnswerTyped (end narrow (measure_element (list_lent c) (values_lent x))) n cs
 typed_element κs c x cs n h s = element-measured narrow s c cs x h
 
-pub typed_repeat : (κs : Lfts 7) (c : LentList) (x : LentValues) (cs : Slice ℕ) (n : ℕ) → TypedRepeat.Post κs (entry6 c (entry3 x (cs.entry, tt))) n (exit6 c (exit3 x (cs.exit, tt)))
+pub typed_repeat : (κs : Lfts 7) (c : LentList) (x : LentValues) (cs : MutSlice ℕ) (n : ℕ) → TypedRepeat.Post κs (entry6 c (entry3 x (cs.entry, tt))) n (exit6 c (exit3 x (cs.exit, tt)))
     → (n ≡ 100 → ⊥) → AnswerTyped (end narrow (measure_repeat (list_lent c) (values_lent x))) n cs
 typed_repeat κs c x cs n h s = repeats_measured narrow s c cs x h
 
-pub typed_limits : (κs : Lfts 11) (ns : Slice ℕ) (k k' : ℕ) (c d : LentList) (x : LentValues) (cs : Slice ℕ) (n : ℕ)
+pub typed_limits : (κs : Lfts 11) (ns : Slice ℕ) (k k' : ℕ) (c d : LentList) (x : LentValues) (cs : MutSlice ℕ) (n : ℕ)
     → TypedLimits.Post κs (ns.entry, (k, entry6 c (entry6 d (entry3 x (cs.entry, tt))))) n (ns.exit, (k', exit6 c (exit6 d (exit3 x (cs.exit, tt)))))
     → (n ≡ 100 → ⊥) → AnswerTyped (end narrow (limit_recipe (recipe ns.entry.now k) (list_lent c) (list_lent d) (values_lent x))) n cs
 typed_limits κs ns k k' c d x cs n h s = recipe-measured narrow s c cs (recipe ns.entry.now k) d x h

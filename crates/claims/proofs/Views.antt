@@ -9,7 +9,7 @@ use Rattle.model.specs.Column.{Row}
 use Rattle.model.specs.Limits.{narrow}
 use Rattle.model.specs.Outcome.{Outcome, refused, made}
 use Rattle.model.specs.Call.{import_view, export_view, end, view_end, list_bitmaps, answer_of, written}
-use Rattle.model.specs.Contract.{Slice}
+use Rattle.model.specs.Contract.{MutSlice}
 use Rattle.model.specs.Run.{import_run, export_run}
 use Rattle.model.specs.View.{import_outcome, export_outcome}
 use Rattle.model.specs.declared.ListAnswer.{ListAnswer}
@@ -33,7 +33,7 @@ exports κs c o a h = export_run h
 
 -- ---- the typed entries: n is the number returned, cs are the counts
 
-view_typed : (x : Outcome (List Row)) {n : ℕ} (o : ViewSlices) (c : Slice ℕ)
+view_typed : (x : Outcome (List Row)) {n : ℕ} (o : ViewSlices) (c : MutSlice ℕ)
     → TypedView x n o.offsets.entry.now o.offsets.exit.now o.sizes.entry.now o.sizes.exit.now o.rows.entry.now o.rows.exit.now o.values.entry.now o.values.exit.now o.elements.entry.now o.elements.exit.now c.entry.now c.exit.now
     → ViewTyped (view_end x) n o c
 unfolding view_end list_bitmaps answer_of written number_of number_in counts_in
@@ -54,13 +54,13 @@ view_typed (made ws) o c h = record {
   elements = h.elements;
 }
 
-pub typed_import : (κs : Lfts 10) (c : LentView) (o : Slices) (cs : Slice ℕ) (n : ℕ)
+pub typed_import : (κs : Lfts 10) (c : LentView) (o : Slices) (cs : MutSlice ℕ) (n : ℕ)
     → TypedImport.Post κs (entry7 c (entry4 o (cs.entry, tt))) n (exit7 c (exit4 o (cs.exit, tt)))
     → (n ≡ 100 → ⊥) → ListTyped (end narrow (import_view (view_lent c) (slices_room o))) n o cs
 unfolding end
 typed_import κs c o cs n h s = list-served s _ o cs (import_outcome narrow (view_lent c)) refl h
 
-pub typed_export : (κs : Lfts 10) (c : LentList) (o : ViewSlices) (cs : Slice ℕ) (n : ℕ)
+pub typed_export : (κs : Lfts 10) (c : LentList) (o : ViewSlices) (cs : MutSlice ℕ) (n : ℕ)
     → TypedExport.Post κs (entry6 c (entry5 o (cs.entry, tt))) n (exit6 c (exit5 o (cs.exit, tt)))
     → (n ≡ 100 → ⊥) → ViewTyped (end narrow (export_view (list_lent c) (view_slices_room o))) n o cs
 unfolding end

@@ -9,7 +9,7 @@ use Rattle.model.specs.Form.{Room}
 use Rattle.model.specs.Limits.{narrow}
 use Rattle.model.specs.Outcome.{Outcome}
 use Rattle.model.specs.Call.{window, end, window_end, trays_end, list_end}
-use Rattle.model.specs.Contract.{Slice}
+use Rattle.model.specs.Contract.{Slice, MutSlice}
 use Rattle.model.specs.Run.{window_run}
 use Rattle.model.specs.Window.{window_outcome}
 use Rattle.model.specs.declared.ListAnswer.{ListAnswer}
@@ -27,7 +27,7 @@ pub run_window : (κs : Lfts 22) (a a' b b' : ℕ) (ns : Slice ℕ) (k k' : ℕ)
 run_window κs a a' b b' ns k k' c d x l m o w h = window_run h.0 h.1.0 h.1.1
 
 -- the typed entry: n is the number returned, cs are the counts
-pub typed_window : (κs : Lfts 23) (a a' b b' : ℕ) (ns : Slice ℕ) (k k' : ℕ) (c d : LentList) (x : LentValues) (l m o : Slices) (cs : Slice ℕ) (n : ℕ)
+pub typed_window : (κs : Lfts 23) (a a' b b' : ℕ) (ns : Slice ℕ) (k k' : ℕ) (c d : LentList) (x : LentValues) (l m o : Slices) (cs : MutSlice ℕ) (n : ℕ)
     → TypedWindow.Post κs (a, (b, (ns.entry, (k, entry6 c (entry6 d (entry3 x (entry4 l (entry4 m (entry4 o (cs.entry, tt))))))))))
     n (a', (b', (ns.exit, (k', exit6 c (exit6 d (exit3 x (exit4 l (exit4 m (exit4 o (cs.exit, tt))))))))))
     → (n ≡ 100 → ⊥) → WindowTyped (end narrow (window (recipe ns.entry.now k) a b (list_lent c) (list_lent d) (values_lent x) (slices_room l) (slices_room m) (slices_room o))) n l m o cs

@@ -1,10 +1,10 @@
 -- What a C entry returned and wrote: the bytes of what a call ends in. Numbers stand in them little-endian (wire, specs/Bytes.antt).
 use Rattle.std.specs.Prelude.{ℕ, ◌≡◌, List, [], get_or}
-use Rattle.std.specs.Borrow.{Bor}
+use Rattle.std.specs.Borrow.{Bor, MutBor}
 use Rattle.model.specs.Basics.{Lent, absent, given}
 use Rattle.model.specs.Column.{Column, Arguments}
 use Rattle.model.specs.Call.{End}
-use Rattle.model.specs.Contract.{Slice}
+use Rattle.model.specs.Contract.{Slice, MutSlice}
 use Rattle.model.specs.Form.{Room, ValueRoom, RepeatRoom, over}
 use Rattle.model.specs.Tally.{Tally}
 use Rattle.wire.specs.Bytes.{bytes_of4, bytes_of8, bytes_of_counts}
@@ -17,15 +17,15 @@ use Rattle.claims.specs.Slots.{Number}
 
 -- the four slices of a list column in bytes, lent, for an answer or as a tray
 pub record ByteSlices : Type 0 where
-  pub offsets : Slice ℕ
-  pub rows : Slice ℕ
-  pub values : Slice ℕ
-  pub elements : Slice ℕ
+  pub offsets : MutSlice ℕ
+  pub rows : MutSlice ℕ
+  pub values : MutSlice ℕ
+  pub elements : MutSlice ℕ
 
 -- the two of an argument column, of a value answer, or of outer lists
 pub record BytePair : Type 0 where
-  pub numbers : Slice ℕ
-  pub bits : Slice ℕ
+  pub numbers : MutSlice ℕ
+  pub bits : MutSlice ℕ
 
 -- a list column in bytes that is lent to an operation: its slices, and each bitmap's starting bit
 pub record ListBytesLent : Type 0 where
@@ -61,16 +61,19 @@ repeat_room_in b o = bytes_repeat_room b.numbers b.bits o.offsets o.rows o.value
 abbrev pub Before1 : Type 0 → Type 0
 Before1 A = Bor (List ℕ) × A
 
-abbrev pub enter4 : {A : Type 0} → ByteSlices → A → Before1 (Before1 (Before1 (Before1 A)))
+abbrev pub MutBefore1 : Type 0 → Type 0
+MutBefore1 A = MutBor (List ℕ) × A
+
+abbrev pub enter4 : {A : Type 0} → ByteSlices → A → MutBefore1 (MutBefore1 (MutBefore1 (MutBefore1 A)))
 enter4 c k = (c.offsets.entry, (c.rows.entry, (c.values.entry, (c.elements.entry, k))))
 
-abbrev pub leave4 : {A : Type 0} → ByteSlices → A → Before1 (Before1 (Before1 (Before1 A)))
+abbrev pub leave4 : {A : Type 0} → ByteSlices → A → MutBefore1 (MutBefore1 (MutBefore1 (MutBefore1 A)))
 leave4 c k = (c.offsets.exit, (c.rows.exit, (c.values.exit, (c.elements.exit, k))))
 
-abbrev pub enter2 : {A : Type 0} → BytePair → A → Before1 (Before1 A)
+abbrev pub enter2 : {A : Type 0} → BytePair → A → MutBefore1 (MutBefore1 A)
 enter2 x k = (x.numbers.entry, (x.bits.entry, k))
 
-abbrev pub leave2 : {A : Type 0} → BytePair → A → Before1 (Before1 A)
+abbrev pub leave2 : {A : Type 0} → BytePair → A → MutBefore1 (MutBefore1 A)
 leave2 x k = (x.numbers.exit, (x.bits.exit, k))
 
 abbrev pub Before3 : Type 0 → Type 0
@@ -89,7 +92,7 @@ abbrev pub leave3 : {A : Type 0} → ValueBytesLent → A → Before3 A
 leave3 x k = (x.numbers.exit, (x.bits.exit, (x.start.exit, k)))
 
 -- the slice s holds w over what it held as the call began
-abbrev pub HoldsOver : List ℕ → Slice ℕ → Type 0
+abbrev pub HoldsOver : List ℕ → MutSlice ℕ → Type 0
 HoldsOver w s = s.exit.now ≡ over w s.entry.now
 
 -- written slice i of numbers, and of bitmaps
@@ -103,12 +106,12 @@ abbrev pub bitmap_bytes : End → ℕ → List ℕ
 bitmap_bytes x i = get_or x.bitmaps i []
 
 -- the number returned, and the counts
-pub record AnswerBytes (x : End) (n : ℕ) (c : Slice ℕ) : Type 0 where
+pub record AnswerBytes (x : End) (n : ℕ) (c : MutSlice ℕ) : Type 0 where
   pub number : n ≡ number_in x.answer
   pub counts : HoldsOver (bytes_of_counts (counts_in x.answer)) c
 
 -- of a list answer, and of a recipe's
-pub record ListBytes (x : End) (n : ℕ) (o : ByteSlices) (c : Slice ℕ) : Type 0 where
+pub record ListBytes (x : End) (n : ℕ) (o : ByteSlices) (c : MutSlice ℕ) : Type 0 where
   pub answer : AnswerBytes x n c
   pub offsets : HoldsOver (offset_bytes x 0) o.offsets
   pub rows : HoldsOver (bitmap_bytes x 0) o.rows
@@ -116,13 +119,13 @@ pub record ListBytes (x : End) (n : ℕ) (o : ByteSlices) (c : Slice ℕ) : Type
   pub elements : HoldsOver (bitmap_bytes x 1) o.elements
 
 -- of a value answer
-pub record ValueBytes (x : End) (n : ℕ) (o : BytePair) (c : Slice ℕ) : Type 0 where
+pub record ValueBytes (x : End) (n : ℕ) (o : BytePair) (c : MutSlice ℕ) : Type 0 where
   pub answer : AnswerBytes x n c
   pub values : HoldsOver (value_bytes x 0) o.numbers
   pub rows : HoldsOver (bitmap_bytes x 0) o.bits
 
 -- of list-repeat's, b being the outer lists
-pub record RepeatBytes (x : End) (n : ℕ) (b : BytePair) (o : ByteSlices) (c : Slice ℕ) : Type 0 where
+pub record RepeatBytes (x : End) (n : ℕ) (b : BytePair) (o : ByteSlices) (c : MutSlice ℕ) : Type 0 where
   pub answer : AnswerBytes x n c
   pub outer-offsets : HoldsOver (offset_bytes x 0) b.numbers
   pub outer_rows : HoldsOver (bitmap_bytes x 0) b.bits
@@ -144,7 +147,7 @@ pub record ZeroBytes (l : ByteSlices) : Type 0 where
   pub elements : Zero l.elements
 
 -- of a recipe through the trays l and m, with its tally in t
-pub record RecipeBytes (x : End) (n : ℕ) (l m o : ByteSlices) (c t : Slice ℕ) : Type 0 where
+pub record RecipeBytes (x : End) (n : ℕ) (l m o : ByteSlices) (c t : MutSlice ℕ) : Type 0 where
   pub answer : ListBytes x n o c
   pub one : ZeroBytes l
   pub two : ZeroBytes m

@@ -1,6 +1,6 @@
 -- The slices of a call, at entry and at exit, in the order of a function's parameters; and what it means that a call is a run.
 use Rattle.std.specs.Prelude.{List, ℕ, ℤ, length}
-use Rattle.std.specs.Borrow.{Bor}
+use Rattle.std.specs.Borrow.{Bor, MutBor}
 use denote.Triple.Both.{Both}
 use Rattle.model.specs.Basics.{absent, given}
 use Rattle.model.specs.Limits.{Limits, narrow}
@@ -11,7 +11,7 @@ use Rattle.model.specs.View.{View, ViewRoom}
 use Rattle.model.specs.Hash.{Hashed}
 use Rattle.view_checks.specs.Views.{lent_view}
 use Rattle.model.specs.Call.{Call, list, recipe, window, import_view, export_view, grade_column, grade_recipe, hashed}
-use Rattle.model.specs.Contract.{Slice, room_of, value_room, repeat_room_of, view_room}
+use Rattle.model.specs.Contract.{Slice, MutSlice, room_of, value_room, repeat_room_of, view_room}
 use Rattle.model.specs.Inner.{lent_from, lent_arguments_from}
 use Rattle.model.specs.Recipe.{Recipe}
 use Rattle.model.specs.Run.{Run, list_run_end, value_run_end, repeat_run_end, recipe_run_end, view_run_end, grade_run_end, graded_run_end, hashed_run_end}
@@ -25,15 +25,15 @@ use Rattle.tally.specs.declared.Tally.{Tally}
 
 -- the four slices of a list column, lent, for an answer or as a tray
 pub record Slices : Type 0 where
-  pub offsets : Slice ℤ
-  pub rows : Slice ℕ
-  pub values : Slice ℤ
-  pub elements : Slice ℕ
+  pub offsets : MutSlice ℤ
+  pub rows : MutSlice ℕ
+  pub values : MutSlice ℤ
+  pub elements : MutSlice ℕ
 
 -- the two of an argument column, or of a value answer
 pub record Pair : Type 0 where
-  pub values : Slice ℤ
-  pub bits : Slice ℕ
+  pub values : MutSlice ℤ
+  pub bits : MutSlice ℕ
 
 -- a number that is passed by value, at entry and at exit
 abbrev pub Number : Type 0
@@ -71,8 +71,11 @@ pair_room o = value_room (length o.values.entry.now) (length o.bits.entry.now)
 abbrev pub Before2 : Type 0 → Type 0
 Before2 A = Bor (List ℤ) × (Bor (List ℕ) × A)
 
+abbrev pub MutBefore2 : Type 0 → Type 0
+MutBefore2 A = MutBor (List ℤ) × (MutBor (List ℕ) × A)
+
 abbrev pub Before4 : Type 0 → Type 0
-Before4 A = Before2 (Before2 A)
+Before4 A = MutBefore2 (MutBefore2 A)
 
 abbrev pub entry4 : {A : Type 0} → Slices → A → Before4 A
 entry4 c k = (c.offsets.entry, (c.rows.entry, (c.values.entry, (c.elements.entry, k))))
@@ -80,10 +83,10 @@ entry4 c k = (c.offsets.entry, (c.rows.entry, (c.values.entry, (c.elements.entry
 abbrev pub exit4 : {A : Type 0} → Slices → A → Before4 A
 exit4 c k = (c.offsets.exit, (c.rows.exit, (c.values.exit, (c.elements.exit, k))))
 
-abbrev pub entry2 : {A : Type 0} → Pair → A → Before2 A
+abbrev pub entry2 : {A : Type 0} → Pair → A → MutBefore2 A
 entry2 x k = (x.values.entry, (x.bits.entry, k))
 
-abbrev pub exit2 : {A : Type 0} → Pair → A → Before2 A
+abbrev pub exit2 : {A : Type 0} → Pair → A → MutBefore2 A
 exit2 x k = (x.values.exit, (x.bits.exit, k))
 
 abbrev pub Before3 : Type 0 → Type 0
@@ -112,11 +115,11 @@ pub record LentView : Type 0 where
   pub elements-start : Number
 
 pub record ViewSlices : Type 0 where
-  pub offsets : Slice ℤ
-  pub sizes : Slice ℤ
-  pub rows : Slice ℕ
-  pub values : Slice ℤ
-  pub elements : Slice ℕ
+  pub offsets : MutSlice ℤ
+  pub sizes : MutSlice ℤ
+  pub rows : MutSlice ℕ
+  pub values : MutSlice ℤ
+  pub elements : MutSlice ℕ
 
 abbrev pub view_lent : LentView → View
 view_lent c = lent_view c.offsets c.sizes c.rows c.rows_start.entry c.values c.elements c.elements-start.entry
@@ -133,10 +136,10 @@ entry7 c k = (c.offsets.entry, (c.sizes.entry, (c.rows.entry, (c.rows_start.entr
 abbrev pub exit7 : {A : Type 0} → LentView → A → Before7 A
 exit7 c k = (c.offsets.exit, (c.sizes.exit, (c.rows.exit, (c.rows_start.exit, (c.values.exit, (c.elements.exit, (c.elements-start.exit, k)))))))
 
-abbrev pub entry5 : {A : Type 0} → ViewSlices → A → Bor (List ℤ) × Before4 A
+abbrev pub entry5 : {A : Type 0} → ViewSlices → A → MutBor (List ℤ) × Before4 A
 entry5 c k = (c.offsets.entry, (c.sizes.entry, (c.rows.entry, (c.values.entry, (c.elements.entry, k)))))
 
-abbrev pub exit5 : {A : Type 0} → ViewSlices → A → Bor (List ℤ) × Before4 A
+abbrev pub exit5 : {A : Type 0} → ViewSlices → A → MutBor (List ℤ) × Before4 A
 exit5 c k = (c.offsets.exit, (c.sizes.exit, (c.rows.exit, (c.values.exit, (c.elements.exit, k)))))
 
 -- a call of q, at the width of L, that answered a and had o for its output is a run
@@ -175,7 +178,7 @@ WindowRuns p a b c d x l m o w =
     absent)
 
 -- with a work area w
-abbrev pub HashRuns : Hashed Column → ListAnswer → Slices → Slice ℕ → Type 0
+abbrev pub HashRuns : Hashed Column → ListAnswer → Slices → MutSlice ℕ → Type 0
 HashRuns h a o w = Run narrow (hashed h (length w.entry.now) (slices_room o)) (hashed_run_end a o.offsets.exit.now o.rows.exit.now o.values.exit.now o.elements.exit.now w.exit.now)
 
 -- an import, and an export, that answered a
@@ -186,11 +189,11 @@ abbrev pub ExportRuns : Column → ListAnswer → ViewSlices → Type 0
 ExportRuns c a o = Run narrow (export_view c (view_slices_room o)) (view_run_end a o.offsets.exit.now o.sizes.exit.now o.rows.exit.now o.values.exit.now o.elements.exit.now)
 
 -- a column graded by k that answered a, g being the grades
-abbrev pub GradeRuns : ℕ → Column → GradeAnswer → Slice ℕ → Type 0
+abbrev pub GradeRuns : ℕ → Column → GradeAnswer → MutSlice ℕ → Type 0
 GradeRuns k c a g = Run narrow (grade_column k c (length g.entry.now)) (grade_run_end a g.exit.now)
 
 -- a recipe graded by k into g, the rest as of a recipe
-abbrev pub GradedRuns : ℕ → ℕ → Recipe → LentList → LentList → LentValues → Slices → Slices → Slices → Slice ℕ → Tally → RecipeAnswer → Type 0
+abbrev pub GradedRuns : ℕ → ℕ → Recipe → LentList → LentList → LentValues → Slices → Slices → Slices → MutSlice ℕ → Tally → RecipeAnswer → Type 0
 GradedRuns k s p c d x l m o g t a =
     Run narrow (grade_recipe k s p (list_lent c) (list_lent d) (values_lent x) (slices_room l) (slices_room m) (slices_room o) (length g.entry.now) (tally_of t))
     (graded_run_end a.answer

@@ -8,7 +8,7 @@ use model::{SetOp, Unary};
 use ops::ListOp;
 
 // What a code names: an operation on one list and its argument columns, one on two lists, or none.
-#[derive(Drop)]
+#[derive(Clone, Copy)]
 pub enum Operation {
     One(ListOp),
     Two(SetOp),

@@ -1,7 +1,7 @@
 // Offsets of either width: of two slices, of 32 and of 64 bits, the one that the width uses.
 ghost use Rattle.std.specs.Prelude.{◌<◌, ◌≤◌, pos, length, set, ◌≡◌};
 ghost use Rattle.model.specs.Column.{bad_offsets, offset_at, row_count};
-ghost use Rattle.model.specs.Widths.{entry_at, exit_at, limits_at, used};
+ghost use Rattle.model.specs.Widths.{entry_at, mut_entry_at, exit_at, limits_at, used};
 
 use crate::{large, offsets};
 use model::Width;
@@ -52,7 +52,7 @@ pub fn row_count(width: Width, narrow: &[i32], wide: &[i64]) -> usize
 pub fn put_offset(width: Width, narrow: &mut [i32], wide: &mut [i64], i: usize, v: usize)
     requires i_in_bounds { i < length (used width narrow.old wide.old) }
     requires v_bound { v ≤ (limits_at width).offset }
-    ensures { exit_at width narrow wide ≡ set (entry_at width narrow wide) i (pos v) }
+    ensures { exit_at width narrow wide ≡ set (mut_entry_at width narrow wide) i (pos v) }
 {
     match width {
         Width::Narrow => offsets::put_offset(narrow, i, v),

@@ -7,7 +7,7 @@ use Rattle.model.specs.Column.{Elem, Row, Column, column, Arguments, arguments}
 use Rattle.model.specs.Form.{Room, ValueRoom, flat, form_offsets, form_rows, form_values, form_elements}
 use Rattle.model.specs.Outcome.{Outcome, refused, made, gate}
 use Rattle.model.specs.Call.{list_counts, value_counts}
-use Rattle.model.specs.Contract.{Slice, after, room, value_room}
+use Rattle.model.specs.Contract.{Slice, MutSlice, after, room, value_room}
 use Rattle.wire.specs.Bytes.{ints4, ints8, bytes_of4, bytes_of8, bytes_of_counts}
 
 -- ---- what is lent
@@ -23,12 +23,15 @@ decoded_arguments_from v b i = arguments (ints8 v.entry.now) (from i b.entry.now
 abbrev pub size : Slice ℕ → ℕ
 size s = length s.entry.now
 
--- the lengths of the slices of bytes for a list answer, and for a value answer, in numbers
-abbrev pub bytes_room : Slice ℕ → Slice ℕ → Slice ℕ → Slice ℕ → Room
-bytes_room o r v e = room (size o / 4) (size r) (size v / 8) (size e)
+abbrev pub mut_size : MutSlice ℕ → ℕ
+mut_size s = length s.entry.now
 
-abbrev pub bytes_value_room : Slice ℕ → Slice ℕ → ValueRoom
-bytes_value_room v r = value_room (size v / 8) (size r)
+-- the lengths of the slices of bytes for a list answer, and for a value answer, in numbers
+abbrev pub bytes_room : MutSlice ℕ → MutSlice ℕ → MutSlice ℕ → MutSlice ℕ → Room
+bytes_room o r v e = room (mut_size o / 4) (mut_size r) (mut_size v / 8) (mut_size e)
+
+abbrev pub bytes_value_room : MutSlice ℕ → MutSlice ℕ → ValueRoom
+bytes_value_room v r = value_room (mut_size v / 8) (mut_size r)
 
 -- ---- the entry's own refusals
 
@@ -102,23 +105,23 @@ pub record ValueReturns (x : Outcome (List Elem)) (n : ℕ) (v v' r r' c c' : Li
 -- ---- the contracts
 
 -- the same of slices, f being what the call comes to for the lengths lent in numbers: the number returned, the outputs and the counts
-abbrev pub ListReturned : (Room → Outcome (List Row)) → ℕ → Slice ℕ → Slice ℕ → Slice ℕ → Slice ℕ → Slice ℕ → Type 0
+abbrev pub ListReturned : (Room → Outcome (List Row)) → ℕ → MutSlice ℕ → MutSlice ℕ → MutSlice ℕ → MutSlice ℕ → MutSlice ℕ → Type 0
 ListReturned f n o r v e c =
     ListReturns (f (bytes_room o r v e)) n
     o.entry.now o.exit.now r.entry.now r.exit.now v.entry.now v.exit.now e.entry.now e.exit.now c.entry.now c.exit.now
 
-abbrev pub ValueReturned : (ValueRoom → Outcome (List Elem)) → ℕ → Slice ℕ → Slice ℕ → Slice ℕ → Type 0
+abbrev pub ValueReturned : (ValueRoom → Outcome (List Elem)) → ℕ → MutSlice ℕ → MutSlice ℕ → MutSlice ℕ → Type 0
 ValueReturned f n v r c = ValueReturns (f (bytes_value_room v r)) n v.entry.now v.exit.now r.entry.now r.exit.now c.entry.now c.exit.now
 
 -- an entry with a list answer: f is what the operation comes to, k the refusal of the sizes
-abbrev pub ListAnswered : Lent (Room → Outcome (List Row)) → ℕ → ℕ → Slice ℕ → Slice ℕ → Slice ℕ → Slice ℕ → Slice ℕ → Type 0
+abbrev pub ListAnswered : Lent (Room → Outcome (List Row)) → ℕ → ℕ → MutSlice ℕ → MutSlice ℕ → MutSlice ℕ → MutSlice ℕ → MutSlice ℕ → Type 0
 ListAnswered f k n o r v e c = ListReturned (entered f k) n o r v e c
 
 -- the same, ss being the slices of numbers that the entry reads
-abbrev pub ListEntry : Lent (Room → Outcome (List Row)) → List Numbers → ℕ → Slice ℕ → Slice ℕ → Slice ℕ → Slice ℕ → Slice ℕ → Type 0
-ListEntry f ss n o r v e c = ListAnswered f (size_refusal (ss ++ list_sizes (size o) (size v)) (size c) 32) n o r v e c
+abbrev pub ListEntry : Lent (Room → Outcome (List Row)) → List Numbers → ℕ → MutSlice ℕ → MutSlice ℕ → MutSlice ℕ → MutSlice ℕ → MutSlice ℕ → Type 0
+ListEntry f ss n o r v e c = ListAnswered f (size_refusal (ss ++ list_sizes (mut_size o) (mut_size v)) (mut_size c) 32) n o r v e c
 
 -- an entry with a value answer, the same
-abbrev pub ValueEntry : Lent (ValueRoom → Outcome (List Elem)) → List Numbers → ℕ → Slice ℕ → Slice ℕ → Slice ℕ → Type 0
+abbrev pub ValueEntry : Lent (ValueRoom → Outcome (List Elem)) → List Numbers → ℕ → MutSlice ℕ → MutSlice ℕ → MutSlice ℕ → Type 0
 ValueEntry f ss n v r c =
-    ValueReturned (entered f (size_refusal (ss ++ value_sizes (size v)) (size c) 16)) n v r c
+    ValueReturned (entered f (size_refusal (ss ++ value_sizes (mut_size v)) (mut_size c) 16)) n v r c

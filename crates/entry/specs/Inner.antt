@@ -4,13 +4,13 @@ use Rattle.model.specs.Column.{Elem, Row}
 use Rattle.model.specs.Form.{Room, ValueRoom, over, flat, form_offsets, form_rows, form_values, form_elements}
 use Rattle.model.specs.Outcome.{Outcome}
 use Rattle.model.specs.Call.{Answer, refusal, counts, answer_of, written, list_counts, value_counts}
-use Rattle.model.specs.Contract.{Slice, after, room, value_room, told, told_value}
+use Rattle.model.specs.Contract.{MutSlice, after, room, value_room, told, told_value}
 use Rattle.model.specs.declared.ListAnswer.{ListAnswer}
 use Rattle.model.specs.declared.ListAnswer.TheVariants as L
 use Rattle.model.specs.declared.ValueAnswer.{ValueAnswer}
 use Rattle.model.specs.declared.ValueAnswer.TheVariants as V'
 use Rattle.wire.specs.Bytes.{ints4, ints8, bytes_of4, bytes_of8, bytes_of_counts}
-use Rattle.entry.specs.Entry.{size}
+use Rattle.entry.specs.Entry.{mut_size}
 
 -- ---- slices of numbers
 
@@ -60,8 +60,8 @@ pub record ListRan (x : Outcome (List Row)) (a : ListAnswer) (m n : ℕ) (o v : 
   pub elements : e' ≡ after (λ ws. form_elements (flat ws)) x e
 
 -- the same of slices, f being what the operation comes to for the lengths lent
-abbrev pub ListRuns : (Room → Outcome (List Row)) → ℕ → ℕ → ListAnswer → Slice ℤ → Slice ℕ → Slice ℤ → Slice ℕ → Type 0
-ListRuns f m n a o r v e = ListRan (f (room m (size r) n (size e))) a m n o.exit.now v.exit.now r.entry.now r.exit.now e.entry.now e.exit.now
+abbrev pub ListRuns : (Room → Outcome (List Row)) → ℕ → ℕ → ListAnswer → MutSlice ℤ → MutSlice ℕ → MutSlice ℤ → MutSlice ℕ → Type 0
+ListRuns f m n a o r v e = ListRan (f (room m (mut_size r) n (mut_size e))) a m n o.exit.now v.exit.now r.entry.now r.exit.now e.entry.now e.exit.now
 
 -- o offsets and v values have those that the answer counts, and lo, lv and lc bytes have room for these and for the counts
 pub record Ready (a : ListAnswer) (o v lo lv lc : ℕ) : Type 0 where
@@ -85,8 +85,8 @@ pub record ValueRan (x : Outcome (List Elem)) (a : ValueAnswer) (n : ℕ) (v : L
   pub values : take (slots a) v ≡ written form_values x
   pub rows : r' ≡ after form_elements x r
 
-abbrev pub ValueRuns : (ValueRoom → Outcome (List Elem)) → ℕ → ValueAnswer → Slice ℤ → Slice ℕ → Type 0
-ValueRuns f n a v r = ValueRan (f (value_room n (size r))) a n v.exit.now r.entry.now r.exit.now
+abbrev pub ValueRuns : (ValueRoom → Outcome (List Elem)) → ℕ → ValueAnswer → MutSlice ℤ → MutSlice ℕ → Type 0
+ValueRuns f n a v r = ValueRan (f (value_room n (mut_size r))) a n v.exit.now r.entry.now r.exit.now
 
 pub record ValueReady (a : ValueAnswer) (v lv lc : ℕ) : Type 0 where
   pub values : slots a ≤ v

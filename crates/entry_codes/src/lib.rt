@@ -7,13 +7,13 @@ use model::Unary;
 use ops::ListOp;
 
 // An operation on one list that takes no argument columns, and below any.
-#[derive(Drop)]
+#[derive(Clone, Copy)]
 pub enum Plain {
     Of(Unary),
     None,
 }
 
-#[derive(Drop)]
+#[derive(Clone, Copy)]
 pub enum Taking {
     Of(ListOp),
     None,

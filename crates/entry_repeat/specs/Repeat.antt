@@ -5,9 +5,9 @@ use Rattle.model.specs.Bitmap.{pack}
 use Rattle.model.specs.Form.{RepeatRoom, Outer, is_outer, outer_length, inner, flat, offsets_from, form_offsets, form_rows, form_values, form_elements}
 use Rattle.model.specs.Outcome.{Outcome}
 use Rattle.model.specs.Call.{repeat_counts}
-use Rattle.model.specs.Contract.{Slice, after, repeat_room}
+use Rattle.model.specs.Contract.{MutSlice, after, repeat_room}
 use Rattle.wire.specs.Bytes.{bytes_of4, bytes_of8, bytes_of_counts}
-use Rattle.entry.specs.Entry.{Numbers, numbers, list_sizes, size, size_refusal, entered, number_of}
+use Rattle.entry.specs.Entry.{Numbers, numbers, list_sizes, mut_size, size_refusal, entered, number_of}
 
 -- the most offsets of inner rows that the entry takes, in the code's array
 abbrev pub most_inner : ℕ
@@ -33,17 +33,17 @@ pub record RepeatReturns (x : Outcome (List Outer)) (n : ℕ) (o o' r r' io io' 
   pub counts : c' ≡ after (λ os. bytes_of_counts (repeat_counts os)) x c
 
 -- the lengths lent, in numbers
-abbrev pub bytes_repeat_room : Slice ℕ → Slice ℕ → Slice ℕ → Slice ℕ → Slice ℕ → Slice ℕ → RepeatRoom
-bytes_repeat_room o r io ir v e = repeat_room (size o / 4) (size r) (size io / 4) (size ir) (size v / 8) (size e)
+abbrev pub bytes_repeat_room : MutSlice ℕ → MutSlice ℕ → MutSlice ℕ → MutSlice ℕ → MutSlice ℕ → MutSlice ℕ → RepeatRoom
+bytes_repeat_room o r io ir v e = repeat_room (mut_size o / 4) (mut_size r) (mut_size io / 4) (mut_size ir) (mut_size v / 8) (mut_size e)
 
 -- the same of slices, f being what the call comes to for those lengths
-abbrev pub RepeatReturned : (RepeatRoom → Outcome (List Outer)) → ℕ → Slice ℕ → Slice ℕ → Slice ℕ → Slice ℕ → Slice ℕ → Slice ℕ → Slice ℕ → Type 0
+abbrev pub RepeatReturned : (RepeatRoom → Outcome (List Outer)) → ℕ → MutSlice ℕ → MutSlice ℕ → MutSlice ℕ → MutSlice ℕ → MutSlice ℕ → MutSlice ℕ → MutSlice ℕ → Type 0
 RepeatReturned f n o r io ir v e c =
     RepeatReturns (f (bytes_repeat_room o r io ir v e)) n o.entry.now o.exit.now r.entry.now r.exit.now io.entry.now io.exit.now ir.entry.now ir.exit.now
     v.entry.now v.exit.now e.entry.now e.exit.now c.entry.now c.exit.now
 
 -- the contract: f is what the operation comes to for the lengths lent in numbers, ss are the slices of numbers that the entry
 -- reads; then the number returned, and the outputs and the counts
-abbrev pub RepeatEntry : Lent (RepeatRoom → Outcome (List Outer)) → List Numbers → ℕ → Slice ℕ → Slice ℕ → Slice ℕ → Slice ℕ → Slice ℕ → Slice ℕ → Slice ℕ → Type 0
+abbrev pub RepeatEntry : Lent (RepeatRoom → Outcome (List Outer)) → List Numbers → ℕ → MutSlice ℕ → MutSlice ℕ → MutSlice ℕ → MutSlice ℕ → MutSlice ℕ → MutSlice ℕ → MutSlice ℕ → Type 0
 RepeatEntry f ss n o r io ir v e c =
-    RepeatReturned (entered f (size_refusal (ss ++ repeat_sizes (size o) (size io) (size v)) (size c) 48)) n o r io ir v e c
+    RepeatReturned (entered f (size_refusal (ss ++ repeat_sizes (mut_size o) (mut_size io) (mut_size v)) (mut_size c) 48)) n o r io ir v e c

@@ -12,7 +12,7 @@ use column::offsets;
 use model::{SetOp, Width};
 
 // The operations that take a work area: distinct, which looks at the left row alone, and those on two lists.
-#[derive(Drop)]
+#[derive(Clone, Copy)]
 pub enum HashOp {
     Distinct,
     Pair(SetOp),

@@ -7,7 +7,7 @@ ghost use Rattle.model.specs.Limits.{narrow};
 ghost use Rattle.model.specs.Slice.{against, from_place, slice_plan, step_count, strided, to_place};
 
 // No places, so many from a start on by a stride, or the number of a refusal.
-#[derive(Drop)]
+#[derive(Clone, Copy)]
 pub enum SlicePlan {
     Empty,
     Steps {
@@ -18,7 +18,7 @@ pub enum SlicePlan {
     Refused(u8),
 }
 
-#[derive(Drop)]
+#[derive(Clone, Copy)]
 pub enum Stride {
     Absent,
     By(i64),

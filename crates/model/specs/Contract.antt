@@ -1,6 +1,6 @@
 -- How a contract names a call: the outputs at entry and at exit. The columns that slices hold as the call begins are in Inner.
 use Rattle.std.specs.Prelude.{ℕ, ◌≡◌, List, [], ◌∷◌, map, length, replicate, ℤ, pos}
-use Rattle.std.specs.Borrow.{Bor}
+use Rattle.std.specs.Borrow.{Bor, MutBor}
 use denote.Triple.Both.{Both}
 use Rattle.model.specs.Bitmap.{pack}
 use Rattle.model.specs.Column.{Elem, Row, Arguments}
@@ -30,9 +30,13 @@ use Rattle.model.specs.declared.RepeatLengths.TheVariants as RL
 use Rattle.model.specs.declared.ValueLengths.{ValueLengths}
 use Rattle.model.specs.declared.ValueLengths.TheVariants as VL
 
--- a slice, at entry and at exit
+-- a slice that is read, at entry and at exit
 abbrev pub Slice : Type 0 → Type 0
 Slice A = Both (Bor (List A)) (Bor (List A))
+
+-- a slice that is written
+abbrev pub MutSlice : Type 0 → Type 0
+MutSlice A = Both (MutBor (List A)) (MutBor (List A))
 
 -- document 01's number and values for each case of an answer
 unfoldable pub told : ListAnswer → Answer
@@ -82,7 +86,7 @@ abbrev pub room : ℕ → ℕ → ℕ → ℕ → Room
 room o r v e = record { offsets = o; rows = r; values = v; elements = e }
 
 -- those that four slices have as the call begins
-abbrev pub room_of : Slice ℤ → Slice ℕ → Slice ℤ → Slice ℕ → Room
+abbrev pub room_of : MutSlice ℤ → MutSlice ℕ → MutSlice ℤ → MutSlice ℕ → Room
 room_of o r v e = room (length o.entry.now) (length r.entry.now) (length v.entry.now) (length e.entry.now)
 
 abbrev pub value_room : ℕ → ℕ → ValueRoom
@@ -91,7 +95,7 @@ value_room v r = record { values = v; rows = r }
 abbrev pub repeat_room : ℕ → ℕ → ℕ → ℕ → ℕ → ℕ → RepeatRoom
 repeat_room o r io ir v e = record { outer-offsets = o; outer_rows = r; lists = room io ir v e }
 
-abbrev pub repeat_room_of : Slice ℤ → Slice ℕ → Slice ℤ → Slice ℕ → Slice ℤ → Slice ℕ → RepeatRoom
+abbrev pub repeat_room_of : MutSlice ℤ → MutSlice ℕ → MutSlice ℤ → MutSlice ℕ → MutSlice ℤ → MutSlice ℕ → RepeatRoom
 repeat_room_of o r io ir v e = record { outer-offsets = length o.entry.now; outer_rows = length r.entry.now; lists = room_of io ir v e }
 
 -- the answer and the four outputs, at entry and at exit, are those of the outcome
@@ -118,7 +122,7 @@ pub record RepeatMeets (x : Outcome (List Outer)) (a : RepeatAnswer) (o o' : Lis
   pub elements : e' ≡ after (λ os. form_elements (flat (inner os))) x e
 
 -- the contract of a list operation: the answer and the outputs are what f gives for the lengths lent
-abbrev pub ListAnswers : (Room → Outcome (List Row)) → ListAnswer → Slice ℤ → Slice ℕ → Slice ℤ → Slice ℕ → Type 0
+abbrev pub ListAnswers : (Room → Outcome (List Row)) → ListAnswer → MutSlice ℤ → MutSlice ℕ → MutSlice ℤ → MutSlice ℕ → Type 0
 ListAnswers f a o r v e =
     ListMeets (f (room_of o r v e)) a
     o.entry.now o.exit.now r.entry.now r.exit.now v.entry.now v.exit.now e.entry.now e.exit.now
@@ -129,18 +133,18 @@ pub record HashMeets (x : Outcome (List Row)) (n : ℕ) (a : ListAnswer) (o o' :
   pub area : w ≡ replicate n 0
 
 -- what f gives for the slots of the work area and the lengths lent
-abbrev pub HashAnswers : (ℕ → Room → Outcome (List Row)) → ListAnswer → Slice ℤ → Slice ℕ → Slice ℤ → Slice ℕ → Slice ℕ → Type 0
+abbrev pub HashAnswers : (ℕ → Room → Outcome (List Row)) → ListAnswer → MutSlice ℤ → MutSlice ℕ → MutSlice ℤ → MutSlice ℕ → MutSlice ℕ → Type 0
 HashAnswers f a o r v e w =
     HashMeets (f (length w.entry.now) (room_of o r v e)) (length w.entry.now) a
     o.entry.now o.exit.now r.entry.now r.exit.now v.entry.now v.exit.now e.entry.now e.exit.now w.exit.now
 
 -- the contract of an operation that gives one value a row
-abbrev pub ValueAnswers : (ValueRoom → Outcome (List Elem)) → ValueAnswer → Slice ℤ → Slice ℕ → Type 0
+abbrev pub ValueAnswers : (ValueRoom → Outcome (List Elem)) → ValueAnswer → MutSlice ℤ → MutSlice ℕ → Type 0
 ValueAnswers f a v r =
     ValueMeets (f (value_room (length v.entry.now) (length r.entry.now))) a v.entry.now v.exit.now r.entry.now r.exit.now
 
 -- the contract of list-repeat
-abbrev pub RepeatAnswers : (RepeatRoom → Outcome (List Outer)) → RepeatAnswer → Slice ℤ → Slice ℕ → Slice ℤ → Slice ℕ → Slice ℤ → Slice ℕ → Type 0
+abbrev pub RepeatAnswers : (RepeatRoom → Outcome (List Outer)) → RepeatAnswer → MutSlice ℤ → MutSlice ℕ → MutSlice ℤ → MutSlice ℕ → MutSlice ℤ → MutSlice ℕ → Type 0
 RepeatAnswers f a o r io ir v e =
     RepeatMeets (f (repeat_room_of o r io ir v e)) a
     o.entry.now o.exit.now r.entry.now r.exit.now io.entry.now io.exit.now ir.entry.now ir.exit.now v.entry.now v.exit.now e.entry.now e.exit.now
@@ -153,7 +157,7 @@ pub record Zeroed (l : Room) (o : List ℤ) (r : List ℕ) (v : List ℤ) (e : L
   pub elements : e ≡ replicate l.elements 0
 
 -- the same of slices that had those lengths as the call began
-abbrev pub Clears : Slice ℤ → Slice ℕ → Slice ℤ → Slice ℕ → Type 0
+abbrev pub Clears : MutSlice ℤ → MutSlice ℕ → MutSlice ℤ → MutSlice ℕ → Type 0
 Clears o r v e =
     Zeroed (room_of o r v e) o.exit.now r.exit.now v.exit.now e.exit.now
 
@@ -183,7 +187,7 @@ abbrev pub view_room : ℕ → ℕ → ℕ → ℕ → ℕ → ViewRoom
 view_room o s r v e = record { offsets = o; sizes = s; rows = r; values = v; elements = e }
 
 -- the contract of export: the answer and the outputs are what f gives for the lengths lent
-abbrev pub ViewAnswers : (ViewRoom → Outcome (List Row)) → ListAnswer → Slice ℤ → Slice ℤ → Slice ℕ → Slice ℤ → Slice ℕ → Type 0
+abbrev pub ViewAnswers : (ViewRoom → Outcome (List Row)) → ListAnswer → MutSlice ℤ → MutSlice ℤ → MutSlice ℕ → MutSlice ℤ → MutSlice ℕ → Type 0
 ViewAnswers f a o s r v e =
     ViewMeets (f (view_room (length o.entry.now) (length s.entry.now) (length r.entry.now) (length v.entry.now) (length e.entry.now))) a
     o.entry.now o.exit.now s.entry.now s.exit.now r.entry.now r.exit.now v.entry.now v.exit.now e.entry.now e.exit.now
@@ -192,7 +196,7 @@ ViewAnswers f a o s r v e =
 pub record Grades (k : ℕ) (x : Outcome (List Row)) (g g' : List ℕ) : Type 0 where
   pub grades : g' ≡ after (grades_of k) x g
 
-abbrev pub GradesLent : ℕ → Outcome (List Row) → Slice ℕ → Type 0
+abbrev pub GradesLent : ℕ → Outcome (List Row) → MutSlice ℕ → Type 0
 GradesLent k x g = Grades k x g.entry.now g.exit.now
 
 -- the answer of a column graded by k, and its grades, are those of the outcome
@@ -201,5 +205,5 @@ pub record GradeMeets (k : ℕ) (x : Outcome (List Row)) (a : GradeAnswer) (g g'
   pub grades : g' ≡ after (grades_of k) x g
 
 -- the contract of grading a column: the answer and the grades are what f gives for the length lent
-abbrev pub GradeAnswers : ℕ → (ℕ → Outcome (List Row)) → GradeAnswer → Slice ℕ → Type 0
+abbrev pub GradeAnswers : ℕ → (ℕ → Outcome (List Row)) → GradeAnswer → MutSlice ℕ → Type 0
 GradeAnswers k f a g = GradeMeets k (f (length g.entry.now)) a g.entry.now g.exit.now

@@ -1,7 +1,7 @@
 // The answers of the operations and the names of those that a walk goes by. The definitions of document 01 stand in specs/.
 
 // The operations on one list without arguments.
-#[derive(Drop)]
+#[derive(Clone, Copy)]
 pub enum Unary {
     Reverse,
     Distinct,
@@ -10,28 +10,28 @@ pub enum Unary {
 }
 
 // The operations on two lists.
-#[derive(Drop)]
+#[derive(Clone, Copy)]
 pub enum SetOp {
     Union,
     Intersect,
 }
 
 // Whether an argument column that a call may do without is lent.
-#[derive(Drop)]
+#[derive(Clone, Copy)]
 pub enum Optional {
     Absent,
     Lent,
 }
 
 // The width of offsets: 32 or 64 signed bits.
-#[derive(Drop)]
+#[derive(Clone, Copy)]
 pub enum Width {
     Narrow,
     Wide,
 }
 
 // The answer of a list operation: its counts, or the number of a refusal.
-#[derive(Drop)]
+#[derive(Clone, Copy)]
 pub enum ListAnswer {
     Counts {
         rows: usize,
@@ -43,14 +43,14 @@ pub enum ListAnswer {
 }
 
 // The answer of an operation that gives one value a row: its counts, or the number of a refusal.
-#[derive(Drop)]
+#[derive(Clone, Copy)]
 pub enum ValueAnswer {
     Counts { rows: usize, null_rows: usize },
     Refused(u8),
 }
 
 // The answer of list-repeat: its counts, or the number of a refusal.
-#[derive(Drop)]
+#[derive(Clone, Copy)]
 pub enum RepeatAnswer {
     Counts {
         rows: usize,
@@ -64,14 +64,14 @@ pub enum RepeatAnswer {
 }
 
 // The answer of grading a column: its row count, or the number of a refusal.
-#[derive(Drop)]
+#[derive(Clone, Copy)]
 pub enum GradeAnswer {
     Rows(usize),
     Refused(u8),
 }
 
 // How much to lend for a list answer: the lengths of the offsets, the row bitmap, the values and the element bitmap, or the number of a refusal.
-#[derive(Drop)]
+#[derive(Clone, Copy)]
 pub enum ListLengths {
     Of {
         offsets: usize,
@@ -83,7 +83,7 @@ pub enum ListLengths {
 }
 
 // How much to lend for one value a row: the lengths of the values and their bitmap, or the number of a refusal.
-#[derive(Drop)]
+#[derive(Clone, Copy)]
 pub enum ValueLengths {
     Of { values: usize, rows: usize },
     Refused(u8),
@@ -91,7 +91,7 @@ pub enum ValueLengths {
 
 // How much to lend for list-repeat: the lengths of the outer offsets and row bitmap, the inner ones, the values and the element bitmap, or the
 // number of a refusal.
-#[derive(Drop)]
+#[derive(Clone, Copy)]
 pub enum RepeatLengths {
     Of {
         offsets: usize,
@@ -105,7 +105,7 @@ pub enum RepeatLengths {
 }
 
 // The most elements that a recipe brings into tray one, tray two and the output, or the number of a refusal.
-#[derive(Drop)]
+#[derive(Clone, Copy)]
 pub enum RecipeLimits {
     Of {
         one: usize,

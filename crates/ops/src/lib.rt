@@ -6,7 +6,7 @@ use model::Unary;
 use rows::{Cell, Fill};
 
 // The operations on one list, by the arguments that they take.
-#[derive(Drop)]
+#[derive(Clone, Copy)]
 pub enum ListOp {
     Plain(Unary),
     // from, to
@@ -24,7 +24,7 @@ pub enum ListOp {
 }
 
 // What is done to a row.
-#[derive(Drop)]
+#[derive(Clone, Copy)]
 pub enum RowOp {
     // The row becomes null.
     Null,
@@ -52,7 +52,7 @@ pub enum RowOp {
 }
 
 // What an operation takes of its argument columns.
-#[derive(Drop)]
+#[derive(Clone, Copy)]
 pub struct Arity {
     // How many it takes.
     pub columns: usize,

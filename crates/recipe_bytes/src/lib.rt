@@ -5,7 +5,7 @@ ghost use Rattle.model.specs.Contract.{room};
 ghost use Rattle.model.specs.Tally.{tallied};
 ghost use Rattle.recipe_bytes.specs.Inner.{InputsFit, TraysFit, most_numbers, numbers_taken};
 ghost use Rattle.recipe_bytes.specs.Recipe.{Zero, recipe_in, tray_room};
-ghost use Rattle.entry.specs.Entry.{size};
+ghost use Rattle.entry.specs.Entry.{mut_size};
 ghost use Rattle.tally.specs.Tallies.{tally_of};
 ghost use Rattle.wire.specs.Bytes.{nats};
 
@@ -56,7 +56,7 @@ pub fn run(
     requires values { mv ≤ length v.old }
     ensures list_runs { ListRuns (recipe_in station columns numbers offsets rows rows_start values elements elements_start second_offsets second_rows second_rows_start second_values second_elements second_elements_start arguments argument_bits argument_start (tray_room ho one_rows hv one_elements) (tray_room io two_rows iv two_elements)) mo mv result.answer o out_rows v out_elements }
     ensures zero { Zero one_rows × Zero one_elements × Zero two_rows × Zero two_elements }
-    ensures tally_value { tally_of result.tally ≡ tallied station (recipe_in station columns numbers offsets rows rows_start values elements elements_start second_offsets second_rows second_rows_start second_values second_elements second_elements_start arguments argument_bits argument_start (tray_room ho one_rows hv one_elements) (tray_room io two_rows iv two_elements) (room mo (size out_rows) mv (size out_elements))) (tally_of tally) }
+    ensures tally_value { tally_of result.tally ≡ tallied station (recipe_in station columns numbers offsets rows rows_start values elements elements_start second_offsets second_rows second_rows_start second_values second_elements second_elements_start arguments argument_bits argument_start (tray_room ho one_rows hv one_elements) (tray_room io two_rows iv two_elements) (room mo (mut_size out_rows) mv (mut_size out_elements))) (tally_of tally) }
 {
     let mut ns = [0u32; MOST_NUMBERS];
     let mut lo = [0i32; sizes::MOST_OFFSETS];

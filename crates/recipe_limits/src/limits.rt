@@ -10,7 +10,7 @@ ghost use Rattle.recipe_limits.specs.Limited.{StepsThere, count_at, counts_from,
 use model::Width;
 
 // The limits of tray one, tray two and the output.
-#[derive(Drop)]
+#[derive(Clone, Copy)]
 pub struct Trays {
     pub one: usize,
     pub two: usize,

@@ -4,11 +4,11 @@ use Rattle.model.specs.Bitmap.{pack}
 use Rattle.model.specs.Form.{RepeatRoom, Outer, is_outer, outer_length, inner, flat, over, offsets_from, form_offsets, form_rows, form_values, form_elements}
 use Rattle.model.specs.Outcome.{Outcome}
 use Rattle.model.specs.Call.{answer_of, written, repeat_counts}
-use Rattle.model.specs.Contract.{Slice, after, repeat_room, told_repeat}
+use Rattle.model.specs.Contract.{MutSlice, after, repeat_room, told_repeat}
 use Rattle.model.specs.declared.RepeatAnswer.{RepeatAnswer}
 use Rattle.model.specs.declared.RepeatAnswer.TheVariants as R
 use Rattle.wire.specs.Bytes.{bytes_of4, bytes_of8, bytes_of_counts}
-use Rattle.entry.specs.Entry.{size}
+use Rattle.entry.specs.Entry.{mut_size}
 use Rattle.entry.specs.Inner.{number_in, counts_in}
 
 -- the outer offsets, the inner offsets and the values that an answer counts
@@ -39,9 +39,9 @@ pub record RepeatRan (x : Outcome (List Outer)) (a : RepeatAnswer) (m i n : ℕ)
   pub elements : e' ≡ after (λ os. form_elements (flat (inner os))) x e
 
 -- the same of slices, f being what the operation comes to for the lengths lent
-abbrev pub RepeatRuns : (RepeatRoom → Outcome (List Outer)) → ℕ → ℕ → ℕ → RepeatAnswer → Slice ℤ → Slice ℕ → Slice ℤ → Slice ℕ → Slice ℤ → Slice ℕ → Type 0
+abbrev pub RepeatRuns : (RepeatRoom → Outcome (List Outer)) → ℕ → ℕ → ℕ → RepeatAnswer → MutSlice ℤ → MutSlice ℕ → MutSlice ℤ → MutSlice ℕ → MutSlice ℤ → MutSlice ℕ → Type 0
 RepeatRuns f m i n a o r io ir v e =
-    RepeatRan (f (repeat_room m (size r) i (size ir) n (size e))) a m i n o.exit.now io.exit.now v.exit.now
+    RepeatRan (f (repeat_room m (mut_size r) i (mut_size ir) n (mut_size e))) a m i n o.exit.now io.exit.now v.exit.now
     r.entry.now r.exit.now ir.entry.now ir.exit.now e.entry.now e.exit.now
 
 -- o and io offsets and v values have those that the answer counts, and lo, li, lv and lc bytes have room for these and for the counts

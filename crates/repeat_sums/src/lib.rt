@@ -5,7 +5,7 @@ ghost use Rattle.bitmap.specs.Push.{Covers, push_bit};
 ghost use Rattle.model.specs.Bitmap.{valid_at};
 ghost use Rattle.model.specs.Column.{row_count};
 ghost use Rattle.model.specs.Inner.{lent_bits, now_bits};
-ghost use Rattle.model.specs.Widths.{entry_at, exit_at, limits_at, used};
+ghost use Rattle.model.specs.Widths.{entry_at, mut_entry_at, exit_at, limits_at, used};
 ghost use Rattle.repeat_sums.specs.Counts.{Rising, sums_of, times_at};
 
 use column::widths;
@@ -13,7 +13,7 @@ use model::Width;
 use rows::utils;
 
 // What is summed: the outer lists and the values that they repeat, or that one of them exceeds its limit.
-#[derive(Drop)]
+#[derive(Clone, Copy)]
 pub enum Sums {
     Of { lists: usize, values: usize },
     TooMany,
@@ -138,7 +138,7 @@ pub fn put_outer(
     requires few { lists ≤ (limits_at width).offset }
     requires slot { r + 1 < length (used width out_offsets.old out_large.old) }
     requires bit { r / 8 < length out_rows.old }
-    ensures out_large_value { exit_at width out_offsets out_large ≡ set (entry_at width out_offsets out_large) (r + 1) (pos lists) }
+    ensures out_large_value { exit_at width out_offsets out_large ≡ set (mut_entry_at width out_offsets out_large) (r + 1) (pos lists) }
     ensures out_rows_after { out_rows.new ≡ push_bit out_rows.old r (valid_at (lent_bits count_bits cstart) r) }
 {
     let valid = bitmap::is_valid(count_bits, cstart, r, n);

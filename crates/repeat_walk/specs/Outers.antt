@@ -1,12 +1,12 @@
 -- Writing, outer row after outer row: what that makes of list-repeat's outputs.
 use Rattle.std.specs.Prelude.{ℕ, ◌+◌, ◌≤◌, ◌≡◌, List, [], ◌∷◌, map, length, set, ℤ, pos}
-use Rattle.std.specs.Borrow.{Bor}
+use Rattle.std.specs.Borrow.{MutBor}
 use Rattle.model.specs.Bitmap.{bytes_for, pack}
 use Rattle.model.specs.Column.{Row}
-use Rattle.model.specs.Contract.{Slice}
+use Rattle.model.specs.Contract.{MutSlice}
 use Rattle.model.specs.Form.{Outer, is_outer, inner_of, inner, outer_length, flat, over, offsets_from}
 use Rattle.model.specs.Limits.{Limits}
-use Rattle.model.specs.Widths.{used, limits_at, entry_at, exit_at}
+use Rattle.model.specs.Widths.{used, limits_at, mut_entry_at, exit_at}
 use Rattle.model.specs.declared.Width.{Width}
 use Rattle.bitmap.specs.Push.{push_bit}
 use Rattle.column.specs.Put.{Outs, put_rows, RoomInˡ, Fillsˡ}
@@ -52,15 +52,15 @@ pub record FillsOutersˡ (os : List Outer) (oo oo' : List ℤ) (ro ro' : List �
   pub lists : Fillsˡ (inner os) io io' ir ir' vo vo' eo eo'
 
 -- the same, said of slices, the offsets those of a width
-abbrev pub RoomForRowsAt : Width → List Row → ℕ → ℕ → Bor (List ℤ) → Bor (List ℤ) → Bor (List ℕ) → Bor (List ℤ) → Bor (List ℕ) → Type 0
+abbrev pub RoomForRowsAt : Width → List Row → ℕ → ℕ → MutBor (List ℤ) → MutBor (List ℤ) → MutBor (List ℕ) → MutBor (List ℤ) → MutBor (List ℕ) → Type 0
 RoomForRowsAt w ws i at o x r v e = RoomForRowsˡ (limits_at w) ws i at (length (used w o.now x.now)) (length r.now) (length v.now) (length e.now)
 
-abbrev pub RoomForOutersAt : Width → List Outer → Bor (List ℤ) → Bor (List ℤ) → Bor (List ℕ) → Bor (List ℤ) → Bor (List ℤ) → Bor (List ℕ) → Bor (List ℤ) → Bor (List ℕ) → Type 0
+abbrev pub RoomForOutersAt : Width → List Outer → MutBor (List ℤ) → MutBor (List ℤ) → MutBor (List ℕ) → MutBor (List ℤ) → MutBor (List ℤ) → MutBor (List ℕ) → MutBor (List ℤ) → MutBor (List ℕ) → Type 0
 RoomForOutersAt w os o x r io ix ir v e =
     RoomForOutersˡ (limits_at w) os (length (used w o.now x.now)) (length r.now) (length (used w io.now ix.now)) (length ir.now) (length v.now) (length e.now)
 
-abbrev pub FillsOutersAt : Width → List Outer → Slice ℤ → Slice ℤ → Slice ℕ → Slice ℤ → Slice ℤ → Slice ℕ → Slice ℤ → Slice ℕ → Type 0
+abbrev pub FillsOutersAt : Width → List Outer → MutSlice ℤ → MutSlice ℤ → MutSlice ℕ → MutSlice ℤ → MutSlice ℤ → MutSlice ℕ → MutSlice ℤ → MutSlice ℕ → Type 0
 FillsOutersAt w os o x r io ix ir v e =
     FillsOutersˡ os
-    (entry_at w o x) (exit_at w o x) r.entry.now r.exit.now (entry_at w io ix) (exit_at w io ix) ir.entry.now ir.exit.now
+    (mut_entry_at w o x) (exit_at w o x) r.entry.now r.exit.now (mut_entry_at w io ix) (exit_at w io ix) ir.entry.now ir.exit.now
     v.entry.now v.exit.now e.entry.now e.exit.now

@@ -14,7 +14,7 @@ ghost use Rattle.model.specs.Inner.{now_column_at, now_arguments, now_bits, now_
 ghost use Rattle.model.specs.Lengths.{repeat_lengths};
 ghost use Rattle.model.specs.Limits.{largest};
 ghost use Rattle.model.specs.Outcome.{fitted_repeat, made, repeat_outcome};
-ghost use Rattle.model.specs.Widths.{RepeatAnswersAt, entry_at, exit_at, limits_at, used};
+ghost use Rattle.model.specs.Widths.{RepeatAnswersAt, mut_entry_at, exit_at, limits_at, used};
 ghost use Rattle.repeat_walk.specs.Outers.{FillsOutersAt, RoomForOutersAt, RoomForRowsAt};
 ghost use Rattle.repeat_walk.specs.Repeats.{Begun, early_repeat, fits_counts, repeat_answer_from, repeat_rows, room_for_outer};
 
@@ -37,7 +37,7 @@ fn put_copies(
 ) -> usize
     requires row { ReadableRow rows rstart n values elements estart r a b }
     requires room { RoomForRowsAt width (replicate times (row_from (now_bits rows rstart) (now_elem values elements estart) r a b)) first place inner_offsets inner_large inner_rows out_values out_elements }
-    ensures { outs (exit_at width inner_offsets inner_large) inner_rows.new out_values.new out_elements.new (first + times) result ≡ put_rows (outs (entry_at width inner_offsets inner_large) inner_rows.old out_values.old out_elements.old first place) (replicate times (row_from (lent_bits rows rstart) (lent_elem values elements estart) r a b)) }
+    ensures { outs (exit_at width inner_offsets inner_large) inner_rows.new out_values.new out_elements.new (first + times) result ≡ put_rows (outs (mut_entry_at width inner_offsets inner_large) inner_rows.old out_values.old out_elements.old first place) (replicate times (row_from (lent_bits rows rstart) (lent_elem values elements estart) r a b)) }
 {
     let valid = bitmap::is_valid(rows, rstart, r, n);
     let len = column::rows::row_len(rows, rstart, n, r, a, b);

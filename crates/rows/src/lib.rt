@@ -2,14 +2,14 @@
 pub mod utils;
 
 // An argument of a row: a null or a value.
-#[derive(Drop)]
+#[derive(Clone, Copy)]
 pub enum Cell {
     Null,
     Value(i64),
 }
 
 // What a row is filled with: nulls where no fill is lent, else the row's own.
-#[derive(Drop)]
+#[derive(Clone, Copy)]
 pub enum Fill {
     Absent,
     Own(Cell),

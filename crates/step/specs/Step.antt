@@ -2,9 +2,9 @@
 use Rattle.std.specs.Prelude.{ℕ, ◌≡◌, List, [], ◌∷◌, eqb, ℤ, length}
 use Rattle.model.specs.Basics.{pick}
 use Rattle.model.specs.Column.{Elem, Row, Column, Arguments, row_count, rows_of}
-use Rattle.model.specs.Contract.{Slice}
+use Rattle.model.specs.Contract.{Slice, MutSlice}
 use Rattle.model.specs.Recipe.{Step}
-use Rattle.model.specs.Widths.{entry_at}
+use Rattle.model.specs.Widths.{entry_at, mut_entry_at}
 use Rattle.model.specs.declared.Width.{Width}
 use Rattle.model.specs.Rows.{ListCall, unary, set_op_call}
 use Rattle.model.specs.declared.Unary.TheVariants.{Reverse}
@@ -26,6 +26,10 @@ op_call S.None ws rs a b c = unary Reverse ws
 -- the column at the front of a tray as the call begins: n rows of m elements
 abbrev pub lent_front : Width → Slice ℤ → Slice ℤ → Slice ℕ → Slice ℤ → Slice ℕ → ℕ → ℕ → Column
 lent_front w o x r v e n m = front (entry_at w o x) r.entry.now v.entry.now e.entry.now n m
+
+-- the same of a tray that the call writes
+abbrev pub mut_lent_front : Width → MutSlice ℤ → MutSlice ℤ → MutSlice ℕ → MutSlice ℤ → MutSlice ℕ → ℕ → ℕ → Column
+mut_lent_front w o x r v e n m = front (mut_entry_at w o x) r.entry.now v.entry.now e.entry.now n m
 
 -- a step has an operation, and the columns that it uses are there
 unfoldable pub op_uses : Operation → Step → ℕ → ℕ → ℕ → Type 0

@@ -6,7 +6,7 @@ ghost use Rattle.model.specs.Inner.{lent_arguments_from, lent_at, now_arguments,
 ghost use Rattle.model.specs.Recipe.{carried, step_at};
 ghost use Rattle.model.specs.Widths.{ListAnswersAt, limits_at, room_at, used};
 ghost use Rattle.one_list.specs.Uses.{column_at};
-ghost use Rattle.step.specs.Step.{Beside, Taken, lent_front, rows_taken};
+ghost use Rattle.step.specs.Step.{Beside, Taken, mut_lent_front, rows_taken};
 ghost use Rattle.steps.specs.Steps.{Steps};
 
 use model::{ListAnswer, Width};
@@ -28,7 +28,7 @@ pub fn steps<'a>(
     requires steps { Steps recipe.now pitch n (length args.now) k left }
     requires taken { Taken k n m (now_column_at width offsets large rows rstart values elements estart) (used width from_offsets.old from_large.old) from_rows.old from_values.old from_elements.old }
     requires beside { Beside n (now_column_at width roffsets rlarge rrows r_rstart rvalues relements r_estart) (now_arguments args bits start) }
-    ensures { ListAnswersAt width (carried (limits_at width) (step_at recipe.now k) (tab (step_at recipe.now) (k + 1) (left - 1)) (rows_taken k (lent_at width offsets large rows rstart values elements estart) (lent_front width from_offsets from_large from_rows from_values from_elements n m)) (rows_of (lent_at width roffsets rlarge rrows r_rstart rvalues relements r_estart)) (column_at (shown_by (lent_arguments_from args bits start)) pitch n) (room_at width to_offsets to_large to_rows to_values to_elements) (room_at width from_offsets from_large from_rows from_values from_elements)) result out_offsets out_large out_rows out_values out_elements }
+    ensures { ListAnswersAt width (carried (limits_at width) (step_at recipe.now k) (tab (step_at recipe.now) (k + 1) (left - 1)) (rows_taken k (lent_at width offsets large rows rstart values elements estart) (mut_lent_front width from_offsets from_large from_rows from_values from_elements n m)) (rows_of (lent_at width roffsets rlarge rrows r_rstart rvalues relements r_estart)) (column_at (shown_by (lent_arguments_from args bits start)) pitch n) (room_at width to_offsets to_large to_rows to_values to_elements) (room_at width from_offsets from_large from_rows from_values from_elements)) result out_offsets out_large out_rows out_values out_elements }
 {
     if left == 1 {
         return step::step_at(

@@ -12,7 +12,7 @@ use model::Width;
 use rows::{Cell, utils};
 
 // The number of elements that a call makes, or the refusal before them.
-#[derive(Drop)]
+#[derive(Clone, Copy)]
 pub enum Measure {
     Sum(usize),
     Refused(u8),

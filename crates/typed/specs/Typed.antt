@@ -8,14 +8,14 @@ use Rattle.model.specs.Outcome.{Outcome, refused, gate}
 use Rattle.model.specs.View.{ViewRoom, view_offsets, view_sizes}
 use Rattle.model.specs.Grade.{grades_of}
 use Rattle.model.specs.Call.{Answer, list_counts, value_counts, repeat_counts, row_counts}
-use Rattle.model.specs.Contract.{Slice, after, room_of, value_room, repeat_room_of, view_room}
+use Rattle.model.specs.Contract.{MutSlice, after, room_of, value_room, repeat_room_of, view_room}
 use Rattle.entry.specs.Entry.{number_of}
 use Rattle.entry.specs.Inner.{number_in, counts_in}
 
 -- ---- the entry's own refusal
 
 -- a slice of counts has fewer places than they take
-abbrev pub short : ℕ → Slice ℕ → Bool
+abbrev pub short : ℕ → MutSlice ℕ → Bool
 short need c = ltb (length c.entry.now) need
 
 -- 100 where the entry has no such operation, or where the counts do not fit (`b`); otherwise the operation's own outcome
@@ -80,33 +80,33 @@ pub record TypedGrades (k : ℕ) (x : Outcome (List Row)) (n : ℕ) (g g' c c' :
 
 -- ---- the contracts: f is what the operation comes to for the lengths lent; the number returned, the outputs and the counts
 
-abbrev pub ListServed : Lent (Room → Outcome (List Row)) → ℕ → Slice ℤ → Slice ℕ → Slice ℤ → Slice ℕ → Slice ℕ → Type 0
+abbrev pub ListServed : Lent (Room → Outcome (List Row)) → ℕ → MutSlice ℤ → MutSlice ℕ → MutSlice ℤ → MutSlice ℕ → MutSlice ℕ → Type 0
 ListServed f n o r v e c =
     TypedList (served f (short 4 c) (room_of o r v e)) n
     o.entry.now o.exit.now r.entry.now r.exit.now v.entry.now v.exit.now e.entry.now e.exit.now c.entry.now c.exit.now
 
 -- the operation takes the slots of the work area too
-abbrev pub HashServed : (ℕ → Lent (Room → Outcome (List Row))) → ℕ → Slice ℤ → Slice ℕ → Slice ℤ → Slice ℕ → Slice ℕ → Slice ℕ → Type 0
+abbrev pub HashServed : (ℕ → Lent (Room → Outcome (List Row))) → ℕ → MutSlice ℤ → MutSlice ℕ → MutSlice ℤ → MutSlice ℕ → MutSlice ℕ → MutSlice ℕ → Type 0
 HashServed f n o r v e w c =
     TypedHash (served (f (length w.entry.now)) (short 4 c) (room_of o r v e)) n (length w.entry.now)
     o.entry.now o.exit.now r.entry.now r.exit.now v.entry.now v.exit.now e.entry.now e.exit.now w.exit.now c.entry.now c.exit.now
 
-abbrev pub ValueServed : (ValueRoom → Outcome (List Elem)) → ℕ → Slice ℤ → Slice ℕ → Slice ℕ → Type 0
+abbrev pub ValueServed : (ValueRoom → Outcome (List Elem)) → ℕ → MutSlice ℤ → MutSlice ℕ → MutSlice ℕ → Type 0
 ValueServed f n v r c =
     TypedValues (served (given f) (short 2 c) (value_room (length v.entry.now) (length r.entry.now))) n
     v.entry.now v.exit.now r.entry.now r.exit.now c.entry.now c.exit.now
 
-abbrev pub RepeatServed : (RepeatRoom → Outcome (List Outer)) → ℕ → Slice ℤ → Slice ℕ → Slice ℤ → Slice ℕ → Slice ℤ → Slice ℕ → Slice ℕ → Type 0
+abbrev pub RepeatServed : (RepeatRoom → Outcome (List Outer)) → ℕ → MutSlice ℤ → MutSlice ℕ → MutSlice ℤ → MutSlice ℕ → MutSlice ℤ → MutSlice ℕ → MutSlice ℕ → Type 0
 RepeatServed f n o r io ir v e c =
     TypedRepeat (served (given f) (short 6 c) (repeat_room_of o r io ir v e)) n
     o.entry.now o.exit.now r.entry.now r.exit.now io.entry.now io.exit.now ir.entry.now ir.exit.now v.entry.now v.exit.now e.entry.now e.exit.now c.entry.now c.exit.now
 
-abbrev pub ViewServed : (ViewRoom → Outcome (List Row)) → ℕ → Slice ℤ → Slice ℤ → Slice ℕ → Slice ℤ → Slice ℕ → Slice ℕ → Type 0
+abbrev pub ViewServed : (ViewRoom → Outcome (List Row)) → ℕ → MutSlice ℤ → MutSlice ℤ → MutSlice ℕ → MutSlice ℤ → MutSlice ℕ → MutSlice ℕ → Type 0
 ViewServed f n o s r v e c =
     TypedView (served (given f) (short 4 c) (view_room (length o.entry.now) (length s.entry.now) (length r.entry.now) (length v.entry.now) (length e.entry.now))) n
     o.entry.now o.exit.now s.entry.now s.exit.now r.entry.now r.exit.now v.entry.now v.exit.now e.entry.now e.exit.now c.entry.now c.exit.now
 
-abbrev pub GradeServed : ℕ → (ℕ → Outcome (List Row)) → ℕ → Slice ℕ → Slice ℕ → Type 0
+abbrev pub GradeServed : ℕ → (ℕ → Outcome (List Row)) → ℕ → MutSlice ℕ → MutSlice ℕ → Type 0
 GradeServed k f n g c =
     TypedGrades k (served (given f) (short 1 c) (length g.entry.now)) n g.entry.now g.exit.now c.entry.now c.exit.now
 
@@ -121,5 +121,5 @@ pub record TypedLengths {A : Type 0} (f : A → List ℕ) (x : Outcome A) (n : �
   pub number : n ≡ number_of x
   pub lengths : c' ≡ after f x c
 
-abbrev pub LengthsServed : {A : Type 0} → (A → List ℕ) → ℕ → Lent (Outcome A) → ℕ → Slice ℕ → Type 0
+abbrev pub LengthsServed : {A : Type 0} → (A → List ℕ) → ℕ → Lent (Outcome A) → ℕ → MutSlice ℕ → Type 0
 LengthsServed f need x n c = TypedLengths f (measured x (short need c)) n c.entry.now c.exit.now

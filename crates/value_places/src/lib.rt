@@ -18,7 +18,7 @@ use column::widths;
 use model::Width;
 
 // The operations that make one value a row.
-#[derive(Drop)]
+#[derive(Clone, Copy)]
 pub enum ValueOp {
     AnyValue,
     // by the row's index

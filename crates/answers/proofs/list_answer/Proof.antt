@@ -6,27 +6,32 @@ use borrow.Author.Rules.{rules}
 use Rattle.answers.proofs.list_answer.Statement.{statement}
 use Rattle.answers.proofs.list_answer.Tie as tie
 
-count-set-requires : tie.Need-count-set-requires
-count-set-requires c κs = search rules
+count_set-valid_rows-requires : tie.Need-count_set-valid_rows-requires
+count_set-valid_rows-requires c κs = search rules
 
-count-set-requires-2 : tie.Need-count-set-requires-2
-count-set-requires-2 c κs = search rules
+count_set-valid_elements-requires : tie.Need-count_set-valid_elements-requires
+count_set-valid_elements-requires c κs = search rules
 
-sub-null-rows : tie.Need-overflow-sub-null-rows
-sub-null-rows c =
-    let a = c.before.before.before.before.args in
-    omega (arith, trues-tab (bit_at a.out-rows.now) 0 a.n, c.before.count_set.ensures)
+overflow_sub-null_rows : tie.Need-overflow_sub-null_rows
+overflow_sub-null_rows c =
+    let a = c.args in
+    omega (arith, trues-tab (bit_at a.out_rows.now) 0 a.n, c.count_set-valid_rows.ensures)
 
-sub-null-elements : tie.Need-overflow-sub-null-elements
-sub-null-elements c =
-    let a = c.before.before.before.before.args in
-    omega (arith, trues-tab (bit_at a.out-elements.now) 0 a.m, c.count-set2.ensures)
+overflow_sub-null_elements : tie.Need-overflow_sub-null_elements
+overflow_sub-null_elements c =
+    let a = c.args in
+    omega (arith, trues-tab (bit_at a.out_elements.now) 0 a.m, c.count_set-valid_elements.ensures)
 
 returns : tie.Need-returns
 unfolding list_answer_from
-returns c = rw (c.before.count_set.ensures, c.count-set2.ensures)
+returns c = rw (c.count_set-valid_rows.ensures, c.count_set-valid_elements.ensures)
 
-pub list-answer_spec : {M : Type 1} → statement M
-list-answer_spec =
+pub list_answer_spec : {M : Type 1} → statement M
+list_answer_spec =
     tie.close
-    (tie.spec count-set-requires count-set-requires-2 sub-null-rows sub-null-elements returns)
+    (tie.spec
+    count_set-valid_rows-requires
+    count_set-valid_elements-requires
+    overflow_sub-null_rows
+    overflow_sub-null_elements
+    returns)

@@ -6,17 +6,22 @@ use borrow.Author.Rules.{rules}
 use Rattle.answers.proofs.value_answer.Statement.{statement}
 use Rattle.answers.proofs.value_answer.Tie as tie
 
-count-set-requires : tie.Need-count-set-requires
-count-set-requires c κs = search rules
+count_set-valid_rows-requires : tie.Need-count_set-valid_rows-requires
+count_set-valid_rows-requires c κs = search rules
 
-sub-null-rows : tie.Need-overflow-sub-null-rows
-sub-null-rows c =
-    let a = c.before.before.args in
-    omega (arith, trues-tab (bit_at a.out-rows.now) 0 a.n, c.count_set.ensures)
+overflow_sub-null_rows : tie.Need-overflow_sub-null_rows
+overflow_sub-null_rows c =
+    let a = c.args in
+    omega (arith, trues-tab (bit_at a.out_rows.now) 0 a.n, c.count_set-valid_rows.ensures)
 
 returns : tie.Need-returns
 unfolding value_answer_from
-returns c = rw c.count_set.ensures
+returns c = rw c.count_set-valid_rows.ensures
 
 pub value_answer_spec : {M : Type 1} → statement M
-value_answer_spec = tie.close (tie.spec count-set-requires sub-null-rows returns)
+value_answer_spec =
+    tie.close
+    (tie.spec
+    count_set-valid_rows-requires
+    overflow_sub-null_rows
+    returns)

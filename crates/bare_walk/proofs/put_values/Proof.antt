@@ -4,135 +4,135 @@ use Rattle.bare_walk.proofs.put_values.Statement.{statement}
 use Rattle.bare_walk.proofs.put_values.Tie as tie
 
 -- the places that are used below: the start of each arm, and the arm of a call that is made
-abbrev start : tie.After-one-less → tie.Start
+abbrev start : tie.After-one_less-k → tie.Start
 start p = p.before
 
-abbrev backward : tie.After-copy-backward-arg → tie.After-enum-told
+abbrev backward : tie.After-copy_backward-arg-1 → tie.In-Reverse
 backward p = p.before
 
-abbrev front : tie.After-copy-values-arg → tie.After-enum-told3
+abbrev front : tie.After-copy_values-arg-1 → tie.In-PopFront
 front p = p.before
 
-abbrev last : tie.After-copy-values-arg2 → tie.After-enum-told4
+abbrev last : tie.After-copy_values-arg-in-PopBack-1 → tie.In-PopBack
 last p = p.before
 
-one-less-requires : tie.Need-one-less-requires
-one-less-requires c κs = search
+one_less-k-requires : tie.Need-one_less-k-requires
+one_less-k-requires c κs = search
 
-enum_told : tie.Need-enum-told
-enum_told c = search
+enum_told-1 : tie.Need-enum_told-1
+enum_told-1 c = search
 
-copy-backward-requires : tie.Need-copy-backward-requires
-copy-backward-requires c κs =
+copy_backward-requires : tie.Need-copy_backward-requires
+copy_backward-requires c κs =
     let s = start (backward c).before.before in
     let a = s.args in
-    (s.pre.1.0, omega (arith, back_length a.op a.values.now a.a a.n (backward c).enum_told.given.1, s.pre.1.1))
+    (s.requires.1.0, omega (arith, back_length a.op a.values.now a.a a.n (backward c).enum_told.given.1, s.requires.1.1))
 
-add-result : tie.Need-overflow-add-result
-add-result c =
+overflow_add-result : tie.Need-overflow_add-result
+overflow_add-result c =
     let t = backward c.before.before in
     let s = start t.before.before in
     let a = s.args in
-    omega (arith, back_length a.op a.values.now a.a a.n t.enum_told.given.1, s.pre.1.1, s)
+    omega (arith, back_length a.op a.values.now a.a a.n t.in-Reverse.is, s.requires.1.1, s)
 
-enum-told-2 : tie.Need-enum-told-2
-enum-told-2 c = search
+enum_told-in-Distinct : tie.Need-enum_told-in-Distinct
+enum_told-in-Distinct c = search
 
-enum-told-3 : tie.Need-enum-told-3
-enum-told-3 c = search
+enum_told-in-PopFront : tie.Need-enum_told-in-PopFront
+enum_told-in-PopFront c = search
 
-sub-copy-values : tie.Need-overflow-sub-copy-values
-sub-copy-values c = omega (arith, c.before.before.one_less.ensures)
+overflow_sub-n : tie.Need-overflow_sub-n
+overflow_sub-n c = omega (arith, c.one_less-k.ensures)
 
-add-copy-values : tie.Need-overflow-add-copy-values
-add-copy-values c = let o = c.before.before in omega (arith, o.one_less.ensures, (start o).requires.1.0, start o)
+overflow_add-a : tie.Need-overflow_add-a
+overflow_add-a c = let o = c.before in omega (arith, o.one_less-k.ensures, (start o).requires.1.0, start o)
 
-copy-values-requires : tie.Need-copy-values-requires
-copy-values-requires c κs =
+copy_values-requires : tie.Need-copy_values-requires
+copy_values-requires c κs =
     let o = (front c).before.before in
     let s = start o in
     let a = s.args in
-    (omega (arith, o.one_less.ensures, s.pre.1.0), omega (arith, o.one_less.ensures, front_length a.op a.values.now a.a a.n (front c).enum-told3.given.1, s.pre.1.1))
+    (omega (arith, o.one_less-k.ensures, s.requires.1.0), omega (arith, o.one_less-k.ensures, front_length a.op a.values.now a.a a.n (front c).enum-told3.given.1, s.requires.1.1))
 
-add-result-2 : tie.Need-overflow-add-result-2
-add-result-2 c =
+overflow_add-result-in-PopFront : tie.Need-overflow_add-result-in-PopFront
+overflow_add-result-in-PopFront c =
     let t = front c.before.before in
     let o = t.before.before in
     let s = start o in
     let a = s.args in
-    omega (arith, o.one_less.ensures, front_length a.op a.values.now a.a a.n t.enum-told3.given.1, s.pre.1.1, s)
+    omega (arith, o.one_less-k.ensures, front_length a.op a.values.now a.a a.n t.in-PopFront.is, s.requires.1.1, s)
 
-enum-told-4 : tie.Need-enum-told-4
-enum-told-4 c = search
+enum_told-in-PopBack : tie.Need-enum_told-in-PopBack
+enum_told-in-PopBack c = search
 
-copy-values-requires-2 : tie.Need-copy-values-requires-2
-copy-values-requires-2 c κs =
+copy_values-requires-in-PopBack : tie.Need-copy_values-requires-in-PopBack
+copy_values-requires-in-PopBack c κs =
     let o = (last c).before.before in
     let s = start o in
     let a = s.args in
-    (omega (arith, o.one_less.ensures, s.pre.1.0), omega (arith, o.one_less.ensures, last-length a.op a.values.now a.a a.n (last c).enum-told4.given.1, s.pre.1.1))
+    (omega (arith, o.one_less-k.ensures, s.requires.1.0), omega (arith, o.one_less-k.ensures, last-length a.op a.values.now a.a a.n (last c).enum-told4.given.1, s.requires.1.1))
 
-add-result-3 : tie.Need-overflow-add-result-3
-add-result-3 c =
+overflow_add-result-in-PopBack : tie.Need-overflow_add-result-in-PopBack
+overflow_add-result-in-PopBack c =
     let t = last c.before.before in
     let o = t.before.before in
     let s = start o in
     let a = s.args in
-    omega (arith, o.one_less.ensures, last-length a.op a.values.now a.a a.n t.enum-told4.given.1, s.pre.1.1, s)
+    omega (arith, o.one_less-k.ensures, last-length a.op a.values.now a.a a.n t.in-PopBack.is, s.requires.1.1, s)
 
-same_length : tie.Need-same-length
-same_length c = search
+shape_of-out_values-in-Reverse : tie.Need-shape_of-out_values-in-Reverse
+shape_of-out_values-in-Reverse c = search
 
-returns : tie.Need-returns
-returns c =
+returns-in-Reverse : tie.Need-returns-in-Reverse
+returns-in-Reverse c =
     let t = backward c.before.before in
     let a = (start t.before.before).args in
-    back_written a.values.now a.at a.op a.a a.n t.enum_told.given.1 c.before.copy-backward.ensures
+    back_written a.values.now a.at a.op a.a a.n t.in-Reverse.is c.copy_backward.ensures
 
-returns-2 : tie.Need-returns-2
-returns-2 c = let s = start c.before.before in not_distinct s.args.op c.enum-told2.given.1 s.pre.0
+returns-in-Distinct : tie.Need-returns-in-Distinct
+returns-in-Distinct c = let s = start c.before in not_distinct s.args.op c.in-Distinct.is s.requires.0
 
-same-length-2 : tie.Need-same-length-2
-same-length-2 c = search
+shape_of-out_values-in-PopFront : tie.Need-shape_of-out_values-in-PopFront
+shape_of-out_values-in-PopFront c = search
 
-returns-3 : tie.Need-returns-3
-returns-3 c =
+returns-in-PopFront : tie.Need-returns-in-PopFront
+returns-in-PopFront c =
     let t = front c.before.before in
     let o = t.before.before in
     let a = (start o).args in
-    front-written a.values.now a.at a.op a.a a.n o.one_less.result o.one_less.ensures t.enum-told3.given.1 c.before.copy-values.ensures
+    front-written a.values.now a.at a.op a.a a.n o.one_less-k.result o.one_less-k.ensures t.in-PopFront.is c.copy_values.ensures
 
-same-length-3 : tie.Need-same-length-3
-same-length-3 c = search
+shape_of-out_values-in-PopBack : tie.Need-shape_of-out_values-in-PopBack
+shape_of-out_values-in-PopBack c = search
 
-returns-4 : tie.Need-returns-4
-returns-4 c =
+returns-in-PopBack : tie.Need-returns-in-PopBack
+returns-in-PopBack c =
     let t = last c.before.before in
     let o = t.before.before in
     let a = (start o).args in
-    last_written a.values.now a.at a.op a.a a.n o.one_less.result o.one_less.ensures t.enum-told4.given.1 c.before.copy-values2.ensures
+    last_written a.values.now a.at a.op a.a a.n o.one_less-k.result o.one_less-k.ensures t.in-PopBack.is c.copy_values-in-PopBack.ensures
 
 pub put_values_spec : {M : Type 1} → statement M
 put_values_spec =
     tie.close
     (tie.spec
-    one-less-requires
-    enum_told
-    copy-backward-requires
-    add-result
-    enum-told-2
-    enum-told-3
-    sub-copy-values
-    add-copy-values
-    copy-values-requires
-    add-result-2
-    enum-told-4
-    copy-values-requires-2
-    add-result-3
-    same_length
-    returns
-    returns-2
-    same-length-2
-    returns-3
-    same-length-3
-    returns-4)
+    one_less-k-requires
+    enum_told-1
+    copy_backward-requires
+    overflow_add-result
+    enum_told-in-Distinct
+    enum_told-in-PopFront
+    overflow_sub-n
+    overflow_add-a
+    copy_values-requires
+    overflow_add-result-in-PopFront
+    enum_told-in-PopBack
+    copy_values-requires-in-PopBack
+    overflow_add-result-in-PopBack
+    shape_of-out_values-in-Reverse
+    returns-in-Reverse
+    returns-in-Distinct
+    shape_of-out_values-in-PopFront
+    returns-in-PopFront
+    shape_of-out_values-in-PopBack
+    returns-in-PopBack)

@@ -2,35 +2,43 @@ use Rattle.bare_walk.specs.Bare.{copies}
 use Rattle.bare_walk.proofs.takes_by_place.Statement.{statement}
 use Rattle.bare_walk.proofs.takes_by_place.Tie as tie
 
-enum_told : tie.Need-enum-told
-enum_told c = search
+enum_told-1 : tie.Need-enum_told-1
+enum_told-1 c = search
 
-enum-told-2 : tie.Need-enum-told-2
-enum-told-2 c = search
+enum_told-in-Distinct : tie.Need-enum_told-in-Distinct
+enum_told-in-Distinct c = search
 
-enum-told-3 : tie.Need-enum-told-3
-enum-told-3 c = search
+enum_told-in-PopFront : tie.Need-enum_told-in-PopFront
+enum_told-in-PopFront c = search
 
-enum-told-4 : tie.Need-enum-told-4
-enum-told-4 c = search
+enum_told-in-PopBack : tie.Need-enum_told-in-PopBack
+enum_told-in-PopBack c = search
 
-returns : tie.Need-returns
+returns-in-Reverse : tie.Need-returns-in-Reverse
 unfolding copies
-returns c = rw c.enum_told.given.1
+returns-in-Reverse c = rw c.in-Reverse.is
 
-returns-2 : tie.Need-returns-2
+returns-in-Distinct : tie.Need-returns-in-Distinct
 unfolding copies
-returns-2 c = rw c.enum-told2.given.1
+returns-in-Distinct c = rw c.in-Distinct.is
 
-returns-3 : tie.Need-returns-3
+returns-in-PopFront : tie.Need-returns-in-PopFront
 unfolding copies
-returns-3 c = rw c.enum-told3.given.1
+returns-in-PopFront c = rw c.in-PopFront.is
 
-returns-4 : tie.Need-returns-4
+returns-in-PopBack : tie.Need-returns-in-PopBack
 unfolding copies
-returns-4 c = rw c.enum-told4.given.1
+returns-in-PopBack c = rw c.in-PopBack.is
 
 pub takes_by_place_spec : {M : Type 1} → statement M
 takes_by_place_spec =
     tie.close
-    (tie.spec enum_told enum-told-2 enum-told-3 enum-told-4 returns returns-2 returns-3 returns-4)
+    (tie.spec
+    enum_told-1
+    enum_told-in-Distinct
+    enum_told-in-PopFront
+    enum_told-in-PopBack
+    returns-in-Reverse
+    returns-in-Distinct
+    returns-in-PopFront
+    returns-in-PopBack)

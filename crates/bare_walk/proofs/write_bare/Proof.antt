@@ -14,167 +14,170 @@ use Rattle.bare_walk.proofs.BareLaws.{Baring, bare_begun, bare_reads, bare_room,
 use Rattle.bare_walk.proofs.write_bare.Statement.{statement}
 use Rattle.bare_walk.proofs.write_bare.Tie as tie
 
-abbrev invariant-loop : tie.invariant-loop
-invariant-loop op offsets values out-offsets₀ out-values₀ width large out-large₀ n a₀ r₀ at₀ left₀ out-offsets out-values out-large a r at left =
+abbrev invariant-loop-left : tie.invariant-loop-left
+invariant-loop-left op offsets values out-offsets₀ out-values₀ width large out-large₀ n a₀ r₀ at₀ left₀ out-offsets out-values out-large a r at left =
     Baring (bare_at op (used width offsets large) values) (used width offsets large) n (used width out-offsets₀ out-large₀) out-values₀ (used width out-offsets out-large) out-values a r at left
     × (length out-offsets ≡ length out-offsets₀)
     × (length out-large ≡ length out-large₀)
 
-abbrev decreases-loop : tie.decreases-loop
-decreases-loop op offsets values out-offsets₀ out-values₀ width large out-large₀ n a₀ r₀ at₀ left₀ out-offsets out-values out-large a r at left =
+abbrev decreases-loop-left : tie.decreases-loop-left
+decreases-loop-left op offsets values out-offsets₀ out-values₀ width large out-large₀ n a₀ r₀ at₀ left₀ out-offsets out-values out-large a r at left =
     left
 
 -- the offsets that are read, and those that are written as the call began
-abbrev I : tie.Start invariant-loop decreases-loop → List ℤ
+abbrev I : tie.Start invariant-loop-left decreases-loop-left → List ℤ
 I s = used s.args.width s.args.offsets.now s.args.large.now
 
-abbrev O : tie.Start invariant-loop decreases-loop → List ℤ
-O s = used s.args.width s.args.out-offsets.now s.args.out-large.now
+abbrev O : tie.Start invariant-loop-left decreases-loop-left → List ℤ
+O s = used s.args.width s.args.out_offsets.now s.args.out_large.now
 
 -- ---- places: the first offset put and the start, from the loop; a turn's offset read and its values written, from what comes after
 
-abbrev put : tie.At-loop invariant-loop decreases-loop → tie.After-put-offset invariant-loop decreases-loop
+abbrev put : tie.At-loop-left invariant-loop-left decreases-loop-left → tie.After-put_offset invariant-loop-left decreases-loop-left
 put l = l.before.before.before.before
 
-abbrev counted : tie.At-loop invariant-loop decreases-loop → tie.After-row-count invariant-loop decreases-loop
+abbrev counted : tie.At-loop-left invariant-loop-left decreases-loop-left → tie.After-row_count-n invariant-loop-left decreases-loop-left
 counted l = (put l).before.before.before
 
-abbrev S : tie.At-loop invariant-loop decreases-loop → tie.Start invariant-loop decreases-loop
+abbrev S : tie.At-loop-left invariant-loop-left decreases-loop-left → tie.Start invariant-loop-left decreases-loop-left
 S l = (counted l).before
 
-abbrev count : tie.At-loop invariant-loop decreases-loop → ℕ
+abbrev count : tie.At-loop-left invariant-loop-left decreases-loop-left → ℕ
 count l = (counted l).row_count.result
 
-abbrev written : tie.After-put-offset-arg4 invariant-loop decreases-loop → tie.After-put-values invariant-loop decreases-loop
+abbrev written : tie.After-put_offset-arg-in-loop-left-2-1 invariant-loop-left decreases-loop-left → tie.After-put_values-at invariant-loop-left decreases-loop-left
 written p = p.before.before.before
 
-abbrev turned : tie.After-out-large2 invariant-loop decreases-loop → tie.After-put-values invariant-loop decreases-loop
+abbrev turned : tie.After-out_large-in-loop-left-1 invariant-loop-left decreases-loop-left → tie.After-put_values-at invariant-loop-left decreases-loop-left
 turned p = written p.before.before.before
 
-abbrev looked : tie.After-put-values invariant-loop decreases-loop → tie.After-offset-at invariant-loop decreases-loop
+abbrev looked : tie.After-put_values-at invariant-loop-left decreases-loop-left → tie.After-offset_at-b invariant-loop-left decreases-loop-left
 looked w = w.before.before
 
-abbrev W : tie.At-loop invariant-loop decreases-loop → ℕ → Row
+abbrev W : tie.At-loop-left invariant-loop-left decreases-loop-left → ℕ → Row
 W l = let s = S l in bare_at s.args.op (I s) s.args.values.now
 
 -- what the call asks, by the code's count
-rows_are : (l : tie.At-loop invariant-loop decreases-loop) → count l ≡ row_count (I (S l))
+rows_are : (l : tie.At-loop-left invariant-loop-left decreases-loop-left) → count l ≡ row_count (I (S l))
 rows_are l = (counted l).row_count.ensures
 
-all_rows : (l : tie.At-loop invariant-loop decreases-loop) → let s = S l in tab (W l) 0 (count l) ≡ bare_rows s.args.op (I s) s.args.values.now
+all_rows : (l : tie.At-loop-left invariant-loop-left decreases-loop-left) → let s = S l in tab (W l) 0 (count l) ≡ bare_rows s.args.op (I s) s.args.values.now
 all_rows l = let s = S l in bare_rows_lem s.args.op (I s) s.args.values.now (count l) (rows_are l)
 
-total : (l : tie.At-loop invariant-loop decreases-loop) → let s = S l in length (flat (tab (W l) 0 (count l))) ≡ length (flat (bare_rows s.args.op (I s) s.args.values.now))
+total : (l : tie.At-loop-left invariant-loop-left decreases-loop-left) → let s = S l in length (flat (tab (W l) 0 (count l))) ≡ length (flat (bare_rows s.args.op (I s) s.args.values.now))
 total l = ap (λ (ws : List Row). length (flat ws)) (all_rows l)
 
-places : (l : tie.At-loop invariant-loop decreases-loop) → length (flat (tab (W l) 0 (count l))) ≤ length (S l).args.out-values.now
+places : (l : tie.At-loop-left invariant-loop-left decreases-loop-left) → length (flat (tab (W l) 0 (count l))) ≤ length (S l).args.out-values.now
 places l = omega (arith, total l, (S l).requires.1.1.1.1)
 
 -- a turn reads between two offsets
-reads : (q : tie.After-offset-at invariant-loop decreases-loop) → let l = q.before.before in (l.loop.a ≤ q.offset_at.result) × (q.offset_at.result ≤ length (S l).args.values.now)
+reads : (q : tie.After-offset_at-b invariant-loop-left decreases-loop-left) → let l = q.before.before in (l.loop-left.a ≤ q.offset_at-b.result) × (q.offset_at-b.result ≤ length (S l).args.values.now)
 reads q =
     let l = q.before.before in
     let s = S l in
-    bare_reads s.args.op (I s) s.args.values.now (count l) l.loop.invariant.0 q.before.loop-test.true q.offset_at.result q.offset_at.ensures.0 (rows_are l) s.pre.1.0
+    bare_reads s.args.op (I s) s.args.values.now (count l) l.loop-left.invariant.0 q.loop-left-test.true q.offset_at-b.result q.offset_at-b.ensures.0 (rows_are l) s.requires.1.0
 
-row-count-requires : tie.Need-row-count-requires invariant-loop decreases-loop
-row-count-requires c κs = search
+row_count-n-requires : tie.Need-row_count-n-requires invariant-loop-left decreases-loop-left
+row_count-n-requires c κs = search
 
-put-offset-requires : tie.Need-put-offset-requires invariant-loop decreases-loop
-put-offset-requires c κs = (omega (arith, c.before.before.before.requires.1.1.1.0), omega arith)
+put_offset-requires : tie.Need-put_offset-requires invariant-loop-left decreases-loop-left
+put_offset-requires c κs = (omega (arith, c.requires.1.1.1.0), omega arith)
 
-first-offset-requires : tie.Need-first-offset-requires invariant-loop decreases-loop
-first-offset-requires c κs = search
+first_offset-a-requires : tie.Need-first_offset-a-requires invariant-loop-left decreases-loop-left
+first_offset-a-requires c κs = search
 
-loop-holds : tie.Need-loop-init invariant-loop decreases-loop
-loop-holds c =
+loop-left-init : tie.Need-loop-left-init invariant-loop-left decreases-loop-left
+loop-left-init c =
     let p = c.before.before.before in
     let s = p.before.before.before.before in
-    (bare_begun s.args.op (I s) s.args.values.now p.before.before.before.row_count.result _ _ c.first-offset.ensures, refl, refl)
+    (bare_begun s.args.op (I s) s.args.values.now p.row_count-n.result _ _ c.first_offset-a.ensures, refl, refl)
 
-add-offset-at : tie.Need-overflow-add-offset-at invariant-loop decreases-loop
-add-offset-at c = omega (arith, c.before.loop.invariant.0.walk.rows, c.loop-test.true)
+overflow_add-r : tie.Need-overflow_add-r invariant-loop-left decreases-loop-left
+overflow_add-r c = omega (arith, c.loop-left.invariant.0.walk.rows, c.loop-left-test.true)
 
-offset-at-requires : tie.Need-offset-at-requires invariant-loop decreases-loop
-offset-at-requires c κs = omega (arith, rows_are c.before, c.before.loop.invariant.0.walk.rows, c.loop-test.true)
+offset_at-b-requires : tie.Need-offset_at-b-requires invariant-loop-left decreases-loop-left
+offset_at-b-requires c κs = omega (arith, rows_are c.before, c.loop-left.invariant.0.walk.rows, c.loop-left-test.true)
 
-sub-len : tie.Need-overflow-sub-len invariant-loop decreases-loop
-sub-len c = (reads c).0
+overflow_sub-len : tie.Need-overflow_sub-len invariant-loop-left decreases-loop-left
+overflow_sub-len c = (reads c).0
 
-put-values-requires : tie.Need-put-values-requires invariant-loop decreases-loop
-put-values-requires c κs =
+put_values-at-requires : tie.Need-put_values-at-requires invariant-loop-left decreases-loop-left
+put_values-at-requires c κs =
     let q = c.before in
     let l = q.before.before in
     let s = S l in
     let g = reads q in
-    (s.pre.0, (omega arith, bare_room s.args.op (I s) s.args.values.now (count l) l.loop.invariant.0 q.before.loop-test.true q.offset_at.result q.offset_at.ensures.0 (places l)))
+    (s.requires.0, (omega arith, bare_room s.args.op (I s) s.args.values.now (count l) l.loop-left.invariant.0 q.loop-left-test.true q.offset_at-b.result q.offset_at-b.ensures.0 (places l)))
 
-add-put-offset : tie.Need-overflow-add-put-offset invariant-loop decreases-loop
-add-put-offset c = let i = (looked (written c)).before in omega (arith, i.before.loop.inv.0.walk.rows, i.loop-test.taken)
+overflow_add-r-in-loop-left : tie.Need-overflow_add-r-in-loop-left invariant-loop-left decreases-loop-left
+overflow_add-r-in-loop-left c = let i = (looked (written c)).before in omega (arith, i.loop-left.invariant.0.walk.rows, i.loop-left-test.true)
 
-put-offset-requires-2 : tie.Need-put-offset-requires-2 invariant-loop decreases-loop
-put-offset-requires-2 c κs =
+put_offset-requires-in-loop-left : tie.Need-put_offset-requires-in-loop-left invariant-loop-left decreases-loop-left
+put_offset-requires-in-loop-left c κs =
     let w = written c in
     let q = looked w in
     let l = q.before.before in
     let s = S l in
-    let k = bare_small s.args.op (I s) s.args.values.now (count l) l.loop.inv.0 q.before.loop-test.taken q.offset_at.result q.offset_at.ensures.0 w.put-values.ensures in
-    (bare_slot s.args.op (I s) s.args.values.now (count l) l.loop.inv.0 q.before.loop-test.taken q.offset_at.result q.offset_at.ensures.0 (omega (arith, rows_are l, s.pre.1.1.1.0, put_keeps (O s) 0 0 (put l).put-offset.ensures)), omega (arith, k, total l, s.pre.1.1.0))
+    let k = bare_small s.args.op (I s) s.args.values.now (count l) l.loop-left.invariant.0 q.loop-left-test.true q.offset_at-b.result q.offset_at-b.ensures.0 w.put_values-at.ensures in
+    (bare_slot s.args.op (I s) s.args.values.now (count l) l.loop-left.invariant.0 q.loop-left-test.true q.offset_at-b.result q.offset_at-b.ensures.0 (omega (arith, rows_are l, s.requires.1.1.1.0, put_keeps (O s) 0 0 (put l).put-offset.ensures)), omega (arith, k, total l, s.requires.1.1.0))
 
-add_r : tie.Need-overflow-add-r invariant-loop decreases-loop
-add_r c = let i = (looked (turned c)).before in omega (arith, i.before.loop.inv.0.walk.rows, i.loop-test.taken)
+overflow_add-r : tie.Need-overflow_add-r invariant-loop-left decreases-loop-left
+overflow_add-r c = let i = (looked (turned c)).before in omega (arith, i.loop-left.invariant.0.walk.rows, i.loop-left-test.true)
 
-sub-left : tie.Need-overflow-sub-left invariant-loop decreases-loop
-sub-left c = omega (arith, (looked (turned c)).before.loop-test.taken)
+overflow_sub-left : tie.Need-overflow_sub-left invariant-loop-left decreases-loop-left
+overflow_sub-left c = omega (arith, (looked (turned c)).loop-left-test.true)
 
-loop-less : tie.Need-loop-smaller invariant-loop decreases-loop
-loop-less c = omega (arith, (looked (turned c)).before.loop-test.taken)
+loop-left-smaller : tie.Need-loop-left-smaller invariant-loop-left decreases-loop-left
+loop-left-smaller c = omega (arith, (looked (turned c)).loop-left-test.true)
 
-loop-again : tie.Need-loop-preserved invariant-loop decreases-loop
-loop-again c =
+loop-left-preserved : tie.Need-loop-left-preserved invariant-loop-left decreases-loop-left
+loop-left-preserved c =
     let w = turned c in
     let q = looked w in
     let l = q.before.before in
     let s = S l in
-    let p = c.before.before.put-offset2 in
-    (bare_more s.args.op (I s) s.args.values.now (count l) l.loop.inv.0 q.before.loop-test.taken q.offset_at.result q.offset_at.ensures.0 w.put-values.ensures p.ensures, p.auto.1.0 ∙ l.loop.inv.1, p.auto.1.1.0 ∙ l.loop.inv.2)
+    let p = c.put_offset-in-loop-left in
+    (bare_more s.args.op (I s) s.args.values.now (count l) l.loop-left.invariant.0 q.loop-left-test.true q.offset_at-b.result q.offset_at-b.ensures.0 w.put_values-at.ensures p.ensures, p.auto.narrow ∙ l.loop-left.invariant.1, p.auto.wide ∙ l.loop-left.invariant.2)
 
-same_length : tie.Need-same-length invariant-loop decreases-loop
-same_length c = c.before.loop.invariant.1 ∙ (put c.before).put-offset.kept.1.0
+shape_of-out_offsets : tie.Need-shape_of-out_offsets invariant-loop-left decreases-loop-left
+shape_of-out_offsets c = c.loop-left.invariant.1 ∙ (put c.before).put-offset.kept.1.0
 
-same-length-2 : tie.Need-same-length-2 invariant-loop decreases-loop
-same-length-2 c = c.before.loop.invariant.0.walk.lv
+shape_of-out_values : tie.Need-shape_of-out_values invariant-loop-left decreases-loop-left
+shape_of-out_values c = c.loop-left.invariant.0.walk.lv
 
-same-length-3 : tie.Need-same-length-3 invariant-loop decreases-loop
-same-length-3 c = c.before.loop.invariant.2 ∙ (put c.before).put-offset.kept.1.1.0
+shape_of-out_large : tie.Need-shape_of-out_large invariant-loop-left decreases-loop-left
+shape_of-out_large c = c.loop-left.invariant.2 ∙ (put c.before).put-offset.kept.1.1.0
 
-returns : tie.Need-returns invariant-loop decreases-loop
+returns : tie.Need-returns invariant-loop-left decreases-loop-left
 returns c =
     let l = c.before in
     let s = S l in
-    rw (← all_rows l) (bare_done s.args.op (I s) s.args.values.now (count l) (O s) l.loop.invariant.0 (omega (arith, c.loop-test.false)) (put l).put-offset.ensures (omega (arith, rows_are l, s.pre.1.1.1.0)) (places l))
+    rw (← all_rows l) (bare_done s.args.op (I s) s.args.values.now (count l) (O s) l.loop-left.invariant.0 (omega (arith, c.loop-left-test.false)) (put l).put-offset.ensures (omega (arith, rows_are l, s.requires.1.1.1.0)) (places l))
+
+overflow_add-r-in-loop-left-2 : tie.Need-overflow_add-r-in-loop-left-2 invariant-loop-left decreases-loop-left
+overflow_add-r-in-loop-left-2 c = search rules
 
 pub write_bare_spec : {M : Type 1} → statement M
 write_bare_spec =
     tie.close
     (tie.spec
-    invariant-loop
-    decreases-loop
-    row-count-requires
-    put-offset-requires
-    first-offset-requires
-    loop-holds
-    add-offset-at
-    offset-at-requires
-    sub-len
-    put-values-requires
-    add-put-offset
-    put-offset-requires-2
-    add_r
-    sub-left
-    loop-less
-    loop-again
-    same_length
-    same-length-2
-    same-length-3
+    invariant-loop-left
+    decreases-loop-left
+    row_count-n-requires
+    put_offset-requires
+    first_offset-a-requires
+    loop-left-init
+    overflow_add-r
+    offset_at-b-requires
+    overflow_sub-len
+    put_values-at-requires
+    overflow_add-r-in-loop-left
+    put_offset-requires-in-loop-left
+    overflow_add-r-in-loop-left-2
+    overflow_sub-left
+    loop-left-smaller
+    loop-left-preserved
+    shape_of-out_offsets
+    shape_of-out_values
+    shape_of-out_large
     returns)

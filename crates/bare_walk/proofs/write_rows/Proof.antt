@@ -12,69 +12,69 @@ I s = used s.args.width s.args.offsets.now s.args.large.now
 
 -- ---- places: the rows counted, offsets and values written, and the bits of the rows
 
-abbrev begun : tie.After-row-count → tie.Start
+abbrev begun : tie.After-row_count-n → tie.Start
 begun p = p.before.before.before
 
-abbrev counted : tie.After-write-bare → tie.After-row-count
+abbrev counted : tie.After-write_bare-m → tie.After-row_count-n
 counted p = p.before.before.before.before
 
-abbrev written : tie.After-push-same → tie.After-write-bare
+abbrev written : tie.After-push_same → tie.After-write_bare-m
 written p = p.before.before.before.before.before
 
-abbrev set : tie.After-slice-known4 → tie.After-push-same
+abbrev set : tie.After-slice_known-4-1 → tie.After-push_same
 set p = p.before.before.before.before.before.before
 
-row-count-requires : tie.Need-row-count-requires
-row-count-requires c κs = search
+row_count-n-requires : tie.Need-row_count-n-requires
+row_count-n-requires c κs = search
 
-write-bare-requires : tie.Need-write-bare-requires
-write-bare-requires c κs =
+write_bare-m-requires : tie.Need-write_bare-m-requires
+write_bare-m-requires c κs =
     let s = begun c.before.before.before in
-    (s.pre.0, (s.pre.1.0, (s.pre.1.1.0, (s.pre.1.1.1.offsets, s.pre.1.1.1.values))))
+    (s.requires.0, (s.requires.1.0, (s.requires.1.1.0, (s.requires.1.1.1.offsets, s.requires.1.1.1.values))))
 
-push-same-requires : tie.Need-push-same-requires
-push-same-requires c κs =
+push_same-requires : tie.Need-push_same-requires
+push_same-requires c κs =
     let n = counted c.before.before.before.before in
-    omega (arith, n.row_count.ensures, (begun n).pre.1.1.1.rows)
+    omega (arith, n.row_count-n.ensures, (begun n).pre.1.1.1.rows)
 
-push-same-requires-2 : tie.Need-push-same-requires-2
-push-same-requires-2 c κs =
+push_same-requires-2 : tie.Need-push_same-requires-2
+push_same-requires-2 c κs =
     let w = written c.before.before.before in
-    omega (arith, w.write-bare.ensures.count, (begun (counted w)).requires.1.1.1.elements)
+    omega (arith, w.write_bare-m.ensures.count, (begun (counted w)).requires.1.1.1.elements)
 
-same_length : tie.Need-same-length
-same_length c = (written (set c)).write-bare.auto.1.1.1.0
+shape_of-out_offsets : tie.Need-shape_of-out_offsets
+shape_of-out_offsets c = (written (set c)).write_bare-m.auto.out_offsets
 
-same-length-2 : tie.Need-same-length-2
-same-length-2 c = (set c).push-same.auto.0
+shape_of-out_rows : tie.Need-shape_of-out_rows
+shape_of-out_rows c = (set c).push-same.auto.0
 
-same-length-3 : tie.Need-same-length-3
-same-length-3 c = (written (set c)).write-bare.auto.1.1.1.1.0
+shape_of-out_values : tie.Need-shape_of-out_values
+shape_of-out_values c = (written (set c)).write_bare-m.auto.out_values
 
-same-length-4 : tie.Need-same-length-4
-same-length-4 c = c.before.before.push-same2.auto.0
+shape_of-out_elements : tie.Need-shape_of-out_elements
+shape_of-out_elements c = c.push_same-2.auto.bitmap
 
-same-length-5 : tie.Need-same-length-5
-same-length-5 c = (written (set c)).write-bare.auto.1.1.1.1.1.1.1.0
+shape_of-out_large : tie.Need-shape_of-out_large
+shape_of-out_large c = (written (set c)).write_bare-m.auto.out_large
 
 returns : tie.Need-returns
 returns c =
     let w = written (set c) in
     let n = counted w in
     let s = begun n in
-    bare_filled s.args.op (I s) s.args.values.now s.pre.0 n.row_count.ensures s.pre.1.1.1 w.write-bare.ensures (set c).push-same.ensures c.before.before.push-same2.ensures
+    bare_filled s.args.op (I s) s.args.values.now s.requires.0 n.row_count-n.ensures s.requires.1.1.1 w.write_bare-m.ensures (set c).push-same.ensures c.push_same-2.ensures
 
 pub write_rows_spec : {M : Type 1} → statement M
 write_rows_spec =
     tie.close
     (tie.spec
-    row-count-requires
-    write-bare-requires
-    push-same-requires
-    push-same-requires-2
-    same_length
-    same-length-2
-    same-length-3
-    same-length-4
-    same-length-5
+    row_count-n-requires
+    write_bare-m-requires
+    push_same-requires
+    push_same-requires-2
+    shape_of-out_offsets
+    shape_of-out_rows
+    shape_of-out_values
+    shape_of-out_elements
+    shape_of-out_large
     returns)

@@ -6,68 +6,68 @@ use Rattle.bit_words.proofs.WordLaws.{read_within, read_across}
 use Rattle.bit_runs.proofs.few_at.Statement.{statement}
 use Rattle.bit_runs.proofs.few_at.Tie as tie
 
-shared-slice-read-low : tie.Need-shared-slice-read-low
-shared-slice-read-low c = search rules
+bounds-bitmap-k : tie.Need-bounds-bitmap-k
+bounds-bitmap-k c = search rules
 
-cast-low : tie.Need-overflow-cast-low
-cast-low c = search rules
+overflow_cast-low : tie.Need-overflow_cast-low
+overflow_cast-low c = search rules
 
-shr-low : tie.Need-overflow-shr-low
-shr-low c = search rules
+overflow_shr-low : tie.Need-overflow_shr-low
+overflow_shr-low c = search rules
 
-add-if1 : tie.Need-overflow-add-if1
-add-if1 c = search rules
+overflow_add-s : tie.Need-overflow_add-s
+overflow_add-s c = search rules
 
 lowest-requires : tie.Need-lowest-requires
 lowest-requires c κs = search rules
 
-returns : tie.Need-returns
-returns c =
-    let a = c.before.before.before.before.args in
-    rw c.lowest.ensures (read_within a.m a.bitmap.now a.k a.s c.before.if1.true, mod-lt _ (pow_pos a.m))
+returns-then-s-m-le8 : tie.Need-returns-then-s-m-le8
+returns-then-s-m-le8 c =
+    let a = c.args in
+    rw c.lowest.ensures (read_within a.m a.bitmap.now a.k a.s c.if-s-m-le8.true, mod-lt _ (pow_pos a.m))
 
-add-high : tie.Need-overflow-add-high
-add-high c = search rules
+overflow_add-high : tie.Need-overflow_add-high
+overflow_add-high c = search rules
 
-shared-slice-read-high : tie.Need-shared-slice-read-high
-shared-slice-read-high c = search rules
+bounds-bitmap-k-2 : tie.Need-bounds-bitmap-k-2
+bounds-bitmap-k-2 c = search rules
 
-sub-high : tie.Need-overflow-sub-high
-sub-high c = search rules
+overflow_sub-high : tie.Need-overflow_sub-high
+overflow_sub-high c = search rules
 
-cast-high : tie.Need-overflow-cast-high
-cast-high c = search rules
+overflow_cast-high : tie.Need-overflow_cast-high
+overflow_cast-high c = search rules
 
-shl-high : tie.Need-overflow-shl-high
-shl-high c = search rules
+overflow_shl-high : tie.Need-overflow_shl-high
+overflow_shl-high c = search rules
 
 lowest-requires-2 : tie.Need-lowest-requires-2
 lowest-requires-2 c κs = search rules
 
-returns-2 : tie.Need-returns-2
-returns-2 c =
+returns : tie.Need-returns
+returns c =
     let e = c.before.before in
     let s = e.before.before.before in
     let a = s.args in
-    rw c.lowest2.ensures (
-      read_across a.m a.bitmap.now a.k a.s (omega (arith, e.before.before.shared-slice-known.given a.k)) s.requires.0 s.requires.1.1.0,
+    rw c.lowest-2.ensures (
+      read_across a.m a.bitmap.now a.k a.s (omega (arith, e.shared_slice_known-1.given a.k)) s.requires.0 s.requires.1.1.0,
       mod-lt _ (pow_pos a.m),
     )
 
-pub few-at_spec : {M : Type 1} → statement M
-few-at_spec =
+pub few_at_spec : {M : Type 1} → statement M
+few_at_spec =
     tie.close
     (tie.spec
-    shared-slice-read-low
-    cast-low
-    shr-low
-    add-if1
+    bounds-bitmap-k
+    overflow_cast-low
+    overflow_shr-low
+    overflow_add-s
     lowest-requires
-    returns
-    add-high
-    shared-slice-read-high
-    sub-high
-    cast-high
-    shl-high
+    returns-then-s-m-le8
+    overflow_add-high
+    bounds-bitmap-k-2
+    overflow_sub-high
+    overflow_cast-high
+    overflow_shl-high
     lowest-requires-2
-    returns-2)
+    returns)

@@ -6,79 +6,79 @@ use Rattle.bit_words.proofs.WordLaws.{few-first, few_across, few_shifted}
 use Rattle.bit_runs.proofs.push_few.Statement.{statement}
 use Rattle.bit_runs.proofs.push_few.Tie as tie
 
-slice-write-out : tie.Need-slice-write-out
-slice-write-out c = search rules
+bounds-out-k : tie.Need-bounds-out-k
+bounds-out-k c = search rules
 
-same_length : tie.Need-same-length
-same_length c = search rules
+shape_of-out-then-s-eq0 : tie.Need-shape_of-out-then-s-eq0
+shape_of-out-then-s-eq0 c = search rules
 
-returns : tie.Need-returns
-returns c = let s = c.before in sym (few-first s.args.m s.args.bits _ s.args.at (omega (arith, s.requires.0, s.requires.1.1.1)) c.if1.true s.requires.0 s.requires.1.0 s.requires.1.1.0)
+returns-then-s-eq0 : tie.Need-returns-then-s-eq0
+returns-then-s-eq0 c = let s = c.before in sym (few-first s.args.m s.args.bits _ s.args.at (omega (arith, s.requires.0, s.requires.1.1.1)) c.if-s-eq0.true s.requires.0 s.requires.1.0 s.requires.1.1.0)
 
-slice-read-byte : tie.Need-slice-read-byte
-slice-read-byte c = search rules
+bounds-out-k-2 : tie.Need-bounds-out-k-2
+bounds-out-k-2 c = search rules
 
-cast-out : tie.Need-overflow-cast-out
-cast-out c = search rules
+overflow_cast-out : tie.Need-overflow_cast-out
+overflow_cast-out c = search rules
 
-shl-out : tie.Need-overflow-shl-out
-shl-out c = search rules
+overflow_shl-out : tie.Need-overflow_shl-out
+overflow_shl-out c = search rules
 
-slice-write-out-2 : tie.Need-slice-write-out-2
-slice-write-out-2 c = search rules
+bounds-out-k-3 : tie.Need-bounds-out-k-3
+bounds-out-k-3 c = search rules
 
-add-if2 : tie.Need-overflow-add-if2
-add-if2 c = search rules
+overflow_add-s : tie.Need-overflow_add-s
+overflow_add-s c = search rules
 
-sub_out : tie.Need-overflow-sub-out
-sub_out c = search rules
+overflow_sub-out : tie.Need-overflow_sub-out
+overflow_sub-out c = search rules
 
-cast-out-2 : tie.Need-overflow-cast-out-2
-cast-out-2 c = search rules
+overflow_cast-out-then-s-m-gt8 : tie.Need-overflow_cast-out-then-s-m-gt8
+overflow_cast-out-then-s-m-gt8 c = search rules
 
-shr-out : tie.Need-overflow-shr-out
-shr-out c = search rules
+overflow_shr-out : tie.Need-overflow_shr-out
+overflow_shr-out c = search rules
 
-add-out : tie.Need-overflow-add-out
-add-out c = search rules
+overflow_add-out : tie.Need-overflow_add-out
+overflow_add-out c = search rules
 
-slice-write-out-3 : tie.Need-slice-write-out-3
-slice-write-out-3 c = let s = c.before.before.before in rw (length-set _ _ _) (omega (arith, s.requires.0, s.requires.1.1.1, c.if2.true))
+bounds-out-k-then-s-m-gt8 : tie.Need-bounds-out-k-then-s-m-gt8
+bounds-out-k-then-s-m-gt8 c = let s = c.before.before.before in rw (length-set _ _ _) (omega (arith, s.requires.0, s.requires.1.1.1, c.if-s-m-gt8.true))
 
-same-length-2 : tie.Need-same-length-2
-same-length-2 c = search rules
+shape_of-out-then-s-m-gt8 : tie.Need-shape_of-out-then-s-m-gt8
+shape_of-out-then-s-m-gt8 c = search rules
 
-returns-2 : tie.Need-returns-2
-returns-2 c =
+returns-then-s-m-gt8 : tie.Need-returns-then-s-m-gt8
+returns-then-s-m-gt8 c =
     let s = c.before.before.before in
-    few_across s.args.m s.args.bits _ s.args.at (omega (arith, s.requires.0, s.requires.1.1.1, c.if2.true)) (omega (arith, c.before.before.if1.false)) c.if2.true s.requires.1.0 s.requires.1.1.0
+    few_across s.args.m s.args.bits _ s.args.at (omega (arith, s.requires.0, s.requires.1.1.1, c.if-s-m-gt8.true)) (omega (arith, c.if-s-eq0.false)) c.if-s-m-gt8.true s.requires.1.0 s.requires.1.1.0
 
-same-length-3 : tie.Need-same-length-3
-same-length-3 c = search rules
+shape_of-out-else-s-m-gt8 : tie.Need-shape_of-out-else-s-m-gt8
+shape_of-out-else-s-m-gt8 c = search rules
 
-returns-3 : tie.Need-returns-3
-returns-3 c =
+returns-else-s-m-gt8 : tie.Need-returns-else-s-m-gt8
+returns-else-s-m-gt8 c =
     let s = c.before.before.before in
-    few_shifted s.args.m s.args.bits _ s.args.at (omega (arith, s.requires.0, s.requires.1.1.1)) (omega (arith, c.before.before.if1.false)) c.if2.false s.requires.1.1.0
+    few_shifted s.args.m s.args.bits _ s.args.at (omega (arith, s.requires.0, s.requires.1.1.1)) (omega (arith, c.if-s-eq0.false)) c.if-s-m-gt8.false s.requires.1.1.0
 
 pub push_few_spec : {M : Type 1} → statement M
 push_few_spec =
     tie.close
     (tie.spec
-    slice-write-out
-    same_length
-    returns
-    slice-read-byte
-    cast-out
-    shl-out
-    slice-write-out-2
-    add-if2
-    sub_out
-    cast-out-2
-    shr-out
-    add-out
-    slice-write-out-3
-    same-length-2
-    returns-2
-    same-length-3
-    returns-3)
+    bounds-out-k
+    shape_of-out-then-s-eq0
+    returns-then-s-eq0
+    bounds-out-k-2
+    overflow_cast-out
+    overflow_shl-out
+    bounds-out-k-3
+    overflow_add-s
+    overflow_sub-out
+    overflow_cast-out-then-s-m-gt8
+    overflow_shr-out
+    overflow_add-out
+    bounds-out-k-then-s-m-gt8
+    shape_of-out-then-s-m-gt8
+    returns-then-s-m-gt8
+    shape_of-out-else-s-m-gt8
+    returns-else-s-m-gt8)

@@ -6,4 +6,7 @@ returns : tie.Need-returns
 returns c = turned_byte c.args.byte c.ranges.byte.fits
 
 pub turned_spec : {M : Type 1} → statement M
-turned_spec = tie.close (tie.spec returns)
+turned_spec =
+    tie.close
+    (tie.spec
+    returns)

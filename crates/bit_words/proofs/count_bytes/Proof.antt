@@ -9,97 +9,97 @@ use Rattle.bitmap.proofs.OnesLaws.{ones_mod_le, whole_byte, ones_bits, trues-non
 use Rattle.bit_words.proofs.count_bytes.Statement.{statement}
 use Rattle.bit_words.proofs.count_bytes.Tie as tie
 
-abbrev invariant-loop : tie.invariant-loop
-invariant-loop bitmap from n found₀ k₀ left₀ found k left = (found + trues (tab (bit_at bitmap) (8 * k) left) ≡ trues (tab (bit_at bitmap) (8 * from) n)) × (8 * k + left ≡ 8 * from + n) × (found + left ≤ n)
+abbrev invariant-loop-left : tie.invariant-loop-left
+invariant-loop-left bitmap from n found₀ k₀ left₀ found k left = (found + trues (tab (bit_at bitmap) (8 * k) left) ≡ trues (tab (bit_at bitmap) (8 * from) n)) × (8 * k + left ≡ 8 * from + n) × (found + left ≤ n)
 
-abbrev decreases-loop : tie.decreases-loop
-decreases-loop bitmap from n found₀ k₀ left₀ found k left = left
+abbrev decreases-loop-left : tie.decreases-loop-left
+decreases-loop-left bitmap from n found₀ k₀ left₀ found k left = left
 
-abbrev start : tie.At-loop invariant-loop decreases-loop → tie.Start invariant-loop decreases-loop
+abbrev start : tie.At-loop-left invariant-loop-left decreases-loop-left → tie.Start invariant-loop-left decreases-loop-left
 start c = c.before.before
 
 -- the loop, from a turn, from its end, and from the last byte
-abbrev turn : tie.After-ones-below invariant-loop decreases-loop → tie.At-loop invariant-loop decreases-loop
+abbrev turn : tie.After-ones_below-found invariant-loop-left decreases-loop-left → tie.At-loop-left invariant-loop-left decreases-loop-left
 turn c = c.before.before.before
 
-abbrev none : tie.Then1 invariant-loop decreases-loop → tie.At-loop invariant-loop decreases-loop
+abbrev none : tie.Then-left-eq0 invariant-loop-left decreases-loop-left → tie.At-loop-left invariant-loop-left decreases-loop-left
 none c = c.before.before
 
-abbrev last : tie.After-ones-below2 invariant-loop decreases-loop → tie.At-loop invariant-loop decreases-loop
+abbrev last : tie.After-ones_below invariant-loop-left decreases-loop-left → tie.At-loop-left invariant-loop-left decreases-loop-left
 last c = c.before.before.before.before
 
-loop-holds : tie.Need-loop-init invariant-loop decreases-loop
-loop-holds c = (omega arith, omega arith, omega arith)
+loop-left-init : tie.Need-loop-left-init invariant-loop-left decreases-loop-left
+loop-left-init c = (omega arith, omega arith, omega arith)
 
-shared-slice-read-ones-below : tie.Need-shared-slice-read-ones-below invariant-loop decreases-loop
-shared-slice-read-ones-below c = omega arith
+bounds-bitmap-k : tie.Need-bounds-bitmap-k invariant-loop-left decreases-loop-left
+bounds-bitmap-k c = omega arith
 
-ones-below-requires : tie.Need-ones-below-requires invariant-loop decreases-loop
-ones-below-requires c κs = omega arith
+ones_below-found-requires : tie.Need-ones_below-found-requires invariant-loop-left decreases-loop-left
+ones_below-found-requires c κs = omega arith
 
-add-found : tie.Need-overflow-add-found invariant-loop decreases-loop
-add-found c =
+overflow_add-found : tie.Need-overflow_add-found invariant-loop-left decreases-loop-left
+overflow_add-found c =
     let l = (turn c).loop in
     let a = (start (turn c)).args in
-    omega (arith, c.ones_below.ensures, ones_mod_le (get_or a.bitmap.now l.k 0) 8)
+    omega (arith, c.ones_below-found.ensures, ones_mod_le (get_or a.bitmap.now l.k 0) 8)
 
-add-k : tie.Need-overflow-add-k invariant-loop decreases-loop
-add-k c = omega arith
+overflow_add-k : tie.Need-overflow_add-k invariant-loop-left decreases-loop-left
+overflow_add-k c = omega arith
 
-sub-left : tie.Need-overflow-sub-left invariant-loop decreases-loop
-sub-left c = omega arith
+overflow_sub-left : tie.Need-overflow_sub-left invariant-loop-left decreases-loop-left
+overflow_sub-left c = omega arith
 
-loop-less : tie.Need-loop-smaller invariant-loop decreases-loop
-loop-less c = omega arith
+loop-left-smaller : tie.Need-loop-left-smaller invariant-loop-left decreases-loop-left
+loop-left-smaller c = omega arith
 
-loop-again : tie.Need-loop-preserved invariant-loop decreases-loop
-loop-again c =
+loop-left-preserved : tie.Need-loop-left-preserved invariant-loop-left decreases-loop-left
+loop-left-preserved c =
     let l = (turn c).loop in
     let a = (start (turn c)).args in
     let w = whole_byte a.bitmap.now l.k l.left (omega arith) in
     let m = ones_mod_le (get_or a.bitmap.now l.k 0) 8 in
-    (omega (arith, c.ones_below.ensures), omega arith, omega (arith, c.ones_below.ensures))
+    (omega (arith, c.ones_below-found.ensures), omega arith, omega (arith, c.ones_below-found.ensures))
 
-returns : tie.Need-returns invariant-loop decreases-loop
-returns c =
+returns-then-left-eq0 : tie.Need-returns-then-left-eq0 invariant-loop-left decreases-loop-left
+returns-then-left-eq0 c =
     let l = (none c).loop in
     let a = (start (none c)).args in
-    omega (arith, rw (← c.if1.true) at (trues-none (bit_at a.bitmap.now) (8 * l.k)))
+    omega (arith, rw (← c.if-left-eq0.true) at (trues-none (bit_at a.bitmap.now) (8 * l.k)))
 
-shared-slice-read-ones-below-2 : tie.Need-shared-slice-read-ones-below-2 invariant-loop decreases-loop
-shared-slice-read-ones-below-2 c = omega arith
+bounds-bitmap-k-2 : tie.Need-bounds-bitmap-k-2 invariant-loop-left decreases-loop-left
+bounds-bitmap-k-2 c = omega arith
 
-ones-below-requires-2 : tie.Need-ones-below-requires-2 invariant-loop decreases-loop
-ones-below-requires-2 c κs = omega arith
+ones_below-requires : tie.Need-ones_below-requires invariant-loop-left decreases-loop-left
+ones_below-requires c κs = omega arith
 
-add-result : tie.Need-overflow-add-result invariant-loop decreases-loop
-add-result c =
+overflow_add-result : tie.Need-overflow_add-result invariant-loop-left decreases-loop-left
+overflow_add-result c =
     let l = (last c).loop in
     let a = (start (last c)).args in
-    omega (arith, c.ones-below2.ensures, ones_mod_le (get_or a.bitmap.now l.k 0) l.left)
+    omega (arith, c.ones_below.ensures, ones_mod_le (get_or a.bitmap.now l.k 0) l.left)
 
-returns-2 : tie.Need-returns-2 invariant-loop decreases-loop
-returns-2 c =
+returns : tie.Need-returns invariant-loop-left decreases-loop-left
+returns c =
     let l = (last c).loop in
     let a = (start (last c)).args in
-    omega (arith, c.ones-below2.ensures, ones_bits a.bitmap.now l.k l.left (omega arith))
+    omega (arith, c.ones_below.ensures, ones_bits a.bitmap.now l.k l.left (omega arith))
 
-pub count-bytes_spec : {M : Type 1} → statement M
-count-bytes_spec =
+pub count_bytes_spec : {M : Type 1} → statement M
+count_bytes_spec =
     tie.close
     (tie.spec
-    invariant-loop
-    decreases-loop
-    loop-holds
-    shared-slice-read-ones-below
-    ones-below-requires
-    add-found
-    add-k
-    sub-left
-    loop-less
-    loop-again
-    returns
-    shared-slice-read-ones-below-2
-    ones-below-requires-2
-    add-result
-    returns-2)
+    invariant-loop-left
+    decreases-loop-left
+    loop-left-init
+    bounds-bitmap-k
+    ones_below-found-requires
+    overflow_add-found
+    overflow_add-k
+    overflow_sub-left
+    loop-left-smaller
+    loop-left-preserved
+    returns-then-left-eq0
+    bounds-bitmap-k-2
+    ones_below-requires
+    overflow_add-result
+    returns)

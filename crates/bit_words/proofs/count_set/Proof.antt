@@ -10,72 +10,72 @@ use Rattle.model.specs.Bitmap.{bit_at}
 use Rattle.bit_words.proofs.count_set.Statement.{statement}
 use Rattle.bit_words.proofs.count_set.Tie as tie
 
-abbrev invariant-loop : tie.invariant-loop
-invariant-loop bitmap n found₀ k₀ left₀ found k left = (found + trues (tab (bit_at bitmap) (8 * k) left) ≡ trues (tab (bit_at bitmap) 0 n)) × (8 * k + left ≡ n) × (found + left ≤ n)
+abbrev invariant-loop-left : tie.invariant-loop-left
+invariant-loop-left bitmap n found₀ k₀ left₀ found k left = (found + trues (tab (bit_at bitmap) (8 * k) left) ≡ trues (tab (bit_at bitmap) 0 n)) × (8 * k + left ≡ n) × (found + left ≤ n)
 
-abbrev decreases-loop : tie.decreases-loop
-decreases-loop bitmap n found₀ k₀ left₀ found k left = left
+abbrev decreases-loop-left : tie.decreases-loop-left
+decreases-loop-left bitmap n found₀ k₀ left₀ found k left = left
 
-abbrev start : tie.At-loop invariant-loop decreases-loop → tie.Start invariant-loop decreases-loop
+abbrev start : tie.At-loop-left invariant-loop-left decreases-loop-left → tie.Start invariant-loop-left decreases-loop-left
 start c = c.before.before
 
-abbrev turn : tie.After-word-at invariant-loop decreases-loop → tie.At-loop invariant-loop decreases-loop
+abbrev turn : tie.After-word_at invariant-loop-left decreases-loop-left → tie.At-loop-left invariant-loop-left decreases-loop-left
 turn c = c.before.before
 
-abbrev over : tie.After-count-bytes invariant-loop decreases-loop → tie.At-loop invariant-loop decreases-loop
+abbrev over : tie.After-count_bytes invariant-loop-left decreases-loop-left → tie.At-loop-left invariant-loop-left decreases-loop-left
 over c = c.before.before
 
-loop-holds : tie.Need-loop-init invariant-loop decreases-loop
-loop-holds c = (omega arith, omega arith, omega arith)
+loop-left-init : tie.Need-loop-left-init invariant-loop-left decreases-loop-left
+loop-left-init c = (omega arith, omega arith, omega arith)
 
-word-at-requires : tie.Need-word-at-requires invariant-loop decreases-loop
-word-at-requires c κs = omega arith
+word_at-requires : tie.Need-word_at-requires invariant-loop-left decreases-loop-left
+word_at-requires c κs = omega arith
 
-cast-found : tie.Need-overflow-cast-found invariant-loop decreases-loop
-cast-found c = omega (arith, ones-le 64 c.word_at.result c.word_at.type-inv)
+overflow_cast-found : tie.Need-overflow_cast-found invariant-loop-left decreases-loop-left
+overflow_cast-found c = omega (arith, ones-le 64 c.word_at.result c.word_at.type_inv)
 
-add-found : tie.Need-overflow-add-found invariant-loop decreases-loop
-add-found c = omega (arith, ones-le 64 c.word_at.result c.word_at.type-inv)
+overflow_add-found : tie.Need-overflow_add-found invariant-loop-left decreases-loop-left
+overflow_add-found c = omega (arith, ones-le 64 c.word_at.result c.word_at.type_inv)
 
-add-k : tie.Need-overflow-add-k invariant-loop decreases-loop
-add-k c = omega arith
+overflow_add-k : tie.Need-overflow_add-k invariant-loop-left decreases-loop-left
+overflow_add-k c = omega arith
 
-loop-less : tie.Need-loop-smaller invariant-loop decreases-loop
-loop-less c = omega arith
+loop-left-smaller : tie.Need-loop-left-smaller invariant-loop-left decreases-loop-left
+loop-left-smaller c = omega arith
 
-loop-again : tie.Need-loop-preserved invariant-loop decreases-loop
-loop-again c =
+loop-left-preserved : tie.Need-loop-left-preserved invariant-loop-left decreases-loop-left
+loop-left-preserved c =
     let l = (turn c).loop in
     let a = (start (turn c)).args in
     let x = c.word_at.result in
-    let w = word_counted (bit_at a.bitmap.now) (8 * l.k) (8 * (l.k + 8)) l.left x c.before.loop-test.true (omega arith) c.word_at.ensures c.word_at.type-inv in
-    (omega arith, omega arith, omega (arith, ones-le 64 x c.word_at.type-inv))
+    let w = word_counted (bit_at a.bitmap.now) (8 * l.k) (8 * (l.k + 8)) l.left x c.loop-left-test.true (omega arith) c.word_at.ensures c.word_at.type_inv in
+    (omega arith, omega arith, omega (arith, ones-le 64 x c.word_at.type_inv))
 
-count-bytes-requires : tie.Need-count-bytes-requires invariant-loop decreases-loop
-count-bytes-requires c κs = omega arith
+count_bytes-requires : tie.Need-count_bytes-requires invariant-loop-left decreases-loop-left
+count_bytes-requires c κs = omega arith
 
-add-result : tie.Need-overflow-add-result invariant-loop decreases-loop
-add-result c =
+overflow_add-result : tie.Need-overflow_add-result invariant-loop-left decreases-loop-left
+overflow_add-result c =
     let l = (over c).loop in
     let a = (start (over c)).args in
-    omega (arith, c.count-bytes.ensures, trues-tab (bit_at a.bitmap.now) (8 * l.k) l.left)
+    omega (arith, c.count_bytes.ensures, trues-tab (bit_at a.bitmap.now) (8 * l.k) l.left)
 
-returns : tie.Need-returns invariant-loop decreases-loop
-returns c = omega (arith, c.count-bytes.ensures)
+returns : tie.Need-returns invariant-loop-left decreases-loop-left
+returns c = omega (arith, c.count_bytes.ensures)
 
-pub count-set_spec : {M : Type 1} → statement M
-count-set_spec =
+pub count_set_spec : {M : Type 1} → statement M
+count_set_spec =
     tie.close
     (tie.spec
-    invariant-loop
-    decreases-loop
-    loop-holds
-    word-at-requires
-    cast-found
-    add-found
-    add-k
-    loop-less
-    loop-again
-    count-bytes-requires
-    add-result
+    invariant-loop-left
+    decreases-loop-left
+    loop-left-init
+    word_at-requires
+    overflow_cast-found
+    overflow_add-found
+    overflow_add-k
+    loop-left-smaller
+    loop-left-preserved
+    count_bytes-requires
+    overflow_add-result
     returns)

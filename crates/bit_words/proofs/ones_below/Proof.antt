@@ -10,30 +10,38 @@ use Rattle.bit_words.proofs.ones_below.Statement.{statement}
 use Rattle.bit_words.proofs.ones_below.Tie as tie
 
 -- the bit that is shifted stays in the byte
-shifted : (c : tie.Else1) → 1 * 2 ^ c.before.args.m % 256 ≡ 2 ^ c.before.args.m
-shifted c = shl_exact {a = 1} 1 c.before.args.m 8 (omega arith) (omega arith) ∙ omega arith
+shifted : (c : tie.Else-m-eq8) → 1 * 2 ^ c.args.m % 256 ≡ 2 ^ c.args.m
+shifted c = shl_exact {a = 1} 1 c.args.m 8 (omega arith) (omega arith) ∙ omega arith
 
-cast-result : tie.Need-overflow-cast-result
-cast-result c = omega (arith, ones-le 8 c.before.args.byte c.before.ranges.byte.fits)
+overflow_cast-result : tie.Need-overflow_cast-result
+overflow_cast-result c = omega (arith, ones-le 8 c.args.byte c.ranges.byte.fits)
+
+returns-then-m-eq8 : tie.Need-returns-then-m-eq8
+returns-then-m-eq8 c = let e : c.args.m ≡ 8 = omega (arith, c.if-m-eq8.true) in rw (e, mod-eq_of_lt c.ranges.byte.fits)
+
+overflow_cast-mask : tie.Need-overflow_cast-mask
+overflow_cast-mask c = omega arith
+
+overflow_shl-mask : tie.Need-overflow_shl-mask
+overflow_shl-mask c = omega arith
+
+overflow_sub-mask : tie.Need-overflow_sub-mask
+overflow_sub-mask c = rw (shifted c) (pow_pos c.args.m)
+
+overflow_cast-result-2 : tie.Need-overflow_cast-result-2
+overflow_cast-result-2 c = rw (shifted c, and_mask c.args.byte c.args.m) (omega (arith, ones_mod_le c.args.byte c.args.m))
 
 returns : tie.Need-returns
-returns c = let e : c.before.args.m ≡ 8 = omega (arith, c.if1.true) in rw (e, mod-eq_of_lt c.before.ranges.byte.fits)
-
-cast-mask : tie.Need-overflow-cast-mask
-cast-mask c = omega arith
-
-shl-mask : tie.Need-overflow-shl-mask
-shl-mask c = omega arith
-
-sub-mask : tie.Need-overflow-sub-mask
-sub-mask c = rw (shifted c) (pow_pos c.before.args.m)
-
-cast-result-2 : tie.Need-overflow-cast-result-2
-cast-result-2 c = rw (shifted c, and_mask c.before.args.byte c.before.args.m) (omega (arith, ones_mod_le c.before.args.byte c.before.args.m))
-
-returns-2 : tie.Need-returns-2
-returns-2 c = rw (shifted c, and_mask c.before.args.byte c.before.args.m)
+returns c = rw (shifted c, and_mask c.args.byte c.args.m)
 
 pub ones_below_spec : {M : Type 1} → statement M
 ones_below_spec =
-    tie.close (tie.spec cast-result returns cast-mask shl-mask sub-mask cast-result-2 returns-2)
+    tie.close
+    (tie.spec
+    overflow_cast-result
+    returns-then-m-eq8
+    overflow_cast-mask
+    overflow_shl-mask
+    overflow_sub-mask
+    overflow_cast-result-2
+    returns)

@@ -10,78 +10,78 @@ use Rattle.bit_words.proofs.push_word.Statement.{statement}
 use Rattle.bit_words.proofs.push_word.Tie as tie
 
 -- after all of the word is put, and where the place was tested
-abbrev whole : tie.After-slice-known2 → tie.After-put-word
+abbrev whole : tie.After-slice_known-then-s-eq0-1 → tie.After-put_word
 whole c = c.before.before
 
-abbrev even : tie.After-put-word → tie.Then1
+abbrev even : tie.After-put_word → tie.Then-s-eq0
 even c = c.before.before
 
 -- after the bits past the byte begun are put, and where the place was tested
-abbrev rest : tie.After-slice-known4 → tie.After-put-word2
+abbrev rest : tie.After-slice_known-3-1 → tie.After-put_word-2
 rest c = c.before.before
 
-abbrev begun : tie.After-put-word2 → tie.Else1
+abbrev begun : tie.After-put_word-2 → tie.Else-s-eq0
 begun c = c.before.before.before
 
-put-word-requires : tie.Need-put-word-requires
-put-word-requires c κs = omega (arith, c.before.if1.true)
+put_word-requires : tie.Need-put_word-requires
+put_word-requires c κs = omega (arith, c.if-s-eq0.true)
 
-same_length : tie.Need-same-length
-same_length c = (whole c).put_word.auto.0
+shape_of-out-then-s-eq0 : tie.Need-shape_of-out-then-s-eq0
+shape_of-out-then-s-eq0 c = (whole c).put_word.auto.0
+
+returns-then-s-eq0 : tie.Need-returns-then-s-eq0
+returns-then-s-eq0 c =
+    let a = (even (whole c)).args in
+    let e : 8 * (a.at / 8) ≡ a.at = omega (arith, (even (whole c)).if-s-eq0.true) in
+    (whole c).put_word.ensures ∙ ap (λ (r : ℕ). push_bits a.out-1.now r (low_bits a.word 64)) e
+
+bounds-out-k : tie.Need-bounds-out-k
+bounds-out-k c = omega arith
+
+overflow_shl-out : tie.Need-overflow_shl-out
+overflow_shl-out c = omega arith
+
+overflow_cast-out : tie.Need-overflow_cast-out
+overflow_cast-out c = let a = c.args in record { fits = mask_lt (a.word * 2 ^ (a.at % 8) % 2 ^ 64) 8 }
+
+bounds-out-k-2 : tie.Need-bounds-out-k-2
+bounds-out-k-2 c = omega arith
+
+overflow_add-k : tie.Need-overflow_add-k
+overflow_add-k c = omega arith
+
+overflow_sub-s : tie.Need-overflow_sub-s
+overflow_sub-s c = omega arith
+
+overflow_shr-word : tie.Need-overflow_shr-word
+overflow_shr-word c = omega arith
+
+put_word-requires-2 : tie.Need-put_word-requires-2
+put_word-requires-2 c κs = simp length-set (omega (arith, c.if-s-eq0.false))
+
+shape_of-out : tie.Need-shape_of-out
+shape_of-out c = (rest c).put-word2.auto.0 ∙ simp length-set
 
 returns : tie.Need-returns
 returns c =
-    let a = (even (whole c)).before.before.args in
-    let e : 8 * (a.at / 8) ≡ a.at = omega (arith, (even (whole c)).if1.true) in
-    (whole c).put_word.ensures ∙ ap (λ (r : ℕ). push_bits a.out.now r (low_bits a.word 64)) e
-
-slice-read-byte : tie.Need-slice-read-byte
-slice-read-byte c = omega arith
-
-shl-out : tie.Need-overflow-shl-out
-shl-out c = omega arith
-
-cast-out : tie.Need-overflow-cast-out
-cast-out c = let a = c.before.before.before.args in record { fits = mask_lt (a.word * 2 ^ (a.at % 8) % 2 ^ 64) 8 }
-
-slice-write-out : tie.Need-slice-write-out
-slice-write-out c = omega arith
-
-add-put-word : tie.Need-overflow-add-put-word
-add-put-word c = omega arith
-
-sub-put-word : tie.Need-overflow-sub-put-word
-sub-put-word c = omega arith
-
-shr-put-word : tie.Need-overflow-shr-put-word
-shr-put-word c = omega arith
-
-put-word-requires-2 : tie.Need-put-word-requires-2
-put-word-requires-2 c κs = simp length-set (omega (arith, c.before.before.if1.false))
-
-same-length-2 : tie.Need-same-length-2
-same-length-2 c = (rest c).put-word2.auto.0 ∙ simp length-set
-
-returns-2 : tie.Need-returns-2
-returns-2 c =
     let e = begun (rest c) in
     let s = e.before.before in
-    (rest c).put-word2.ensures ∙ word_shifted s.args.word s.args.out.now s.args.at (omega (arith, s.pre)) (omega (arith, e.if1.left)) s.fits.word.fits
+    (rest c).put-word2.ensures ∙ word_shifted s.args.word s.args.out.now s.args.at (omega (arith, s.requires)) (omega (arith, e.if-s-eq0.false)) s.ranges.word.fits
 
 pub push_word_spec : {M : Type 1} → statement M
 push_word_spec =
     tie.close
     (tie.spec
-    put-word-requires
-    same_length
-    returns
-    slice-read-byte
-    shl-out
-    cast-out
-    slice-write-out
-    add-put-word
-    sub-put-word
-    shr-put-word
-    put-word-requires-2
-    same-length-2
-    returns-2)
+    put_word-requires
+    shape_of-out-then-s-eq0
+    returns-then-s-eq0
+    bounds-out-k
+    overflow_shl-out
+    overflow_cast-out
+    bounds-out-k-2
+    overflow_add-k
+    overflow_sub-s
+    overflow_shr-word
+    put_word-requires-2
+    shape_of-out
+    returns)

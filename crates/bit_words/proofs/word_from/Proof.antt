@@ -6,40 +6,40 @@ use Rattle.model.specs.Bitmap.{bit_at}
 use Rattle.bit_words.proofs.word_from.Statement.{statement}
 use Rattle.bit_words.proofs.word_from.Tie as tie
 
-abbrev start : tie.After-word-at → tie.Start
+abbrev start : tie.After-word_at → tie.Start
 start c = c.before.before
 
-abbrev word : tie.After-wide → tie.After-word-at
+abbrev word : tie.After-wide → tie.After-word_at
 word c = c.before.before.before
 
-word-at-requires : tie.Need-word-at-requires
-word-at-requires c κs = omega arith
+word_at-requires : tie.Need-word_at-requires
+word_at-requires c κs = omega arith
 
-shr-low : tie.Need-overflow-shr-low
-shr-low c = omega arith
+overflow_shr-low : tie.Need-overflow_shr-low
+overflow_shr-low c = omega arith
 
-returns : tie.Need-returns
-returns c =
+returns-then-s-eq0 : tie.Need-returns-then-s-eq0
+returns-then-s-eq0 c =
     let a = (start c.before).args in
-    rw c.if1.true (low_drop (bit_at a.bitmap.now) 0 64 c.before.word_at.result (8 * a.k) c.before.word_at.ensures)
+    rw c.if-s-eq0.true (low_drop (bit_at a.bitmap.now) 0 64 c.word_at.result (8 * a.k) c.word_at.ensures)
 
-add_wide : tie.Need-overflow-add-wide
-add_wide c = omega arith
+overflow_add-k : tie.Need-overflow_add-k
+overflow_add-k c = omega arith
 
-shared-slice-read-wide : tie.Need-shared-slice-read-wide
-shared-slice-read-wide c = omega (arith, c.before.if1.false)
+bounds-bitmap-k : tie.Need-bounds-bitmap-k
+bounds-bitmap-k c = omega (arith, c.if-s-eq0.false)
 
 wide-requires : tie.Need-wide-requires
 wide-requires c κs = tt
 
-sub-result : tie.Need-overflow-sub-result
-sub-result c = omega arith
+overflow_sub-result : tie.Need-overflow_sub-result
+overflow_sub-result c = omega arith
 
-shl-result : tie.Need-overflow-shl-result
-shl-result c = omega arith
+overflow_shl-result : tie.Need-overflow_shl-result
+overflow_shl-result c = omega arith
 
-returns-2 : tie.Need-returns-2
-returns-2 c =
+returns : tie.Need-returns
+returns c =
     let w = (word c).word_at in
     let a = (start (word c)).args in
     let e : a.s + (64 - a.s) ≡ 64 = omega arith in
@@ -50,12 +50,12 @@ pub word_from_spec : {M : Type 1} → statement M
 word_from_spec =
     tie.close
     (tie.spec
-    word-at-requires
-    shr-low
-    returns
-    add_wide
-    shared-slice-read-wide
+    word_at-requires
+    overflow_shr-low
+    returns-then-s-eq0
+    overflow_add-k
+    bounds-bitmap-k
     wide-requires
-    sub-result
-    shl-result
-    returns-2)
+    overflow_sub-result
+    overflow_shl-result
+    returns)

@@ -4,16 +4,21 @@ use borrow.Author.Rules.{rules}
 use Rattle.bitmap.proofs.is_short.Statement.{statement}
 use Rattle.bitmap.proofs.is_short.Tie as tie
 
+returns-then-bitmap-eq0 : tie.Need-returns-then-bitmap-eq0
+unfolding short_bits
+returns-then-bitmap-eq0 c = rw (eq-eqb _ _ c.if-bitmap-eq0.true)
+
+bytes_from-requires : tie.Need-bytes_from-requires
+bytes_from-requires c κs = search rules
+
 returns : tie.Need-returns
 unfolding short_bits
-returns c = rw (eq-eqb _ _ c.if1.true)
-
-bytes-from-requires : tie.Need-bytes-from-requires
-bytes-from-requires c κs = search rules
-
-returns-2 : tie.Need-returns-2
-unfolding short_bits
-returns-2 c = rw (ne_eqb _ _ c.before.if1.false, c.bytes-from.ensures)
+returns c = rw (ne_eqb _ _ c.if-bitmap-eq0.false, c.bytes_from.ensures)
 
 pub is_short_spec : {M : Type 1} → statement M
-is_short_spec = tie.close (tie.spec returns bytes-from-requires returns-2)
+is_short_spec =
+    tie.close
+    (tie.spec
+    returns-then-bitmap-eq0
+    bytes_from-requires
+    returns)

@@ -7,53 +7,53 @@ use borrow.Author.Rules.{rules}
 use Rattle.bitmap.proofs.push_bit.Statement.{statement}
 use Rattle.bitmap.proofs.push_bit.Tie as tie
 
-cast-bitmap : tie.Need-overflow-cast-bitmap
-cast-bitmap c = search rules
+overflow_cast-bitmap : tie.Need-overflow_cast-bitmap
+overflow_cast-bitmap c = search rules
 
-slice-write-bitmap : tie.Need-slice-write-bitmap
-slice-write-bitmap c = search rules
+bounds-bitmap-at : tie.Need-bounds-bitmap-at
+bounds-bitmap-at c = search rules
 
-slice-read-byte : tie.Need-slice-read-byte
-slice-read-byte c = search rules
+bounds-bitmap-at-else-i-eq0 : tie.Need-bounds-bitmap-at-else-i-eq0
+bounds-bitmap-at-else-i-eq0 c = search rules
 
-cast-bitmap-2 : tie.Need-overflow-cast-bitmap-2
-cast-bitmap-2 c = search rules
+overflow_cast-bitmap-else-i-eq0 : tie.Need-overflow_cast-bitmap-else-i-eq0
+overflow_cast-bitmap-else-i-eq0 c = search rules
 
-cast-bitmap-3 : tie.Need-overflow-cast-bitmap-3
-cast-bitmap-3 c = search rules
+overflow_cast-bitmap-else-i-eq0-2 : tie.Need-overflow_cast-bitmap-else-i-eq0-2
+overflow_cast-bitmap-else-i-eq0-2 c = search rules
 
-shl-bitmap : tie.Need-overflow-shl-bitmap
-shl-bitmap c = search rules
+overflow_shl-bitmap : tie.Need-overflow_shl-bitmap
+overflow_shl-bitmap c = search rules
 
-slice-write-bitmap-2 : tie.Need-slice-write-bitmap-2
-slice-write-bitmap-2 c = search rules
+bounds-bitmap-at-else-i-eq0-2 : tie.Need-bounds-bitmap-at-else-i-eq0-2
+bounds-bitmap-at-else-i-eq0-2 c = search rules
 
-same_length : tie.Need-same-length
-same_length c = search rules
+shape_of-bitmap-then-i-eq0 : tie.Need-shape_of-bitmap-then-i-eq0
+shape_of-bitmap-then-i-eq0 c = search rules
 
-returns : tie.Need-returns
+returns-then-i-eq0 : tie.Need-returns-then-i-eq0
 unfolding push_bit
-returns c = rw (eq-eqb _ _ c.if1.true, bit_byte)
+returns-then-i-eq0 c = rw (eq-eqb _ _ c.if-i-eq0.true, bit_byte)
 
-same-length-2 : tie.Need-same-length-2
-same-length-2 c = search rules
+shape_of-bitmap-else-i-eq0 : tie.Need-shape_of-bitmap-else-i-eq0
+shape_of-bitmap-else-i-eq0 c = search rules
 
-returns-2 : tie.Need-returns-2
+returns-else-i-eq0 : tie.Need-returns-else-i-eq0
 unfolding push_bit
-returns-2 c = rw (ne_eqb _ _ c.before.if1.false, bit_shifted c.before.before.args.on (c.before.before.args.i % 8) (omega arith))
+returns-else-i-eq0 c = rw (ne_eqb _ _ c.if-i-eq0.false, bit_shifted c.args.on (c.args.i % 8) (omega arith))
 
 pub push_bit_spec : {M : Type 1} → statement M
 push_bit_spec =
     tie.close
     (tie.spec
-    cast-bitmap
-    slice-write-bitmap
-    slice-read-byte
-    cast-bitmap-2
-    cast-bitmap-3
-    shl-bitmap
-    slice-write-bitmap-2
-    same_length
-    returns
-    same-length-2
-    returns-2)
+    overflow_cast-bitmap
+    bounds-bitmap-at
+    bounds-bitmap-at-else-i-eq0
+    overflow_cast-bitmap-else-i-eq0
+    overflow_cast-bitmap-else-i-eq0-2
+    overflow_shl-bitmap
+    bounds-bitmap-at-else-i-eq0-2
+    shape_of-bitmap-then-i-eq0
+    returns-then-i-eq0
+    shape_of-bitmap-else-i-eq0
+    returns-else-i-eq0)

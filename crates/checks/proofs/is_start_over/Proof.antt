@@ -3,11 +3,15 @@ use native.Mathlib.Omega.{arith}
 use Rattle.checks.proofs.is_start_over.Statement.{statement}
 use Rattle.checks.proofs.is_start_over.Tie as tie
 
+returns-then-rstart-gt7 : tie.Need-returns-then-rstart-gt7
+returns-then-rstart-gt7 c = let a = c.args in rw (lt-ltb 7 a.rstart (omega arith))
+
 returns : tie.Need-returns
-returns c = let a = c.before.args in rw (lt-ltb 7 a.rstart (omega arith))
+returns c = let a = c.args in rw (le-ltb 7 a.rstart (omega arith))
 
-returns-2 : tie.Need-returns-2
-returns-2 c = let a = c.before.args in rw (le-ltb 7 a.rstart (omega arith))
-
-pub is_start-over_spec : {M : Type 1} → statement M
-is_start-over_spec = tie.close (tie.spec returns returns-2)
+pub is_start_over_spec : {M : Type 1} → statement M
+is_start_over_spec =
+    tie.close
+    (tie.spec
+    returns-then-rstart-gt7
+    returns)

@@ -12,77 +12,77 @@ use Rattle.checks.proofs.list_refusal.Statement.{statement}
 use Rattle.checks.proofs.list_refusal.Tie as tie
 
 -- the places that are used below
-abbrev S : tie.Else1 → tie.Start
+abbrev S : tie.Else-is_start_over → tie.Start
 S e = e.before.before.before.before
 
 -- no starting bit is over 7
-none_over : (e : tie.Else1) → (ltb 7 (S e).args.rstart || ltb 7 (S e).args.estart) ≡ false
-none_over e = sym e.before.is-start-over.ensures ∙ e.if1.false
+none_over : (e : tie.Else-is_start_over) → (ltb 7 (S e).args.rstart || ltb 7 (S e).args.estart) ≡ false
+none_over e = sym e.is_start_over.ensures ∙ e.if-is_start_over.false
 
-starts : (e : tie.Else1) → (ltb 7 (S e).args.rstart ≡ false) × (ltb 7 (S e).args.estart ≡ false)
+starts : (e : tie.Else-is_start_over) → (ltb 7 (S e).args.rstart ≡ false) × (ltb 7 (S e).args.estart ≡ false)
 starts e = or_none (ltb 7 (S e).args.rstart) (ltb 7 (S e).args.estart) (none_over e)
 
-is-start-over-requires : tie.Need-is-start-over-requires
-is-start-over-requires c κs = search rules
+is_start_over-requires : tie.Need-is_start_over-requires
+is_start_over-requires c κs = search rules
 
-returns : tie.Need-returns
+returns-then-is_start_over : tie.Need-returns-then-is_start_over
 unfolding columns_refusal any refusal13
-returns c = rw (← c.before.is-start-over.ensures, c.if1.true)
+returns-then-is_start_over c = rw (← c.is_start_over.ensures, c.if-is_start_over.true)
 
-are-bad-requires : tie.Need-are-bad-requires
-are-bad-requires c κs = search rules
+are_bad-requires : tie.Need-are_bad-requires
+are_bad-requires c κs = search rules
 
-returns-2 : tie.Need-returns-2
+returns-then-are_bad : tie.Need-returns-then-are_bad
 unfolding columns_refusal any refusal13
-returns-2 c = rw (none_over c.before.before, ← c.before.are-bad.ensures, c.if2.true)
+returns-then-are_bad c = rw (none_over c.before.before, ← c.are_bad.ensures, c.if-are_bad.true)
 
-row-count-requires : tie.Need-row-count-requires
-row-count-requires c κs = search rules
+row_count-requires : tie.Need-row_count-requires
+row_count-requires c κs = search rules
 
-is-short-requires : tie.Need-is-short-requires
-is-short-requires c κs =
+is_short-requires : tie.Need-is_short-requires
+is_short-requires c κs =
     let e = c.before.before.before in
     omega (arith, ltb-false 7 (S e).args.rstart (starts e).0)
 
-returns-3 : tie.Need-returns-3
+returns-then-is_short : tie.Need-returns-then-is_short
 unfolding columns_refusal any refusal13 refusal2
-returns-3 c =
+returns-then-is_short c =
     let b = c.before.before.before.before in
-    let s = rw c.before.before.row_count.ensures at c.before.is-short.ensures in
-    rw (none_over b.before, ← b.are-bad.ensures, c.before.before.before.if2.false, ← s, c.if3.true)
+    let s = rw c.row_count.ensures at c.is_short.ensures in
+    rw (none_over b.before, ← b.are_bad.ensures, c.if-are_bad.false, ← s, c.if-is_short.true)
 
-is-short-requires-2 : tie.Need-is-short-requires-2
-is-short-requires-2 c κs =
+is_short-requires-2 : tie.Need-is_short-requires-2
+is_short-requires-2 c κs =
     let e = c.before.before.before.before.before in
     omega (arith, ltb-false 7 (S e).args.estart (starts e).1)
 
-returns-4 : tie.Need-returns-4
+returns-then-is_short-2 : tie.Need-returns-then-is_short-2
 unfolding columns_refusal any refusal13 refusal2
-returns-4 c =
+returns-then-is_short-2 c =
     let e = c.before.before in
     let b = e.before.before.before.before in
-    let s = rw e.before.before.row_count.ensures at e.before.is-short.ensures in
-    rw (none_over b.before, ← b.are-bad.ensures, e.before.before.before.if2.false, ← s, e.if3.false, ← c.before.is-short2.ensures, c.if4.true)
+    let s = rw e.row_count.ensures at e.is_short.ensures in
+    rw (none_over b.before, ← b.are_bad.ensures, e.if-are_bad.false, ← s, e.if-is_short.false, ← c.is_short-2.ensures, c.if-is_short-2.true)
 
-returns-5 : tie.Need-returns-5
+returns : tie.Need-returns
 unfolding columns_refusal any refusal13 refusal2
-returns-5 c =
+returns c =
     let e = c.before.before in
     let b = e.before.before.before.before in
-    let s = rw e.before.before.row_count.ensures at e.before.is-short.ensures in
-    rw (none_over b.before, ← b.are-bad.ensures, e.before.before.before.if2.false, ← s, e.if3.false, ← c.before.is-short2.ensures, c.if4.false)
+    let s = rw e.row_count.ensures at e.is_short.ensures in
+    rw (none_over b.before, ← b.are_bad.ensures, e.if-are_bad.false, ← s, e.if-is_short.false, ← c.is_short-2.ensures, c.if-is_short-2.false)
 
-pub list-refusal_spec : {M : Type 1} → statement M
-list-refusal_spec =
+pub list_refusal_spec : {M : Type 1} → statement M
+list_refusal_spec =
     tie.close
     (tie.spec
-    is-start-over-requires
-    returns
-    are-bad-requires
-    returns-2
-    row-count-requires
-    is-short-requires
-    returns-3
-    is-short-requires-2
-    returns-4
-    returns-5)
+    is_start_over-requires
+    returns-then-is_start_over
+    are_bad-requires
+    returns-then-are_bad
+    row_count-requires
+    is_short-requires
+    returns-then-is_short
+    is_short-requires-2
+    returns-then-is_short-2
+    returns)

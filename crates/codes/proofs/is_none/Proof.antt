@@ -2,26 +2,34 @@ use Rattle.codes.specs.Codes.{is_none}
 use Rattle.codes.proofs.is_none.Statement.{statement}
 use Rattle.codes.proofs.is_none.Tie as tie
 
-enum_told : tie.Need-enum-told
-enum_told c = search
+enum_told-1 : tie.Need-enum_told-1
+enum_told-1 c = search
 
-enum-told-2 : tie.Need-enum-told-2
-enum-told-2 c = search
+enum_told-in-Two : tie.Need-enum_told-in-Two
+enum_told-in-Two c = search
 
-enum-told-3 : tie.Need-enum-told-3
-enum-told-3 c = search
+enum_told-in-None : tie.Need-enum_told-in-None
+enum_told-in-None c = search
 
-returns : tie.Need-returns
+returns-in-One : tie.Need-returns-in-One
 unfolding is_none
-returns c = rw c.enum_told.given.1
+returns-in-One c = rw c.in-One.is
 
-returns-2 : tie.Need-returns-2
+returns-in-Two : tie.Need-returns-in-Two
 unfolding is_none
-returns-2 c = rw c.enum-told2.given.1
+returns-in-Two c = rw c.in-Two.is
 
-returns-3 : tie.Need-returns-3
+returns-in-None : tie.Need-returns-in-None
 unfolding is_none
-returns-3 c = rw c.enum-told3.given.1
+returns-in-None c = rw c.in-None.is
 
 pub is_none_spec : {M : Type 1} → statement M
-is_none_spec = tie.close (tie.spec enum_told enum-told-2 enum-told-3 returns returns-2 returns-3)
+is_none_spec =
+    tie.close
+    (tie.spec
+    enum_told-1
+    enum_told-in-Two
+    enum_told-in-None
+    returns-in-One
+    returns-in-Two
+    returns-in-None)

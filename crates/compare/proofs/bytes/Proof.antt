@@ -4,51 +4,51 @@ use Rattle.compare.proofs.SameLaws.{Upto, begun, more, done, apart_lengths, apar
 use Rattle.compare.proofs.bytes.Statement.{statement}
 use Rattle.compare.proofs.bytes.Tie as tie
 
-abbrev invariant-loop : tie.invariant-loop
-invariant-loop got want k₀ k-end k = Upto 0 got want k
+abbrev invariant-loop-k : tie.invariant-loop-k
+invariant-loop-k got want k₀ k-end k = Upto 0 got want k
 
-abbrev decreases-loop : tie.decreases-loop
-decreases-loop got want k₀ k-end k = k-end - k
+abbrev decreases-loop-k : tie.decreases-loop-k
+decreases-loop-k got want k₀ k-end k = k-end - k
 
-returns : tie.Need-returns invariant-loop decreases-loop
-returns c = apart_lengths c.if1.true
+returns-then-got-want : tie.Need-returns-then-got-want invariant-loop-k decreases-loop-k
+returns-then-got-want c = apart_lengths c.if-got-want.true
 
-loop-holds : tie.Need-loop-init invariant-loop decreases-loop
-loop-holds c = begun c.if1.false
+loop-k-init : tie.Need-loop-k-init invariant-loop-k decreases-loop-k
+loop-k-init c = begun c.if-got-want.false
 
-shared-slice-read-if2 : tie.Need-shared-slice-read-if2 invariant-loop decreases-loop
-shared-slice-read-if2 c = omega arith
+bounds-got-k : tie.Need-bounds-got-k invariant-loop-k decreases-loop-k
+bounds-got-k c = omega arith
 
-shared-slice-read-if2-2 : tie.Need-shared-slice-read-if2-2 invariant-loop decreases-loop
-shared-slice-read-if2-2 c = omega arith
+bounds-want-k : tie.Need-bounds-want-k invariant-loop-k decreases-loop-k
+bounds-want-k c = omega arith
 
-returns-2 : tie.Need-returns-2 invariant-loop decreases-loop
-returns-2 c = apart_at 0 _ c.if2.true
+returns-then-got-k : tie.Need-returns-then-got-k invariant-loop-k decreases-loop-k
+returns-then-got-k c = apart_at 0 _ c.if-got-k.true
 
-add-k : tie.Need-overflow-add-k invariant-loop decreases-loop
-add-k c = omega arith
+overflow_step-k : tie.Need-overflow_step-k invariant-loop-k decreases-loop-k
+overflow_step-k c = omega arith
 
-loop-less : tie.Need-loop-smaller invariant-loop decreases-loop
-loop-less c = omega arith
+loop-k-smaller : tie.Need-loop-k-smaller invariant-loop-k decreases-loop-k
+loop-k-smaller c = omega arith
 
-loop-again : tie.Need-loop-preserved invariant-loop decreases-loop
-loop-again c = more c.before.before.before.before.loop.invariant c.if2.false
+loop-k-preserved : tie.Need-loop-k-preserved invariant-loop-k decreases-loop-k
+loop-k-preserved c = more c.loop-k.invariant c.if-got-k.false
 
-returns-3 : tie.Need-returns-3 invariant-loop decreases-loop
-returns-3 c = done c.before.loop.invariant c.loop-test.false
+returns : tie.Need-returns invariant-loop-k decreases-loop-k
+returns c = done c.loop-k.invariant c.loop-k-test.false
 
 pub bytes_spec : {M : Type 1} → statement M
 bytes_spec =
     tie.close
     (tie.spec
-    invariant-loop
-    decreases-loop
-    returns
-    loop-holds
-    shared-slice-read-if2
-    shared-slice-read-if2-2
-    returns-2
-    add-k
-    loop-less
-    loop-again
-    returns-3)
+    invariant-loop-k
+    decreases-loop-k
+    returns-then-got-want
+    loop-k-init
+    bounds-got-k
+    bounds-want-k
+    returns-then-got-k
+    overflow_step-k
+    loop-k-smaller
+    loop-k-preserved
+    returns)

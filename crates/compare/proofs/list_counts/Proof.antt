@@ -4,17 +4,23 @@ use Rattle.compare.proofs.SameLaws.{apart, list_counts_lem}
 use Rattle.compare.proofs.list_counts_lem.Statement.{statement}
 use Rattle.compare.proofs.list_counts_lem.Tie as tie
 
-enum-known-answer : tie.Need-enum-known-answer
-enum-known-answer c = search rules
+enum_known-answer : tie.Need-enum_known-answer
+enum_known-answer c = search rules
 
-enum_told : tie.Need-enum-told
-enum_told c = search rules
+enum_told-1 : tie.Need-enum_told-1
+enum_told-1 c = search rules
 
-returns : tie.Need-returns
-returns c = list_counts_lem c.before.answer.given.1
+returns-in-Counts : tie.Need-returns-in-Counts
+returns-in-Counts c = list_counts_lem c.in-Counts.is
 
-returns-2 : tie.Need-returns-2
-returns-2 c = apart (λ e. never cc)
+returns-in-Refused : tie.Need-returns-in-Refused
+returns-in-Refused c = apart (λ e. never cc)
 
-pub list-counts_spec : {M : Type 1} → statement M
-list-counts_spec = tie.close (tie.spec enum-known-answer enum_told returns returns-2)
+pub list_counts_spec : {M : Type 1} → statement M
+list_counts_spec =
+    tie.close
+    (tie.spec
+    enum_known-answer
+    enum_told-1
+    returns-in-Counts
+    returns-in-Refused)

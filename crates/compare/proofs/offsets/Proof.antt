@@ -8,59 +8,59 @@ use Rattle.compare.proofs.SameLaws.{Upto, same_bits, begun, more, done, apart_le
 use Rattle.compare.proofs.offsets.Statement.{statement}
 use Rattle.compare.proofs.offsets.Tie as tie
 
-abbrev invariant-loop : tie.invariant-loop
-invariant-loop got want i₀ i-end i = Upto (pos 0) got want i
+abbrev invariant-loop-i : tie.invariant-loop-i
+invariant-loop-i got want i₀ i-end i = Upto (pos 0) got want i
 
-abbrev decreases-loop : tie.decreases-loop
-decreases-loop got want i₀ i-end i = i-end - i
+abbrev decreases-loop-i : tie.decreases-loop-i
+decreases-loop-i got want i₀ i-end i = i-end - i
 
-returns : tie.Need-returns invariant-loop decreases-loop
-returns c = apart_lengths c.if1.true
+returns-then-got-want : tie.Need-returns-then-got-want invariant-loop-i decreases-loop-i
+returns-then-got-want c = apart_lengths c.if-got-want.true
 
-loop-holds : tie.Need-loop-init invariant-loop decreases-loop
-loop-holds c = begun c.if1.false
+loop-i-init : tie.Need-loop-i-init invariant-loop-i decreases-loop-i
+loop-i-init c = begun c.if-got-want.false
 
-mul-if2 : tie.Need-overflow-mul-if2 invariant-loop decreases-loop
-mul-if2 c = omega arith
+offset_bounds-got-i : tie.Need-offset_bounds-got-i invariant-loop-i decreases-loop-i
+offset_bounds-got-i c = omega arith
 
-shared-slice-copy-out-if2 : tie.Need-shared-slice-copy-out-if2 invariant-loop decreases-loop
-shared-slice-copy-out-if2 c = omega arith
+bounds-got-i : tie.Need-bounds-got-i invariant-loop-i decreases-loop-i
+bounds-got-i c = omega arith
 
-mul-if2-2 : tie.Need-overflow-mul-if2-2 invariant-loop decreases-loop
-mul-if2-2 c = omega arith
+offset_bounds-want-i : tie.Need-offset_bounds-want-i invariant-loop-i decreases-loop-i
+offset_bounds-want-i c = omega arith
 
-shared-slice-copy-out-if2-2 : tie.Need-shared-slice-copy-out-if2-2 invariant-loop decreases-loop
-shared-slice-copy-out-if2-2 c = omega arith
+bounds-want-i : tie.Need-bounds-want-i invariant-loop-i decreases-loop-i
+bounds-want-i c = omega arith
 
-returns-2 : tie.Need-returns-2 invariant-loop decreases-loop
-returns-2 c = apart_at (pos 0) _ (λ e. c.if2.true (ap (of_z w32) e))
+returns-then-got-i : tie.Need-returns-then-got-i invariant-loop-i decreases-loop-i
+returns-then-got-i c = apart_at (pos 0) _ (λ e. c.if-got-i.true (ap (of_z w32) e))
 
-add-i : tie.Need-overflow-add-i invariant-loop decreases-loop
-add-i c = omega arith
+overflow_step-i : tie.Need-overflow_step-i invariant-loop-i decreases-loop-i
+overflow_step-i c = omega arith
 
-loop-less : tie.Need-loop-smaller invariant-loop decreases-loop
-loop-less c = omega arith
+loop-i-smaller : tie.Need-loop-i-smaller invariant-loop-i decreases-loop-i
+loop-i-smaller c = omega arith
 
-loop-again : tie.Need-loop-preserved invariant-loop decreases-loop
-loop-again c = more c.before.before.before.before.loop.invariant (same_bits w32 c.before.before.if22.given c.before.if23.given c.if2.false)
+loop-i-preserved : tie.Need-loop-i-preserved invariant-loop-i decreases-loop-i
+loop-i-preserved c = more c.loop-i.invariant (same_bits w32 c.t11-1.given c.t14-1.given c.if-got-i.false)
 
-returns-3 : tie.Need-returns-3 invariant-loop decreases-loop
-returns-3 c = done c.before.loop.invariant c.loop-test.false
+returns : tie.Need-returns invariant-loop-i decreases-loop-i
+returns c = done c.loop-i.invariant c.loop-i-test.false
 
 pub offsets_spec : {M : Type 1} → statement M
 offsets_spec =
     tie.close
     (tie.spec
-    invariant-loop
-    decreases-loop
-    returns
-    loop-holds
-    mul-if2
-    shared-slice-copy-out-if2
-    mul-if2-2
-    shared-slice-copy-out-if2-2
-    returns-2
-    add-i
-    loop-less
-    loop-again
-    returns-3)
+    invariant-loop-i
+    decreases-loop-i
+    returns-then-got-want
+    loop-i-init
+    offset_bounds-got-i
+    bounds-got-i
+    offset_bounds-want-i
+    bounds-want-i
+    returns-then-got-i
+    overflow_step-i
+    loop-i-smaller
+    loop-i-preserved
+    returns)

@@ -4,17 +4,23 @@ use Rattle.compare.proofs.SameLaws.{apart, value_refused}
 use Rattle.compare.proofs.value_refused.Statement.{statement}
 use Rattle.compare.proofs.value_refused.Tie as tie
 
-enum_told : tie.Need-enum-told
-enum_told c = search rules
+enum_told-1 : tie.Need-enum_told-1
+enum_told-1 c = search rules
 
-enum-known-answer : tie.Need-enum-known-answer
-enum-known-answer c = search rules
+enum_known-answer : tie.Need-enum_known-answer
+enum_known-answer c = search rules
 
-returns : tie.Need-returns
-returns c = apart (λ e. never cc)
+returns-in-Counts : tie.Need-returns-in-Counts
+returns-in-Counts c = apart (λ e. never cc)
 
-returns-2 : tie.Need-returns-2
-returns-2 c = value_refused c.before.answer.given.1
+returns-in-Refused : tie.Need-returns-in-Refused
+returns-in-Refused c = value_refused c.in-Refused.is
 
 pub value_refused_spec : {M : Type 1} → statement M
-value_refused_spec = tie.close (tie.spec enum_told enum-known-answer returns returns-2)
+value_refused_spec =
+    tie.close
+    (tie.spec
+    enum_told-1
+    enum_known-answer
+    returns-in-Counts
+    returns-in-Refused)

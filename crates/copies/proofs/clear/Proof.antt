@@ -2,49 +2,49 @@ use Rattle.copies.proofs.clear.Statement.{statement}
 use Rattle.copies.proofs.clear.Tie as tie
 
 -- the offsets cleared, from the values cleared
-abbrev offsets : tie.After-clear-i64 → tie.After-clear-i32
+abbrev offsets : tie.After-clear_i64 → tie.After-clear_i32
 offsets v = v.before.before.before.before.before.before.before
 
-clear-i32-requires : tie.Need-clear-i32-requires
-clear-i32-requires c κs = tt
+clear_i32-requires : tie.Need-clear_i32-requires
+clear_i32-requires c κs = tt
 
-clear-u8-requires : tie.Need-clear-u8-requires
-clear-u8-requires c κs = tt
+clear_u8-requires : tie.Need-clear_u8-requires
+clear_u8-requires c κs = tt
 
-clear-i64-requires : tie.Need-clear-i64-requires
-clear-i64-requires c κs = tt
+clear_i64-requires : tie.Need-clear_i64-requires
+clear_i64-requires c κs = tt
 
-clear-u8-requires-2 : tie.Need-clear-u8-requires-2
-clear-u8-requires-2 c κs = tt
+clear_u8-requires-2 : tie.Need-clear_u8-requires-2
+clear_u8-requires-2 c κs = tt
 
-same_length : tie.Need-same-length
-same_length c = search
+shape_of-offsets : tie.Need-shape_of-offsets
+shape_of-offsets c = search
 
-same-length-2 : tie.Need-same-length-2
-same-length-2 c = search
+shape_of-rows : tie.Need-shape_of-rows
+shape_of-rows c = search
 
-same-length-3 : tie.Need-same-length-3
-same-length-3 c = search
+shape_of-values : tie.Need-shape_of-values
+shape_of-values c = search
 
-same-length-4 : tie.Need-same-length-4
-same-length-4 c = search
+shape_of-elements : tie.Need-shape_of-elements
+shape_of-elements c = search
 
 returns : tie.Need-returns
 returns c =
     let u = c.before.before in
     let v = u.before.before.before in
-    ((offsets v).clear-i32.ensures, (v.before.before.before.before.clear-u8.ensures, (v.clear-i64.ensures, u.clear-u82.ensures)))
+    ((offsets v).clear-i32.ensures, (v.clear_u8.ensures, (v.clear_i64.ensures, u.clear_u8-2.ensures)))
 
 pub clear_spec : {M : Type 1} → statement M
 clear_spec =
     tie.close
     (tie.spec
-    clear-i32-requires
-    clear-u8-requires
-    clear-i64-requires
-    clear-u8-requires-2
-    same_length
-    same-length-2
-    same-length-3
-    same-length-4
+    clear_i32-requires
+    clear_u8-requires
+    clear_i64-requires
+    clear_u8-requires-2
+    shape_of-offsets
+    shape_of-rows
+    shape_of-values
+    shape_of-elements
     returns)

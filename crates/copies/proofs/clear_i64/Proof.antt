@@ -7,47 +7,47 @@ use Rattle.copies.proofs.ClearLaws.{Clearing, clear_begun, clear_more, clear_don
 use Rattle.copies.proofs.clear_i64.Statement.{statement}
 use Rattle.copies.proofs.clear_i64.Tie as tie
 
-abbrev invariant-loop : tie.invariant-loop
-invariant-loop slots₀ k₀ slots k = Clearing (pos 0) slots₀ slots k
+abbrev invariant-loop-k : tie.invariant-loop-k
+invariant-loop-k slots₀ k₀ slots k = Clearing (pos 0) slots₀ slots k
 
-abbrev decreases-loop : tie.decreases-loop
-decreases-loop slots₀ k₀ slots k = length slots₀ - k
+abbrev decreases-loop-k : tie.decreases-loop-k
+decreases-loop-k slots₀ k₀ slots k = length slots₀ - k
 
-loop-holds : tie.Need-loop-init invariant-loop decreases-loop
-loop-holds c = clear_begun _ _
+loop-k-init : tie.Need-loop-k-init invariant-loop-k decreases-loop-k
+loop-k-init c = clear_begun _ _
 
-mul-slots : tie.Need-overflow-mul-slots invariant-loop decreases-loop
-mul-slots c = search rules
+offset_bounds-slots-k : tie.Need-offset_bounds-slots-k invariant-loop-k decreases-loop-k
+offset_bounds-slots-k c = search rules
 
-slice-set-of-slots : tie.Need-slice-set-of-slots invariant-loop decreases-loop
-slice-set-of-slots c = search rules
+slice_set_of-slots : tie.Need-slice_set_of-slots invariant-loop-k decreases-loop-k
+slice_set_of-slots c = search rules
 
-add-k : tie.Need-overflow-add-k invariant-loop decreases-loop
-add-k c = omega (arith, c)
+overflow_add-k : tie.Need-overflow_add-k invariant-loop-k decreases-loop-k
+overflow_add-k c = omega (arith, c)
 
-loop-less : tie.Need-loop-smaller invariant-loop decreases-loop
-loop-less c = omega (arith, c, c.before.loop.invariant.same)
+loop-k-smaller : tie.Need-loop-k-smaller invariant-loop-k decreases-loop-k
+loop-k-smaller c = omega (arith, c, c.loop-k.invariant.same)
 
-loop-again : tie.Need-loop-preserved invariant-loop decreases-loop
-loop-again c = clear_more (pos 0) c.before.loop.invariant c.loop-test.true
+loop-k-preserved : tie.Need-loop-k-preserved invariant-loop-k decreases-loop-k
+loop-k-preserved c = clear_more (pos 0) c.loop-k.invariant c.loop-k-test.true
 
-same_length : tie.Need-same-length invariant-loop decreases-loop
-same_length c = c.before.loop.invariant.same
+shape_of-slots : tie.Need-shape_of-slots invariant-loop-k decreases-loop-k
+shape_of-slots c = c.loop-k.invariant.same
 
-returns : tie.Need-returns invariant-loop decreases-loop
-returns c = clear_done (pos 0) c.before.loop.invariant c.loop-test.false
+returns : tie.Need-returns invariant-loop-k decreases-loop-k
+returns c = clear_done (pos 0) c.loop-k.invariant c.loop-k-test.false
 
 pub clear_i64_spec : {M : Type 1} → statement M
 clear_i64_spec =
     tie.close
     (tie.spec
-    invariant-loop
-    decreases-loop
-    loop-holds
-    mul-slots
-    slice-set-of-slots
-    add-k
-    loop-less
-    loop-again
-    same_length
+    invariant-loop-k
+    decreases-loop-k
+    loop-k-init
+    offset_bounds-slots-k
+    slice_set_of-slots
+    overflow_add-k
+    loop-k-smaller
+    loop-k-preserved
+    shape_of-slots
     returns)

@@ -6,43 +6,43 @@ use Rattle.copies.proofs.ClearLaws.{Clearing, clear_begun, clear_more, clear_don
 use Rattle.copies.proofs.clear_u8.Statement.{statement}
 use Rattle.copies.proofs.clear_u8.Tie as tie
 
-abbrev invariant-loop : tie.invariant-loop
-invariant-loop bytes₀ k₀ bytes k = Clearing 0 bytes₀ bytes k
+abbrev invariant-loop-k : tie.invariant-loop-k
+invariant-loop-k bytes₀ k₀ bytes k = Clearing 0 bytes₀ bytes k
 
-abbrev decreases-loop : tie.decreases-loop
-decreases-loop bytes₀ k₀ bytes k = length bytes₀ - k
+abbrev decreases-loop-k : tie.decreases-loop-k
+decreases-loop-k bytes₀ k₀ bytes k = length bytes₀ - k
 
-loop-holds : tie.Need-loop-init invariant-loop decreases-loop
-loop-holds c = clear_begun _ _
+loop-k-init : tie.Need-loop-k-init invariant-loop-k decreases-loop-k
+loop-k-init c = clear_begun _ _
 
-slice-write-bytes : tie.Need-slice-write-bytes invariant-loop decreases-loop
-slice-write-bytes c = search rules
+bounds-bytes-k : tie.Need-bounds-bytes-k invariant-loop-k decreases-loop-k
+bounds-bytes-k c = search rules
 
-add-k : tie.Need-overflow-add-k invariant-loop decreases-loop
-add-k c = omega (arith, c)
+overflow_add-k : tie.Need-overflow_add-k invariant-loop-k decreases-loop-k
+overflow_add-k c = omega (arith, c)
 
-loop-less : tie.Need-loop-smaller invariant-loop decreases-loop
-loop-less c = omega (arith, c, c.before.loop.invariant.same)
+loop-k-smaller : tie.Need-loop-k-smaller invariant-loop-k decreases-loop-k
+loop-k-smaller c = omega (arith, c, c.loop-k.invariant.same)
 
-loop-again : tie.Need-loop-preserved invariant-loop decreases-loop
-loop-again c = clear_more 0 c.before.loop.invariant c.loop-test.true
+loop-k-preserved : tie.Need-loop-k-preserved invariant-loop-k decreases-loop-k
+loop-k-preserved c = clear_more 0 c.loop-k.invariant c.loop-k-test.true
 
-same_length : tie.Need-same-length invariant-loop decreases-loop
-same_length c = c.before.loop.invariant.same
+shape_of-bytes : tie.Need-shape_of-bytes invariant-loop-k decreases-loop-k
+shape_of-bytes c = c.loop-k.invariant.same
 
-returns : tie.Need-returns invariant-loop decreases-loop
-returns c = clear_done 0 c.before.loop.invariant c.loop-test.false
+returns : tie.Need-returns invariant-loop-k decreases-loop-k
+returns c = clear_done 0 c.loop-k.invariant c.loop-k-test.false
 
 pub clear_u8_spec : {M : Type 1} → statement M
 clear_u8_spec =
     tie.close
     (tie.spec
-    invariant-loop
-    decreases-loop
-    loop-holds
-    slice-write-bytes
-    add-k
-    loop-less
-    loop-again
-    same_length
+    invariant-loop-k
+    decreases-loop-k
+    loop-k-init
+    bounds-bytes-k
+    overflow_add-k
+    loop-k-smaller
+    loop-k-preserved
+    shape_of-bytes
     returns)

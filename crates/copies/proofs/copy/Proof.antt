@@ -19,10 +19,10 @@ use Rattle.copies.proofs.copy.Tie as tie
 
 -- ---- places: the start; room found, from the rows written
 
-abbrev S : tie.After-has-room → tie.Start
+abbrev S : tie.After-has_room → tie.Start
 S h = h.before.before.before.before.before.before.before.before
 
-abbrev roomed : tie.After-write-rows → tie.Else1
+abbrev roomed : tie.After-write_rows → tie.Else-not-has_room
 roomed w = w.before.before.before.before.before.before
 
 -- ---- the column, its rows, and the lengths of the output
@@ -31,92 +31,92 @@ abbrev C : tie.Start → Column
 C s = let a = s.args in column (used a.width a.offsets.now a.large.now) (from a.rstart a.rows.now) a.values.now (from a.estart a.elements.now)
 
 abbrev O : tie.Start → List ℤ
-O s = used s.args.width s.args.out-offsets.now s.args.out-large.now
+O s = used s.args.width s.args.out_offsets.now s.args.out_large.now
 
 abbrev L : tie.Start → Room
-L s = let a = s.args in room (length (O s)) (length a.out-rows.now) (length a.out-values.now) (length a.out-elements.now)
+L s = let a = s.args in room (length (O s)) (length a.out_rows.now) (length a.out_values.now) (length a.out_elements.now)
 
 abbrev W : tie.Start → List Row
 W s = rows_of (C s)
 
 -- what the test of the room tells
-rows_are : (h : tie.After-has-room) → h.before.before.before.row_count.result ≡ length (W (S h))
-rows_are h = h.before.before.before.row_count.ensures ∙ sym (length-rows (C (S h)))
+rows_are : (h : tie.After-has_room) → h.row_count-n.result ≡ length (W (S h))
+rows_are h = h.row_count-n.ensures ∙ sym (length-rows (C (S h)))
 
-slots : (h : tie.After-has-room) → h.before.pick.result ≡ length (O (S h))
-slots h = let a = (S h).args in h.before.pick.ensures ∙ sym (used-length a.width a.out-offsets.now a.out-large.now)
+slots : (h : tie.After-has_room) → h.pick.result ≡ length (O (S h))
+slots h = let a = (S h).args in h.pick.ensures ∙ sym (used-length a.width a.out_offsets-1.now a.out_large-1.now)
 
-room_is : (h : tie.After-has-room) → h.has_room.result ≡ fits_in (length (W (S h))) (length (flat (W (S h)))) (L (S h))
-room_is h = rw (slots h) at h.has_room.ensures ∙ same_fit (L (S h)) (rows_are h) h.before.before.measure-rows.ensures.0
+room_is : (h : tie.After-has_room) → h.has_room.result ≡ fits_in (length (W (S h))) (length (flat (W (S h)))) (L (S h))
+room_is h = rw (slots h) at h.has_room.ensures ∙ same_fit (L (S h)) (rows_are h) h.measure_rows-m.ensures.0
 
-roomy : (e : tie.Else1) → let s = S e.before in RoomInˡ (length (W s)) (length (flat (W s))) (length (O s)) (length s.args.out-rows.now) (length s.args.out-values.now) (length s.args.out-elements.now)
-roomy e = has_room _ _ _ _ _ _ (sym (room_is e.before) ∙ not-false _ e.if1.false)
+roomy : (e : tie.Else-not-has_room) → let s = S e.before in RoomInˡ (length (W s)) (length (flat (W s))) (length (O s)) (length s.args.out_rows.now) (length s.args.out_values.now) (length s.args.out_elements.now)
+roomy e = has_room _ _ _ _ _ _ (sym (room_is e.before) ∙ not-false _ e.if-not-has_room.false)
 
-row-count-requires : tie.Need-row-count-requires
-row-count-requires c κs = search rules
+row_count-n-requires : tie.Need-row_count-n-requires
+row_count-n-requires c κs = search rules
 
-measure-rows-requires : tie.Need-measure-rows-requires
-measure-rows-requires c κs = search rules
+measure_rows-m-requires : tie.Need-measure_rows-m-requires
+measure_rows-m-requires c κs = search rules
 
 pick-requires : tie.Need-pick-requires
 pick-requires c κs = search rules
 
-has-room-requires : tie.Need-has-room-requires
-has-room-requires c κs = search rules
+has_room-requires : tie.Need-has_room-requires
+has_room-requires c κs = search rules
 
-returns : tie.Need-returns
-returns c = let h = c.before in list-refused 9 (fitted_short (W (S h)) (L (S h)) (sym (room_is h) ∙ not-true _ c.if1.true))
+returns-then-not-has_room : tie.Need-returns-then-not-has_room
+returns-then-not-has_room c = let h = c.before in list-refused 9 (fitted_short (W (S h)) (L (S h)) (sym (room_is h) ∙ not-true _ c.if-not-has_room.true))
 
-write-rows-requires : tie.Need-write-rows-requires
-write-rows-requires c κs =
+write_rows-requires : tie.Need-write_rows-requires
+write_rows-requires c κs =
     let s = S c.before.before.before.before.before.before in
-    let m = c.before.before.before.before.before.before.before.before.measure-rows in
-    (s.pre, (rw m.ensures.0 at m.ensures.1, rw (length-rows (C s)) at (roomy c.before.before.before.before.before)))
+    let m = c.measure_rows-m in
+    (s.requires, (rw m.ensures.0 at m.ensures.1, rw (length-rows (C s)) at (roomy c.before.before.before.before.before)))
 
-list-answer-requires : tie.Need-list-answer-requires
-list-answer-requires c κs =
+list_answer-requires : tie.Need-list_answer-requires
+list_answer-requires c κs =
     let w = c.before.before.before.before.before.before.before.before.before in
     let e = roomed w in
     let r = roomy e in
-    (omega (arith, r.rows, rows_are e.before, w.write-rows.auto.1.1.1.1.1.1.1.0), omega (arith, r.elements, e.before.before.before.measure-rows.ensures.0, w.write-rows.auto.1.1.1.1.1.1.1.1.1.0))
+    (omega (arith, r.rows, rows_are e.before, w.write_rows.auto.out_rows), omega (arith, r.elements, e.measure_rows-m.ensures.0, w.write_rows.auto.out_elements))
 
-same_length : tie.Need-same-length
-same_length c = search
+shape_of-out_offsets : tie.Need-shape_of-out_offsets
+shape_of-out_offsets c = search
 
-same-length-2 : tie.Need-same-length-2
-same-length-2 c = search
+shape_of-out_rows : tie.Need-shape_of-out_rows
+shape_of-out_rows c = search
 
-same-length-3 : tie.Need-same-length-3
-same-length-3 c = search
+shape_of-out_values : tie.Need-shape_of-out_values
+shape_of-out_values c = search
 
-same-length-4 : tie.Need-same-length-4
-same-length-4 c = search
+shape_of-out_elements : tie.Need-shape_of-out_elements
+shape_of-out_elements c = search
 
-same-length-5 : tie.Need-same-length-5
-same-length-5 c = search
+shape_of-out_large : tie.Need-shape_of-out_large
+shape_of-out_large c = search
 
-returns-2 : tie.Need-returns-2
-returns-2 c =
+returns : tie.Need-returns
+returns c =
     let w = c.before.before.before.before.before.before.before.before.before.before in
     let e = roomed w in
     let h = e.before in
     let s = S h in
-    list-made (W s) _ _ (fitted-made (W s) (L s) (sym (room_is h) ∙ not-false _ e.if1.left)) (rows_are h) h.before.before.measure-rows.ensures.0 w.write-rows.ensures c.list-answer.ensures
+    list-made (W s) _ _ (fitted-made (W s) (L s) (sym (room_is h) ∙ not-false _ e.if-not-has_room.false)) (rows_are h) h.measure_rows-m.ensures.0 w.write_rows.ensures c.list_answer.ensures
 
 pub copy_spec : {M : Type 1} → statement M
 copy_spec =
     tie.close
     (tie.spec
-    row-count-requires
-    measure-rows-requires
+    row_count-n-requires
+    measure_rows-m-requires
     pick-requires
-    has-room-requires
-    returns
-    write-rows-requires
-    list-answer-requires
-    same_length
-    same-length-2
-    same-length-3
-    same-length-4
-    same-length-5
-    returns-2)
+    has_room-requires
+    returns-then-not-has_room
+    write_rows-requires
+    list_answer-requires
+    shape_of-out_offsets
+    shape_of-out_rows
+    shape_of-out_values
+    shape_of-out_elements
+    shape_of-out_large
+    returns)

@@ -12,91 +12,94 @@ use mathlib.Core.Path.{sym, ◌∙◌}
 use Rattle.copy_rows.proofs.measure_rows.Statement.{statement}
 use Rattle.copy_rows.proofs.measure_rows.Tie as tie
 
-abbrev invariant-loop : tie.invariant-loop
-invariant-loop offsets rows rstart values elements estart width large n found₀ r₀ left₀ found r left =
+abbrev invariant-loop-left : tie.invariant-loop-left
+invariant-loop-left offsets rows rstart values elements estart width large n found₀ r₀ left₀ found r left =
     Summing (row_at (column (used width offsets large) (from rstart rows) values (from estart elements))) n (offset_at (used width offsets large) r) (limits_at width).offset found r left
 
-abbrev decreases-loop : tie.decreases-loop
-decreases-loop offsets rows rstart values elements estart width large n found₀ r₀ left₀ found r left = left
+abbrev decreases-loop-left : tie.decreases-loop-left
+decreases-loop-left offsets rows rstart values elements estart width large n found₀ r₀ left₀ found r left = left
 
-abbrev C : tie.Start invariant-loop decreases-loop → Column
+abbrev C : tie.Start invariant-loop-left decreases-loop-left → Column
 C s = let a = s.args in column (used a.width a.offsets.now a.large.now) (from a.rstart a.rows.now) a.values.now (from a.estart a.elements.now)
 
-abbrev S : tie.At-loop invariant-loop decreases-loop → tie.Start invariant-loop decreases-loop
+abbrev S : tie.At-loop-left invariant-loop-left decreases-loop-left → tie.Start invariant-loop-left decreases-loop-left
 S l = l.before.before.before.before
 
-row-count-requires : tie.Need-row-count-requires invariant-loop decreases-loop
-row-count-requires c κs = search rules
+row_count-n-requires : tie.Need-row_count-n-requires invariant-loop-left decreases-loop-left
+row_count-n-requires c κs = search rules
 
-loop-holds : tie.Need-loop-init invariant-loop decreases-loop
-loop-holds c = sum_begun _ _ _ _
+loop-left-init : tie.Need-loop-left-init invariant-loop-left decreases-loop-left
+loop-left-init c = sum_begun _ _ _ _
 
-offset-at-requires : tie.Need-offset-at-requires invariant-loop decreases-loop
-offset-at-requires c κs = omega arith
+offset_at-a-requires : tie.Need-offset_at-a-requires invariant-loop-left decreases-loop-left
+offset_at-a-requires c κs = omega arith
 
-add-offset-at : tie.Need-overflow-add-offset-at invariant-loop decreases-loop
-add-offset-at c = omega arith
+overflow_add-r : tie.Need-overflow_add-r invariant-loop-left decreases-loop-left
+overflow_add-r c = omega arith
 
-offset-at-requires-2 : tie.Need-offset-at-requires-2 invariant-loop decreases-loop
-offset-at-requires-2 c κs = omega (arith, c.before)
+offset_at-b-requires : tie.Need-offset_at-b-requires invariant-loop-left decreases-loop-left
+offset_at-b-requires c κs = omega (arith, c.before)
 
-row-len-requires : tie.Need-row-len-requires invariant-loop decreases-loop
-row-len-requires c κs =
+row_len-len-requires : tie.Need-row_len-len-requires invariant-loop-left decreases-loop-left
+row_len-len-requires c κs =
     let l = c.before.before.before in
-    let w = between (C (S l)) _ l.loop.r _ _ (S l).requires l.before.row_count.ensures (omega (arith, c.before.before)) c.before.offset_at.ensures.0 c.offset-at2.ensures.0 in
+    let w = between (C (S l)) _ l.loop-left.r _ _ (S l).requires l.row_count-n.ensures (omega (arith, c.before.before)) c.offset_at-a.ensures.0 c.offset_at-b.ensures.0 in
     (w.rows, (w.there, w.rises))
 
 -- the walk after one more row
-more : (m : tie.After-row-len invariant-loop decreases-loop) → let l = m.before.before.before.before in let o = m.before.offset-at2.result in
-    Summing (row_at (C (S l))) l.before.row_count.result o (limits_at (S l).args.width).offset (l.loop.found + m.row_len.result) (l.loop.r + 1) (l.loop.left - 1)
+more : (m : tie.After-row_len-len invariant-loop-left decreases-loop-left) → let l = m.before.before.before.before in let o = m.offset_at-b.result in
+    Summing (row_at (C (S l))) l.row_count-n.result o (limits_at (S l).args.width).offset (l.loop-left.found + m.row_len-len.result) (l.loop-left.r + 1) (l.loop-left.left - 1)
 more m =
     let l = m.before.before.before.before in
     let i = m.before.before.before in
-    let p = m.before.before.offset_at in
-    let q = m.before.offset-at2 in
-    let w = between (C (S l)) _ l.loop.r _ _ (S l).requires l.before.row_count.ensures (omega (arith, i)) p.ensures.0 q.ensures.0 in
-    let e = m.row_len.ensures in
-    sum_more (row_at (C (S l))) l.before.row_count.result (limits_at (S l).args.width).offset m.row_len.result p.result q.result l.loop.invariant i.loop-test.true
-    (length_at (C (S l)) l.loop.r p.result q.result m.row_len.result p.ensures.0 q.ensures.0 e)
-    (omega (arith, e, len_from_le (C (S l)).rows l.loop.r p.result q.result w.rises))
+    let p = m.offset_at-a in
+    let q = m.offset_at-b in
+    let w = between (C (S l)) _ l.loop-left.r _ _ (S l).requires l.row_count-n.ensures (omega (arith, i)) p.ensures.0 q.ensures.0 in
+    let e = m.row_len-len.ensures in
+    sum_more (row_at (C (S l))) l.row_count-n.result (limits_at (S l).args.width).offset m.row_len-len.result p.result q.result l.loop-left.invariant i.loop-left-test.true
+    (length_at (C (S l)) l.loop-left.r p.result q.result m.row_len-len.result p.ensures.0 q.ensures.0 e)
+    (omega (arith, e, len_from_le (C (S l)).rows l.loop-left.r p.result q.result w.rises))
     w.rises (sym p.ensures.0) q.ensures.1
 
-add-found : tie.Need-overflow-add-found invariant-loop decreases-loop
-add-found c = omega (arith, (more c).small, (limits-fit (S c.before.before.before.before).args.width).offset)
+overflow_add-found : tie.Need-overflow_add-found invariant-loop-left decreases-loop-left
+overflow_add-found c = omega (arith, (more c).small, (limits-fit (S c.before.before.before.before).args.width).offset)
 
-add_r : tie.Need-overflow-add-r invariant-loop decreases-loop
-add_r c = omega (arith, c.before.before.before)
+overflow_add-r : tie.Need-overflow_add-r invariant-loop-left decreases-loop-left
+overflow_add-r c = omega (arith, c.before.before.before)
 
-sub-left : tie.Need-overflow-sub-left invariant-loop decreases-loop
-sub-left c = omega (arith, c.before.before.before)
+overflow_sub-left : tie.Need-overflow_sub-left invariant-loop-left decreases-loop-left
+overflow_sub-left c = omega (arith, c.before.before.before)
 
-loop-less : tie.Need-loop-smaller invariant-loop decreases-loop
-loop-less c = omega (arith, c.before.before.before)
+loop-left-smaller : tie.Need-loop-left-smaller invariant-loop-left decreases-loop-left
+loop-left-smaller c = omega (arith, c.before.before.before)
 
-loop-again : tie.Need-loop-preserved invariant-loop decreases-loop
-loop-again c = rw (← c.before.offset-at2.ensures.0) (more c)
+loop-left-preserved : tie.Need-loop-left-preserved invariant-loop-left decreases-loop-left
+loop-left-preserved c = rw (← c.offset_at-b.ensures.0) (more c)
 
-returns : tie.Need-returns invariant-loop decreases-loop
+returns : tie.Need-returns invariant-loop-left decreases-loop-left
 unfolding rows_of
 returns c =
     let l = c.before in
-    (sum_done _ _ _ l.loop.invariant c.loop-test.false ∙ rw l.before.row_count.ensures, l.loop.invariant.small)
+    (sum_done _ _ _ l.loop-left.invariant c.loop-left-test.false ∙ rw l.row_count-n.ensures, l.loop-left.invariant.small)
+
+overflow_add-r-in-loop-left : tie.Need-overflow_add-r-in-loop-left invariant-loop-left decreases-loop-left
+overflow_add-r-in-loop-left c = search rules
 
 pub measure_rows_spec : {M : Type 1} → statement M
 measure_rows_spec =
     tie.close
     (tie.spec
-    invariant-loop
-    decreases-loop
-    row-count-requires
-    loop-holds
-    offset-at-requires
-    add-offset-at
-    offset-at-requires-2
-    row-len-requires
-    add-found
-    add_r
-    sub-left
-    loop-less
-    loop-again
+    invariant-loop-left
+    decreases-loop-left
+    row_count-n-requires
+    loop-left-init
+    offset_at-a-requires
+    overflow_add-r
+    offset_at-b-requires
+    row_len-len-requires
+    overflow_add-found
+    overflow_add-r-in-loop-left
+    overflow_sub-left
+    loop-left-smaller
+    loop-left-preserved
     returns)

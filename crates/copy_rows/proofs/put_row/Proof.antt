@@ -8,42 +8,42 @@ use Rattle.copy_rows.proofs.put_row.Tie as tie
 
 -- ---- places: whether the row is valid and the start; how long it is, from its elements written
 
-abbrev S : tie.After-is-valid → tie.Start
+abbrev S : tie.After-is_valid-valid → tie.Start
 S v = v.before.before.before.before.before
 
-abbrev told : tie.After-write-forward → tie.After-row-len
+abbrev told : tie.After-write_forward-next → tie.After-row_len-len
 told w = w.before.before.before
 
 -- ---- needs
 
-is-valid-requires : tie.Need-is-valid-requires
-is-valid-requires c κs = search rules
+is_valid-valid-requires : tie.Need-is_valid-valid-requires
+is_valid-valid-requires c κs = search rules
 
-row-len-requires : tie.Need-row-len-requires
-row-len-requires c κs = search rules
+row_len-len-requires : tie.Need-row_len-len-requires
+row_len-len-requires c κs = search rules
 
-write-forward-requires : tie.Need-write-forward-requires
-write-forward-requires c κs =
+write_forward-next-requires : tie.Need-write_forward-next-requires
+write_forward-next-requires c κs =
     let n = c.before.before in
     let s = S n.before in
     let a = s.args in
-    let l = len_from_le (from a.rstart a.rows.now) a.r a.a a.b s.pre.0.rises in
+    let l = len_from_le (from a.rstart a.rows.now) a.r a.a a.b s.requires.0.rises in
     let e = elems_from (from a.rstart a.rows.now) a.r a.a a.b (elem_at a.values.now (from a.estart a.elements.now)) in
-    let v = rw (e, ← n.row_len.ensures) at s.pre.1.values in
-    let b = rw (e, ← n.row_len.ensures) at s.pre.1.elements in
-    (record { inside = omega (arith, s.pre.0.inside, n.row_len.ensures); bits = s.pre.0.elements }, record { values = v; elements = b })
+    let v = rw (e, ← n.row_len-len.ensures) at s.requires.1.values in
+    let b = rw (e, ← n.row_len-len.ensures) at s.requires.1.elements in
+    (record { inside = omega (arith, s.requires.0.inside, n.row_len-len.ensures); bits = s.requires.0.elements }, record { values = v; elements = b })
 
-push-bit-requires : tie.Need-push-bit-requires
-push-bit-requires c κs = search rules
+push_bit-requires : tie.Need-push_bit-requires
+push_bit-requires c κs = search rules
 
-same_length : tie.Need-same-length
-same_length c = search
+shape_of-out_rows : tie.Need-shape_of-out_rows
+shape_of-out_rows c = search
 
-same-length-2 : tie.Need-same-length-2
-same-length-2 c = search
+shape_of-out_values : tie.Need-shape_of-out_values
+shape_of-out_values c = search
 
-same-length-3 : tie.Need-same-length-3
-same-length-3 c = search
+shape_of-out_elements : tie.Need-shape_of-out_elements
+shape_of-out_elements c = search
 
 returns : tie.Need-returns
 returns c =
@@ -54,21 +54,21 @@ returns c =
     let E = elem_at a.values.now (from a.estart a.elements.now) in
     let e = elems_from (from a.rstart a.rows.now) a.r a.a a.b E in
     record {
-      rows = rw (is_row-from (from a.rstart a.rows.now) a.r a.a a.b E, ← v.is-valid.ensures) c.before.before.push-bit.ensures;
-      values = rw (e, ← n.row_len.ensures) w.write-forward.ensures.values;
-      elements = rw (e, ← n.row_len.ensures) w.write-forward.ensures.elements;
-      place = rw (e, ← n.row_len.ensures) w.write-forward.ensures.next;
+      rows = rw (is_row-from (from a.rstart a.rows.now) a.r a.a a.b E, ← v.is_valid-valid.ensures) c.push_bit.ensures;
+      values = rw (e, ← n.row_len-len.ensures) w.write_forward-next.ensures.values;
+      elements = rw (e, ← n.row_len-len.ensures) w.write_forward-next.ensures.elements;
+      place = rw (e, ← n.row_len-len.ensures) w.write_forward-next.ensures.next;
     }
 
 pub put_row_spec : {M : Type 1} → statement M
 put_row_spec =
     tie.close
     (tie.spec
-    is-valid-requires
-    row-len-requires
-    write-forward-requires
-    push-bit-requires
-    same_length
-    same-length-2
-    same-length-3
+    is_valid-valid-requires
+    row_len-len-requires
+    write_forward-next-requires
+    push_bit-requires
+    shape_of-out_rows
+    shape_of-out_values
+    shape_of-out_elements
     returns)

@@ -14,153 +14,156 @@ use Rattle.column.proofs.WalkLaws.{Walking, put_keeps, between, row_from_lem, wa
 use Rattle.copy_rows.proofs.write_rows.Statement.{statement}
 use Rattle.copy_rows.proofs.write_rows.Tie as tie
 
-abbrev invariant-loop : tie.invariant-loop
-invariant-loop offsets rows rstart values elements estart out-offsets₀ out-rows₀ out-values₀ out-elements₀ width large out-large₀ n r₀ at₀ left₀ out-offsets out-rows out-values out-elements out-large r at left =
+abbrev invariant-loop-left : tie.invariant-loop-left
+invariant-loop-left offsets rows rstart values elements estart out-offsets₀ out-rows₀ out-values₀ out-elements₀ width large out-large₀ n r₀ at₀ left₀ out-offsets out-rows out-values out-elements out-large r at left =
     Walking (row_at (column (used width offsets large) (from rstart rows) values (from estart elements))) n (used width out-offsets₀ out-large₀) out-rows₀ out-values₀ out-elements₀ (used width out-offsets out-large) out-rows out-values out-elements r at left
     × (length out-offsets ≡ length out-offsets₀)
     × (length out-large ≡ length out-large₀)
 
-abbrev decreases-loop : tie.decreases-loop
-decreases-loop offsets rows rstart values elements estart out-offsets₀ out-rows₀ out-values₀ out-elements₀ width large out-large₀ n r₀ at₀ left₀ out-offsets out-rows out-values out-elements out-large r at left =
+abbrev decreases-loop-left : tie.decreases-loop-left
+decreases-loop-left offsets rows rstart values elements estart out-offsets₀ out-rows₀ out-values₀ out-elements₀ width large out-large₀ n r₀ at₀ left₀ out-offsets out-rows out-values out-elements out-large r at left =
     left
 
 -- ---- places: the start and the first offset put, from the loop; row r read, from the row written
 
-abbrev put : tie.At-loop invariant-loop decreases-loop → tie.After-put-offset invariant-loop decreases-loop
+abbrev put : tie.At-loop-left invariant-loop-left decreases-loop-left → tie.After-put_offset invariant-loop-left decreases-loop-left
 put l = l.before.before.before
 
-abbrev S : tie.At-loop invariant-loop decreases-loop → tie.Start invariant-loop decreases-loop
+abbrev S : tie.At-loop-left invariant-loop-left decreases-loop-left → tie.Start invariant-loop-left decreases-loop-left
 S l = (put l).before.before.before.before.before.before.before.before
 
-abbrev read : tie.After-put-row invariant-loop decreases-loop → tie.After-offset-at2 invariant-loop decreases-loop
+abbrev read : tie.After-put_row-at invariant-loop-left decreases-loop-left → tie.After-offset_at-b invariant-loop-left decreases-loop-left
 read w = w.before.before.before.before
 
 -- ---- the column, its rows, and how many
 
-abbrev C : tie.Start invariant-loop decreases-loop → Column
+abbrev C : tie.Start invariant-loop-left decreases-loop-left → Column
 C s = let a = s.args in column (used a.width a.offsets.now a.large.now) (from a.rstart a.rows.now) a.values.now (from a.estart a.elements.now)
 
-abbrev count : tie.At-loop invariant-loop decreases-loop → ℕ
+abbrev count : tie.At-loop-left invariant-loop-left decreases-loop-left → ℕ
 count l = (put l).before.before.before.row_count.result
 
-abbrev W : tie.At-loop invariant-loop decreases-loop → ℕ → Row
+abbrev W : tie.At-loop-left invariant-loop-left decreases-loop-left → ℕ → Row
 W l = row_at (C (S l))
 
-abbrev rows_are : (l : tie.At-loop invariant-loop decreases-loop) → count l ≡ row_count (C (S l)).offsets
+abbrev rows_are : (l : tie.At-loop-left invariant-loop-left decreases-loop-left) → count l ≡ row_count (C (S l)).offsets
 rows_are l = (put l).before.before.before.row_count.ensures
 
 -- the offsets that are written, as the call began
-abbrev O : tie.Start invariant-loop decreases-loop → List ℤ
-O s = used s.args.width s.args.out-offsets.now s.args.out-large.now
+abbrev O : tie.Start invariant-loop-left decreases-loop-left → List ℤ
+O s = used s.args.width s.args.out_offsets.now s.args.out_large.now
 
 -- the row that a turn makes is row r's
-abbrev made : (q : tie.After-offset-at2 invariant-loop decreases-loop) → Row
-made q = let l = q.before.before.before in row_from (C (S l)).rows (elem_at (C (S l)).values (C (S l)).elements) l.loop.r q.before.offset_at.result q.offset-at2.result
+abbrev made : (q : tie.After-offset_at-b invariant-loop-left decreases-loop-left) → Row
+made q = let l = q.before.before.before in row_from (C (S l)).rows (elem_at (C (S l)).values (C (S l)).elements) l.loop-left.r q.offset_at-a.result q.offset_at-b.result
 
-same_row : (q : tie.After-offset-at2 invariant-loop decreases-loop) → let l = q.before.before.before in made q ≡ W l l.loop.r
+same_row : (q : tie.After-offset_at-b invariant-loop-left decreases-loop-left) → let l = q.before.before.before in made q ≡ W l l.loop-left.r
 same_row q =
     let l = q.before.before.before in
-    row_from_lem (C (S l)) l.loop.r q.before.offset_at.result q.offset-at2.result q.before.offset_at.ensures.0 q.offset-at2.ensures.0
+    row_from_lem (C (S l)) l.loop-left.r q.offset_at-a.result q.offset_at-b.result q.offset_at-a.ensures.0 q.offset_at-b.ensures.0
 
-row-count-requires : tie.Need-row-count-requires invariant-loop decreases-loop
-row-count-requires c κs = search rules
+row_count-n-requires : tie.Need-row_count-n-requires invariant-loop-left decreases-loop-left
+row_count-n-requires c κs = search rules
 
-put-offset-requires : tie.Need-put-offset-requires invariant-loop decreases-loop
-put-offset-requires c κs = (omega (arith, c.before.before.before.before.before.before.before.requires.1.1.offsets), omega arith)
+put_offset-requires : tie.Need-put_offset-requires invariant-loop-left decreases-loop-left
+put_offset-requires c κs = (omega (arith, c.requires.1.1.offsets), omega arith)
 
-loop-holds : tie.Need-loop-init invariant-loop decreases-loop
-loop-holds c = (walk_begun _ _ _ _ _ _, refl, refl)
+loop-left-init : tie.Need-loop-left-init invariant-loop-left decreases-loop-left
+loop-left-init c = (walk_begun _ _ _ _ _ _, refl, refl)
 
-offset-at-requires : tie.Need-offset-at-requires invariant-loop decreases-loop
-offset-at-requires c κs = omega arith
+offset_at-a-requires : tie.Need-offset_at-a-requires invariant-loop-left decreases-loop-left
+offset_at-a-requires c κs = omega arith
 
-add-offset-at : tie.Need-overflow-add-offset-at invariant-loop decreases-loop
-add-offset-at c = omega arith
+overflow_add-r : tie.Need-overflow_add-r invariant-loop-left decreases-loop-left
+overflow_add-r c = omega arith
 
-offset-at-requires-2 : tie.Need-offset-at-requires-2 invariant-loop decreases-loop
-offset-at-requires-2 c κs = omega (arith, c.before)
+offset_at-b-requires : tie.Need-offset_at-b-requires invariant-loop-left decreases-loop-left
+offset_at-b-requires c κs = omega (arith, c.before)
 
-put-row-requires : tie.Need-put-row-requires invariant-loop decreases-loop
-put-row-requires c κs =
+put_row-at-requires : tie.Need-put_row-at-requires invariant-loop-left decreases-loop-left
+put_row-at-requires c κs =
     let q = c.before.before.before in
     let p = c.before.before.before.before in
     let i = c.before.before.before.before.before in
     let l = c.before.before.before.before.before.before in
-    (between (C (S l)) _ l.loop.r _ _ (S l).requires.0 (rows_are l) (omega (arith, i)) p.offset_at.ensures.0 q.offset-at2.ensures.0, walk_room (W l) (count l) (made q) i.loop-test.true (same_row q) l.loop.invariant.0 (room_at (C (S l)) (count l) (rows_are l) (S l).requires.1.1 (put_keeps (O (S l)) 0 0 (put l).put-offset.ensures)))
+    (between (C (S l)) _ l.loop-left.r _ _ (S l).requires.0 (rows_are l) (omega (arith, i)) p.offset_at-a.ensures.0 q.offset_at-b.ensures.0, walk_room (W l) (count l) (made q) i.loop-left-test.true (same_row q) l.loop-left.invariant.0 (room_at (C (S l)) (count l) (rows_are l) (S l).requires.1.1 (put_keeps (O (S l)) 0 0 (put l).put-offset.ensures)))
 
-add-put-offset : tie.Need-overflow-add-put-offset invariant-loop decreases-loop
-add-put-offset c = omega (arith, (read c.before.before.before.before.before.before.before).before.before)
+overflow_add-r-in-loop-left : tie.Need-overflow_add-r-in-loop-left invariant-loop-left decreases-loop-left
+overflow_add-r-in-loop-left c = omega (arith, (read c.before.before.before.before.before.before.before).before.before)
 
-put-offset-requires-2 : tie.Need-put-offset-requires-2 invariant-loop decreases-loop
-put-offset-requires-2 c κs =
+put_offset-requires-in-loop-left : tie.Need-put_offset-requires-in-loop-left invariant-loop-left decreases-loop-left
+put_offset-requires-in-loop-left c κs =
     let w = c.before.before.before.before.before.before.before in
     let q = read w in
     let i = q.before.before in
     let l = i.before in
-    let k = walk_small (W l) (count l) (made q) i.loop-test.taken (same_row q) l.loop.inv.0 w.put-row.ensures in
-    (walk_slot (W l) (count l) (made q) i.loop-test.taken (same_row q) l.loop.inv.0 (room_at (C (S l)) (count l) (rows_are l) (S l).pre.1.1 (put_keeps (O (S l)) 0 0 (put l).put-offset.ensures)), omega (arith, (S l).pre.1.0, rw (rows_at (C (S l)) (count l) (rows_are l)) at k))
+    let k = walk_small (W l) (count l) (made q) i.loop-left-test.true (same_row q) l.loop-left.invariant.0 w.put_row-at.ensures in
+    (walk_slot (W l) (count l) (made q) i.loop-left-test.true (same_row q) l.loop-left.invariant.0 (room_at (C (S l)) (count l) (rows_are l) (S l).pre.1.1 (put_keeps (O (S l)) 0 0 (put l).put-offset.ensures)), omega (arith, (S l).pre.1.0, rw (rows_at (C (S l)) (count l) (rows_are l)) at k))
 
-add_r : tie.Need-overflow-add-r invariant-loop decreases-loop
-add_r c = omega (arith, (read c.before.before.before.before.before.before.before.before.before.before).before.before)
+overflow_add-r : tie.Need-overflow_add-r invariant-loop-left decreases-loop-left
+overflow_add-r c = omega (arith, (read c.before.before.before.before.before.before.before.before.before.before).before.before)
 
-sub-left : tie.Need-overflow-sub-left invariant-loop decreases-loop
-sub-left c = omega (arith, (read c.before.before.before.before.before.before.before.before.before.before).before.before)
+overflow_sub-left : tie.Need-overflow_sub-left invariant-loop-left decreases-loop-left
+overflow_sub-left c = omega (arith, (read c.before.before.before.before.before.before.before.before.before.before).before.before)
 
-loop-less : tie.Need-loop-smaller invariant-loop decreases-loop
-loop-less c = omega (arith, (read c.before.before.before.before.before.before.before.before.before.before).before.before)
+loop-left-smaller : tie.Need-loop-left-smaller invariant-loop-left decreases-loop-left
+loop-left-smaller c = omega (arith, (read c.before.before.before.before.before.before.before.before.before.before).before.before)
 
-loop-again : tie.Need-loop-preserved invariant-loop decreases-loop
-loop-again c =
+loop-left-preserved : tie.Need-loop-left-preserved invariant-loop-left decreases-loop-left
+loop-left-preserved c =
     let w = c.before.before.before.before.before.before.before.before.before.before in
     let q = read w in
     let i = q.before.before in
     let l = i.before in
-    (walk_more (W l) (count l) (made q) i.loop-test.taken (same_row q) l.loop.inv.0 w.put-row.ensures c.before.before.put-offset2.ensures, c.before.before.put-offset2.auto.1.0 ∙ l.loop.inv.1, c.before.before.put-offset2.auto.1.1.0 ∙ l.loop.inv.2)
+    (walk_more (W l) (count l) (made q) i.loop-left-test.true (same_row q) l.loop-left.invariant.0 w.put_row-at.ensures c.put_offset-in-loop-left.ensures, c.put_offset-in-loop-left.auto.narrow ∙ l.loop-left.invariant.1, c.put_offset-in-loop-left.auto.wide ∙ l.loop-left.invariant.2)
 
-same_length : tie.Need-same-length invariant-loop decreases-loop
-same_length c = c.before.loop.invariant.1 ∙ (put c.before).put-offset.kept.1.0
+shape_of-out_offsets : tie.Need-shape_of-out_offsets invariant-loop-left decreases-loop-left
+shape_of-out_offsets c = c.loop-left.invariant.1 ∙ (put c.before).put-offset.kept.1.0
 
-same-length-2 : tie.Need-same-length-2 invariant-loop decreases-loop
-same-length-2 c = c.before.loop.invariant.0.lr
+shape_of-out_rows : tie.Need-shape_of-out_rows invariant-loop-left decreases-loop-left
+shape_of-out_rows c = c.loop-left.invariant.0.lr
 
-same-length-3 : tie.Need-same-length-3 invariant-loop decreases-loop
-same-length-3 c = c.before.loop.invariant.0.lv
+shape_of-out_values : tie.Need-shape_of-out_values invariant-loop-left decreases-loop-left
+shape_of-out_values c = c.loop-left.invariant.0.lv
 
-same-length-4 : tie.Need-same-length-4 invariant-loop decreases-loop
-same-length-4 c = c.before.loop.invariant.0.le
+shape_of-out_elements : tie.Need-shape_of-out_elements invariant-loop-left decreases-loop-left
+shape_of-out_elements c = c.loop-left.invariant.0.le
 
-same-length-5 : tie.Need-same-length-5 invariant-loop decreases-loop
-same-length-5 c = c.before.loop.invariant.2 ∙ (put c.before).put-offset.kept.1.1.0
+shape_of-out_large : tie.Need-shape_of-out_large invariant-loop-left decreases-loop-left
+shape_of-out_large c = c.loop-left.invariant.2 ∙ (put c.before).put-offset.kept.1.1.0
 
-returns : tie.Need-returns invariant-loop decreases-loop
+returns : tie.Need-returns invariant-loop-left decreases-loop-left
 returns c =
     let l = c.before in
     let s = S l in
     rw (← rows_at (C s) (count l) (rows_are l))
-    (walk_done (W l) (count l) (O s) l.loop.invariant.0 c.loop-test.false (put l).put-offset.ensures (room_at (C s) (count l) (rows_are l) s.pre.1.1 refl))
+    (walk_done (W l) (count l) (O s) l.loop-left.invariant.0 c.loop-left-test.false (put l).put-offset.ensures (room_at (C s) (count l) (rows_are l) s.requires.1.1 refl))
+
+overflow_add-r-in-loop-left-2 : tie.Need-overflow_add-r-in-loop-left-2 invariant-loop-left decreases-loop-left
+overflow_add-r-in-loop-left-2 c = search rules
 
 pub write_rows_spec : {M : Type 1} → statement M
 write_rows_spec =
     tie.close
     (tie.spec
-    invariant-loop
-    decreases-loop
-    row-count-requires
-    put-offset-requires
-    loop-holds
-    offset-at-requires
-    add-offset-at
-    offset-at-requires-2
-    put-row-requires
-    add-put-offset
-    put-offset-requires-2
-    add_r
-    sub-left
-    loop-less
-    loop-again
-    same_length
-    same-length-2
-    same-length-3
-    same-length-4
-    same-length-5
+    invariant-loop-left
+    decreases-loop-left
+    row_count-n-requires
+    put_offset-requires
+    loop-left-init
+    offset_at-a-requires
+    overflow_add-r
+    offset_at-b-requires
+    put_row-at-requires
+    overflow_add-r-in-loop-left
+    put_offset-requires-in-loop-left
+    overflow_add-r-in-loop-left-2
+    overflow_sub-left
+    loop-left-smaller
+    loop-left-preserved
+    shape_of-out_offsets
+    shape_of-out_rows
+    shape_of-out_values
+    shape_of-out_elements
+    shape_of-out_large
     returns)

@@ -8,61 +8,61 @@ use Rattle.duthlan.proofs.duthlan_typed_list.Tie as tie
 
 -- ---- places: the counts told, the operation run, the counts found long enough, the operation named, the code looked up
 
-abbrev told : tie.After-slice-known6 → tie.After-put-list
+abbrev told : tie.After-slice_known-in-Of-3-1 → tie.After-put_list
 told c = c.before.before
 
-abbrev ran : tie.After-slice-known6 → tie.After-run
+abbrev ran : tie.After-slice_known-in-Of-3-1 → tie.After-run-answer
 ran c = c.before.before.before.before.before.before.before.before.before.before
 
-abbrev long : tie.After-slice-known6 → tie.Else1
+abbrev long : tie.After-slice_known-in-Of-3-1 → tie.Else-counts-lt4
 long c = (ran c).before.before.before.before.before
 
-abbrev named : tie.After-slice-known6 → tie.After-named
+abbrev named : tie.After-slice_known-in-Of-3-1 → tie.In-Of-2
 named c = (long c).before.before
 
-abbrev looked : tie.After-slice-known6 → tie.After-one-of
+abbrev looked : tie.After-slice_known-in-Of-3-1 → tie.After-one_of-named
 looked c = (named c).before.before
 
 -- ---- needs
 
-one-of-requires : tie.Need-one-of-requires
-one-of-requires c κs = tt
+one_of-named-requires : tie.Need-one_of-named-requires
+one_of-named-requires c κs = tt
 
-enum_told : tie.Need-enum-told
-enum_told c = search rules
+enum_told-1 : tie.Need-enum_told-1
+enum_told-1 c = search rules
 
-enum-known-named : tie.Need-enum-known-named
-enum-known-named c = search rules
+enum_known-named : tie.Need-enum_known-named
+enum_known-named c = search rules
 
-returns : tie.Need-returns
-returns c = list_unserved (too_short _ _ _ (list_code _ _ _ _ _ _ c.before.before.before.before.one_of_lem.ensures c.before.before.named.given.1) (lt-ltb _ 4 c.if1.true))
+returns-then-counts-lt4 : tie.Need-returns-then-counts-lt4
+returns-then-counts-lt4 c = list_unserved (too_short _ _ _ (list_code _ _ _ _ _ _ c.before.before.one_of_lem.ensures c.in-Of.is) (lt-ltb _ 4 c.if-counts-lt4.true))
 
-run-requires : tie.Need-run-requires
-run-requires c κs = search rules
+run-answer-requires : tie.Need-run-answer-requires
+run-answer-requires c κs = search rules
 
-put-list-requires : tie.Need-put-list-requires
-put-list-requires c κs = c.before.before.before.before.before.before.before.before.before.before.before.before.if1.false
+put_list-requires : tie.Need-put_list-requires
+put_list-requires c κs = c.if-counts-lt4.false
 
-returns-2 : tie.Need-returns-2
-returns-2 c = list_unserved (no_such _ _ _ (no_list-code _ _ _ _ _ _ c.before.before.one_of_lem.ensures c.enum_told.given.1))
+returns-in-None : tie.Need-returns-in-None
+returns-in-None c = list_unserved (no_such _ _ _ (no_list-code _ _ _ _ _ _ c.before.one_of_lem.ensures c.in-None.is))
 
-same_length : tie.Need-same-length
-same_length c = (ran c).run.auto.1.1.1.1.1.1.1.1.1.1.1.1.1.1.1.1.0
+shape_of-out_offsets : tie.Need-shape_of-out_offsets
+shape_of-out_offsets c = (ran c).run.auto.1.1.1.1.1.1.1.1.1.1.1.1.1.1.1.1.0
 
-same-length-2 : tie.Need-same-length-2
-same-length-2 c = (ran c).run.auto.1.1.1.1.1.1.1.1.1.1.1.1.1.1.1.1.1.0
+shape_of-out_rows : tie.Need-shape_of-out_rows
+shape_of-out_rows c = (ran c).run.auto.1.1.1.1.1.1.1.1.1.1.1.1.1.1.1.1.1.0
 
-same-length-3 : tie.Need-same-length-3
-same-length-3 c = (ran c).run.auto.1.1.1.1.1.1.1.1.1.1.1.1.1.1.1.1.1.1.0
+shape_of-out_values : tie.Need-shape_of-out_values
+shape_of-out_values c = (ran c).run.auto.1.1.1.1.1.1.1.1.1.1.1.1.1.1.1.1.1.1.0
 
-same-length-4 : tie.Need-same-length-4
-same-length-4 c = (ran c).run.auto.1.1.1.1.1.1.1.1.1.1.1.1.1.1.1.1.1.1.1.0
+shape_of-out_elements : tie.Need-shape_of-out_elements
+shape_of-out_elements c = (ran c).run.auto.1.1.1.1.1.1.1.1.1.1.1.1.1.1.1.1.1.1.1.0
 
-same-length-5 : tie.Need-same-length-5
-same-length-5 c = (told c).put-list.auto.1.0
+shape_of-counts : tie.Need-shape_of-counts
+shape_of-counts c = (told c).put-list.auto.1.0
 
-returns-3 : tie.Need-returns-3
-returns-3 c =
+returns-else-counts-lt4 : tie.Need-returns-else-counts-lt4
+returns-else-counts-lt4 c =
     list-told
     (own _ _ _ (list_code _ _ _ _ _ _ (looked c).one_of_lem.ensures (named c).named.given.1) (le-ltb _ 4 (long c).if1.false))
     (ran c).run.ensures
@@ -72,16 +72,16 @@ pub duthlan_typed_list_spec : {M : Type 1} → statement M
 duthlan_typed_list_spec =
     tie.close
     (tie.spec
-    one-of-requires
-    enum_told
-    enum-known-named
-    returns
-    run-requires
-    put-list-requires
-    returns-2
-    same_length
-    same-length-2
-    same-length-3
-    same-length-4
-    same-length-5
-    returns-3)
+    one_of-named-requires
+    enum_told-1
+    enum_known-named
+    returns-then-counts-lt4
+    run-answer-requires
+    put_list-requires
+    returns-in-None
+    shape_of-out_offsets
+    shape_of-out_rows
+    shape_of-out_values
+    shape_of-out_elements
+    shape_of-counts
+    returns-else-counts-lt4)

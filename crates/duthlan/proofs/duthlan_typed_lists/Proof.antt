@@ -8,67 +8,67 @@ use Rattle.duthlan.proofs.duthlan_typed_lists.Tie as tie
 
 -- ---- places: the counts told, the operation run, the counts found long enough, the operation named, the code looked up
 
-abbrev told : tie.After-slice-known6 → tie.After-put-list
+abbrev told : tie.After-slice_known-in-Two-3-1 → tie.After-put_list
 told c = c.before.before
 
-abbrev ran : tie.After-slice-known6 → tie.After-generic-set-lists
+abbrev ran : tie.After-slice_known-in-Two-3-1 → tie.After-generic_set_lists-answer
 ran c = c.before.before.before.before.before.before.before.before.before.before
 
-abbrev long : tie.After-slice-known6 → tie.Else1
+abbrev long : tie.After-slice_known-in-Two-3-1 → tie.Else-counts-lt4
 long c = (ran c).before.before.before.before.before
 
-abbrev named : tie.After-slice-known6 → tie.After-named
+abbrev named : tie.After-slice_known-in-Two-3-1 → tie.In-Two-2
 named c = (long c).before.before
 
-abbrev looked : tie.After-slice-known6 → tie.After-operation-of
+abbrev looked : tie.After-slice_known-in-Two-3-1 → tie.After-operation_of-named
 looked c = (named c).before.before
 
 -- ---- needs
 
-operation-of-requires : tie.Need-operation-of-requires
-operation-of-requires c κs = tt
+operation_of-named-requires : tie.Need-operation_of-named-requires
+operation_of-named-requires c κs = tt
 
-enum_told : tie.Need-enum-told
-enum_told c = search rules
+enum_told-1 : tie.Need-enum_told-1
+enum_told-1 c = search rules
 
-enum-told-2 : tie.Need-enum-told-2
-enum-told-2 c = search rules
+enum_told-in-None : tie.Need-enum_told-in-None
+enum_told-in-None c = search rules
 
-enum-known-named : tie.Need-enum-known-named
-enum-known-named c = search rules
+enum_known-named : tie.Need-enum_known-named
+enum_known-named c = search rules
 
-returns : tie.Need-returns
-returns c = list_unserved (too_short _ _ _ (set_code _ _ _ _ c.before.before.before.before.operation-of.ensures c.before.before.named.given.1) (lt-ltb _ 4 c.if1.true))
+returns-then-counts-lt4 : tie.Need-returns-then-counts-lt4
+returns-then-counts-lt4 c = list_unserved (too_short _ _ _ (set_code _ _ _ _ c.operation_of-named.ensures c.in-Two.is) (lt-ltb _ 4 c.if-counts-lt4.true))
 
-generic-set-lists-requires : tie.Need-generic-set-lists-requires
-generic-set-lists-requires c κs = search rules
+generic_set_lists-answer-requires : tie.Need-generic_set_lists-answer-requires
+generic_set_lists-answer-requires c κs = search rules
 
-put-list-requires : tie.Need-put-list-requires
-put-list-requires c κs = c.before.before.before.before.before.before.before.before.before.before.before.before.if1.false
+put_list-requires : tie.Need-put_list-requires
+put_list-requires c κs = c.if-counts-lt4.false
 
-returns-2 : tie.Need-returns-2
-returns-2 c = list_unserved (no_such _ _ _ (one_code _ _ _ _ c.before.before.operation-of.ensures c.enum_told.given.1))
+returns-in-One : tie.Need-returns-in-One
+returns-in-One c = list_unserved (no_such _ _ _ (one_code _ _ _ _ c.operation_of-named.ensures c.in-One.is))
 
-returns-3 : tie.Need-returns-3
-returns-3 c = list_unserved (no_such _ _ _ (no_set-code _ _ _ _ c.before.before.operation-of.ensures c.enum-told2.given.1))
+returns-in-None : tie.Need-returns-in-None
+returns-in-None c = list_unserved (no_such _ _ _ (no_set-code _ _ _ _ c.operation_of-named.ensures c.in-None.is))
 
-same_length : tie.Need-same-length
-same_length c = (ran c).generic-set-lists.auto.1.1.1.1.1.1.1.1.1.1.1.1.1.0
+shape_of-out_offsets : tie.Need-shape_of-out_offsets
+shape_of-out_offsets c = (ran c).generic-set-lists.auto.1.1.1.1.1.1.1.1.1.1.1.1.1.0
 
-same-length-2 : tie.Need-same-length-2
-same-length-2 c = (ran c).generic-set-lists.auto.1.1.1.1.1.1.1.1.1.1.1.1.1.1.0
+shape_of-out_rows : tie.Need-shape_of-out_rows
+shape_of-out_rows c = (ran c).generic-set-lists.auto.1.1.1.1.1.1.1.1.1.1.1.1.1.1.0
 
-same-length-3 : tie.Need-same-length-3
-same-length-3 c = (ran c).generic-set-lists.auto.1.1.1.1.1.1.1.1.1.1.1.1.1.1.1.0
+shape_of-out_values : tie.Need-shape_of-out_values
+shape_of-out_values c = (ran c).generic-set-lists.auto.1.1.1.1.1.1.1.1.1.1.1.1.1.1.1.0
 
-same-length-4 : tie.Need-same-length-4
-same-length-4 c = (ran c).generic-set-lists.auto.1.1.1.1.1.1.1.1.1.1.1.1.1.1.1.1.0
+shape_of-out_elements : tie.Need-shape_of-out_elements
+shape_of-out_elements c = (ran c).generic-set-lists.auto.1.1.1.1.1.1.1.1.1.1.1.1.1.1.1.1.0
 
-same-length-5 : tie.Need-same-length-5
-same-length-5 c = (told c).put-list.auto.1.0
+shape_of-counts : tie.Need-shape_of-counts
+shape_of-counts c = (told c).put-list.auto.1.0
 
-returns-4 : tie.Need-returns-4
-returns-4 c =
+returns-else-counts-lt4 : tie.Need-returns-else-counts-lt4
+returns-else-counts-lt4 c =
     list-told
     (own _ _ _ (set_code _ _ _ _ (looked c).operation-of.ensures (named c).named.given.1) (le-ltb _ 4 (long c).if1.false))
     (ran c).generic-set-lists.ensures
@@ -78,18 +78,18 @@ pub duthlan_typed_lists_spec : {M : Type 1} → statement M
 duthlan_typed_lists_spec =
     tie.close
     (tie.spec
-    operation-of-requires
-    enum_told
-    enum-told-2
-    enum-known-named
-    returns
-    generic-set-lists-requires
-    put-list-requires
-    returns-2
-    returns-3
-    same_length
-    same-length-2
-    same-length-3
-    same-length-4
-    same-length-5
-    returns-4)
+    operation_of-named-requires
+    enum_told-1
+    enum_told-in-None
+    enum_known-named
+    returns-then-counts-lt4
+    generic_set_lists-answer-requires
+    put_list-requires
+    returns-in-One
+    returns-in-None
+    shape_of-out_offsets
+    shape_of-out_rows
+    shape_of-out_values
+    shape_of-out_elements
+    shape_of-counts
+    returns-else-counts-lt4)

@@ -6,24 +6,24 @@ use Rattle.duthlan_bytes.proofs.duthlan_bytes_any_value.Tie as tie
 enter-requires : tie.Need-enter-requires
 enter-requires c κs = search rules
 
-same_length : tie.Need-same-length
-same_length c = c.before.before.before.before.before.before.enter.auto.1.1.1.1.1.1.0
+shape_of-out_values : tie.Need-shape_of-out_values
+shape_of-out_values c = c.enter.auto.out_values
 
-same-length-2 : tie.Need-same-length-2
-same-length-2 c = c.before.before.before.before.before.before.enter.auto.1.1.1.1.1.1.1.0
+shape_of-out_rows : tie.Need-shape_of-out_rows
+shape_of-out_rows c = c.enter.auto.out_rows
 
-same-length-3 : tie.Need-same-length-3
-same-length-3 c = c.before.before.before.before.before.before.enter.auto.1.1.1.1.1.1.1.1.0
+shape_of-counts : tie.Need-shape_of-counts
+shape_of-counts c = c.enter.auto.counts
 
 returns : tie.Need-returns
-returns c = c.before.before.before.before.before.before.enter.ensures
+returns c = c.enter.ensures
 
-pub duthlan_bytes-any_value_spec : {M : Type 1} → statement M
-duthlan_bytes-any_value_spec =
+pub duthlan_bytes_any_value_spec : {M : Type 1} → statement M
+duthlan_bytes_any_value_spec =
     tie.close
     (tie.spec
     enter-requires
-    same_length
-    same-length-2
-    same-length-3
+    shape_of-out_values
+    shape_of-out_rows
+    shape_of-counts
     returns)

@@ -6,40 +6,40 @@ use Rattle.duthlan_bytes.proofs.duthlan_bytes_list_repeat.Tie as tie
 enter-requires : tie.Need-enter-requires
 enter-requires c κs = search rules
 
-same_length : tie.Need-same-length
-same_length c = c.before.before.before.before.before.before.before.before.before.before.before.before.before.before.enter.auto.1.1.1.1.1.1.1.1.1.0
+shape_of-out_offsets : tie.Need-shape_of-out_offsets
+shape_of-out_offsets c = c.enter.auto.out_offsets
 
-same-length-2 : tie.Need-same-length-2
-same-length-2 c = c.before.before.before.before.before.before.before.before.before.before.before.before.before.before.enter.auto.1.1.1.1.1.1.1.1.1.1.0
+shape_of-out_rows : tie.Need-shape_of-out_rows
+shape_of-out_rows c = c.enter.auto.out_rows
 
-same-length-3 : tie.Need-same-length-3
-same-length-3 c = c.before.before.before.before.before.before.before.before.before.before.before.before.before.before.enter.auto.1.1.1.1.1.1.1.1.1.1.1.0
+shape_of-inner_offsets : tie.Need-shape_of-inner_offsets
+shape_of-inner_offsets c = c.enter.auto.inner_offsets
 
-same-length-4 : tie.Need-same-length-4
-same-length-4 c = c.before.before.before.before.before.before.before.before.before.before.before.before.before.before.enter.auto.1.1.1.1.1.1.1.1.1.1.1.1.0
+shape_of-inner_rows : tie.Need-shape_of-inner_rows
+shape_of-inner_rows c = c.enter.auto.inner_rows
 
-same-length-5 : tie.Need-same-length-5
-same-length-5 c = c.before.before.before.before.before.before.before.before.before.before.before.before.before.before.enter.auto.1.1.1.1.1.1.1.1.1.1.1.1.1.0
+shape_of-out_values : tie.Need-shape_of-out_values
+shape_of-out_values c = c.enter.auto.out_values
 
-same-length-6 : tie.Need-same-length-6
-same-length-6 c = c.before.before.before.before.before.before.before.before.before.before.before.before.before.before.enter.auto.1.1.1.1.1.1.1.1.1.1.1.1.1.1.0
+shape_of-out_elements : tie.Need-shape_of-out_elements
+shape_of-out_elements c = c.enter.auto.out_elements
 
-same-length-7 : tie.Need-same-length-7
-same-length-7 c = c.before.before.before.before.before.before.before.before.before.before.before.before.before.before.enter.auto.1.1.1.1.1.1.1.1.1.1.1.1.1.1.1.0
+shape_of-counts : tie.Need-shape_of-counts
+shape_of-counts c = c.enter.auto.counts
 
 returns : tie.Need-returns
-returns c = c.before.before.before.before.before.before.before.before.before.before.before.before.before.before.enter.ensures
+returns c = c.enter.ensures
 
-pub duthlan_bytes-list_repeat_spec : {M : Type 1} → statement M
-duthlan_bytes-list_repeat_spec =
+pub duthlan_bytes_list_repeat_spec : {M : Type 1} → statement M
+duthlan_bytes_list_repeat_spec =
     tie.close
     (tie.spec
     enter-requires
-    same_length
-    same-length-2
-    same-length-3
-    same-length-4
-    same-length-5
-    same-length-6
-    same-length-7
+    shape_of-out_offsets
+    shape_of-out_rows
+    shape_of-inner_offsets
+    shape_of-inner_rows
+    shape_of-out_values
+    shape_of-out_elements
+    shape_of-counts
     returns)

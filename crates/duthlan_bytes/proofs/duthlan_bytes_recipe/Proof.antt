@@ -6,68 +6,68 @@ use Rattle.duthlan_bytes.proofs.duthlan_bytes_recipe.Tie as tie
 enter-requires : tie.Need-enter-requires
 enter-requires c κs = search rules
 
-same_length : tie.Need-same-length
-same_length c = c.before.before.before.before.before.before.before.before.before.before.before.before.before.before.before.before.before.before.before.before.before.before.before.before.before.before.before.before.enter.auto.1.1.1.1.1.1.1.1.1.1.1.1.1.1.1.1.1.1.0
+shape_of-one_offsets : tie.Need-shape_of-one_offsets
+shape_of-one_offsets c = c.enter.auto.one_offsets
 
-same-length-2 : tie.Need-same-length-2
-same-length-2 c = c.before.before.before.before.before.before.before.before.before.before.before.before.before.before.before.before.before.before.before.before.before.before.before.before.before.before.before.before.enter.auto.1.1.1.1.1.1.1.1.1.1.1.1.1.1.1.1.1.1.1.0
+shape_of-one_rows : tie.Need-shape_of-one_rows
+shape_of-one_rows c = c.enter.auto.one_rows
 
-same-length-3 : tie.Need-same-length-3
-same-length-3 c = c.before.before.before.before.before.before.before.before.before.before.before.before.before.before.before.before.before.before.before.before.before.before.before.before.before.before.before.before.enter.auto.1.1.1.1.1.1.1.1.1.1.1.1.1.1.1.1.1.1.1.1.0
+shape_of-one_values : tie.Need-shape_of-one_values
+shape_of-one_values c = c.enter.auto.one_values
 
-same-length-4 : tie.Need-same-length-4
-same-length-4 c = c.before.before.before.before.before.before.before.before.before.before.before.before.before.before.before.before.before.before.before.before.before.before.before.before.before.before.before.before.enter.auto.1.1.1.1.1.1.1.1.1.1.1.1.1.1.1.1.1.1.1.1.1.0
+shape_of-one_elements : tie.Need-shape_of-one_elements
+shape_of-one_elements c = c.enter.auto.one_elements
 
-same-length-5 : tie.Need-same-length-5
-same-length-5 c = c.before.before.before.before.before.before.before.before.before.before.before.before.before.before.before.before.before.before.before.before.before.before.before.before.before.before.before.before.enter.auto.1.1.1.1.1.1.1.1.1.1.1.1.1.1.1.1.1.1.1.1.1.1.0
+shape_of-two_offsets : tie.Need-shape_of-two_offsets
+shape_of-two_offsets c = c.enter.auto.two_offsets
 
-same-length-6 : tie.Need-same-length-6
-same-length-6 c = c.before.before.before.before.before.before.before.before.before.before.before.before.before.before.before.before.before.before.before.before.before.before.before.before.before.before.before.before.enter.auto.1.1.1.1.1.1.1.1.1.1.1.1.1.1.1.1.1.1.1.1.1.1.1.0
+shape_of-two_rows : tie.Need-shape_of-two_rows
+shape_of-two_rows c = c.enter.auto.two_rows
 
-same-length-7 : tie.Need-same-length-7
-same-length-7 c = c.before.before.before.before.before.before.before.before.before.before.before.before.before.before.before.before.before.before.before.before.before.before.before.before.before.before.before.before.enter.auto.1.1.1.1.1.1.1.1.1.1.1.1.1.1.1.1.1.1.1.1.1.1.1.1.0
+shape_of-two_values : tie.Need-shape_of-two_values
+shape_of-two_values c = c.enter.auto.two_values
 
-same-length-8 : tie.Need-same-length-8
-same-length-8 c = c.before.before.before.before.before.before.before.before.before.before.before.before.before.before.before.before.before.before.before.before.before.before.before.before.before.before.before.before.enter.auto.1.1.1.1.1.1.1.1.1.1.1.1.1.1.1.1.1.1.1.1.1.1.1.1.1.0
+shape_of-two_elements : tie.Need-shape_of-two_elements
+shape_of-two_elements c = c.enter.auto.two_elements
 
-same-length-9 : tie.Need-same-length-9
-same-length-9 c = c.before.before.before.before.before.before.before.before.before.before.before.before.before.before.before.before.before.before.before.before.before.before.before.before.before.before.before.before.enter.auto.1.1.1.1.1.1.1.1.1.1.1.1.1.1.1.1.1.1.1.1.1.1.1.1.1.1.0
+shape_of-out_offsets : tie.Need-shape_of-out_offsets
+shape_of-out_offsets c = c.enter.auto.out_offsets
 
-same-length-10 : tie.Need-same-length-10
-same-length-10 c = c.before.before.before.before.before.before.before.before.before.before.before.before.before.before.before.before.before.before.before.before.before.before.before.before.before.before.before.before.enter.auto.1.1.1.1.1.1.1.1.1.1.1.1.1.1.1.1.1.1.1.1.1.1.1.1.1.1.1.0
+shape_of-out_rows : tie.Need-shape_of-out_rows
+shape_of-out_rows c = c.enter.auto.out_rows
 
-same-length-11 : tie.Need-same-length-11
-same-length-11 c = c.before.before.before.before.before.before.before.before.before.before.before.before.before.before.before.before.before.before.before.before.before.before.before.before.before.before.before.before.enter.auto.1.1.1.1.1.1.1.1.1.1.1.1.1.1.1.1.1.1.1.1.1.1.1.1.1.1.1.1.0
+shape_of-out_values : tie.Need-shape_of-out_values
+shape_of-out_values c = c.enter.auto.out_values
 
-same-length-12 : tie.Need-same-length-12
-same-length-12 c = c.before.before.before.before.before.before.before.before.before.before.before.before.before.before.before.before.before.before.before.before.before.before.before.before.before.before.before.before.enter.auto.1.1.1.1.1.1.1.1.1.1.1.1.1.1.1.1.1.1.1.1.1.1.1.1.1.1.1.1.1.0
+shape_of-out_elements : tie.Need-shape_of-out_elements
+shape_of-out_elements c = c.enter.auto.out_elements
 
-same-length-13 : tie.Need-same-length-13
-same-length-13 c = c.before.before.before.before.before.before.before.before.before.before.before.before.before.before.before.before.before.before.before.before.before.before.before.before.before.before.before.before.enter.auto.1.1.1.1.1.1.1.1.1.1.1.1.1.1.1.1.1.1.1.1.1.1.1.1.1.1.1.1.1.1.0
+shape_of-counts : tie.Need-shape_of-counts
+shape_of-counts c = c.enter.auto.counts
 
-same-length-14 : tie.Need-same-length-14
-same-length-14 c = c.before.before.before.before.before.before.before.before.before.before.before.before.before.before.before.before.before.before.before.before.before.before.before.before.before.before.before.before.enter.auto.1.1.1.1.1.1.1.1.1.1.1.1.1.1.1.1.1.1.1.1.1.1.1.1.1.1.1.1.1.1.1.0
+shape_of-tally : tie.Need-shape_of-tally
+shape_of-tally c = c.enter.auto.tally
 
 returns : tie.Need-returns
-returns c = c.before.before.before.before.before.before.before.before.before.before.before.before.before.before.before.before.before.before.before.before.before.before.before.before.before.before.before.before.enter.ensures
+returns c = c.enter.ensures
 
-pub duthlan_bytes-recipe_spec : {M : Type 1} → statement M
-duthlan_bytes-recipe_spec =
+pub duthlan_bytes_recipe_spec : {M : Type 1} → statement M
+duthlan_bytes_recipe_spec =
     tie.close
     (tie.spec
     enter-requires
-    same_length
-    same-length-2
-    same-length-3
-    same-length-4
-    same-length-5
-    same-length-6
-    same-length-7
-    same-length-8
-    same-length-9
-    same-length-10
-    same-length-11
-    same-length-12
-    same-length-13
-    same-length-14
+    shape_of-one_offsets
+    shape_of-one_rows
+    shape_of-one_values
+    shape_of-one_elements
+    shape_of-two_offsets
+    shape_of-two_rows
+    shape_of-two_values
+    shape_of-two_elements
+    shape_of-out_offsets
+    shape_of-out_rows
+    shape_of-out_values
+    shape_of-out_elements
+    shape_of-counts
+    shape_of-tally
     returns)

@@ -8,46 +8,46 @@ use Rattle.duthlan_large.proofs.duthlan_large_any_value.Tie as tie
 
 -- ---- places: the counts told, the operation run, the counts found long enough
 
-abbrev told : tie.After-slice-known4 → tie.After-put-values
+abbrev told : tie.After-slice_known-4-1 → tie.After-put_values
 told c = c.before.before
 
-abbrev ran : tie.After-slice-known4 → tie.After-general-array-any-value
+abbrev ran : tie.After-slice_known-4-1 → tie.After-general_array_any_value-answer
 ran c = c.before.before.before.before.before.before.before
 
-abbrev long : tie.After-slice-known4 → tie.Else1
+abbrev long : tie.After-slice_known-4-1 → tie.Else-counts-lt2
 long c = (ran c).before.before.before
 
 -- ---- needs
 
+returns-then-counts-lt2 : tie.Need-returns-then-counts-lt2
+returns-then-counts-lt2 c = value_unserved (too_short _ _ _ refl (lt-ltb _ 2 c.if-counts-lt2.true))
+
+general_array_any_value-answer-requires : tie.Need-general_array_any_value-answer-requires
+general_array_any_value-answer-requires c κs = search rules
+
+put_values-requires : tie.Need-put_values-requires
+put_values-requires c κs = c.if-counts-lt2.false
+
+shape_of-out_values : tie.Need-shape_of-out_values
+shape_of-out_values c = (ran c).general-array-any-value.auto.1.1.1.1.1.1.0
+
+shape_of-out_rows : tie.Need-shape_of-out_rows
+shape_of-out_rows c = (ran c).general-array-any-value.auto.1.1.1.1.1.1.1.0
+
+shape_of-counts : tie.Need-shape_of-counts
+shape_of-counts c = (told c).put-values.auto.1.0
+
 returns : tie.Need-returns
-returns c = value_unserved (too_short _ _ _ refl (lt-ltb _ 2 c.if1.true))
-
-general-array-any-value-requires : tie.Need-general-array-any-value-requires
-general-array-any-value-requires c κs = search rules
-
-put-values-requires : tie.Need-put-values-requires
-put-values-requires c κs = c.before.before.before.before.before.before.before.if1.false
-
-same_length : tie.Need-same-length
-same_length c = (ran c).general-array-any-value.auto.1.1.1.1.1.1.0
-
-same-length-2 : tie.Need-same-length-2
-same-length-2 c = (ran c).general-array-any-value.auto.1.1.1.1.1.1.1.0
-
-same-length-3 : tie.Need-same-length-3
-same-length-3 c = (told c).put-values.auto.1.0
-
-returns-2 : tie.Need-returns-2
-returns-2 c = value_told (own _ _ _ refl (le-ltb _ 2 (long c).if1.false)) (ran c).general-array-any-value.ensures (told c).put-values.ensures
+returns c = value_told (own _ _ _ refl (le-ltb _ 2 (long c).if1.false)) (ran c).general-array-any-value.ensures (told c).put-values.ensures
 
 pub duthlan_large_any_value_spec : {M : Type 1} → statement M
 duthlan_large_any_value_spec =
     tie.close
     (tie.spec
-    returns
-    general-array-any-value-requires
-    put-values-requires
-    same_length
-    same-length-2
-    same-length-3
-    returns-2)
+    returns-then-counts-lt2
+    general_array_any_value-answer-requires
+    put_values-requires
+    shape_of-out_values
+    shape_of-out_rows
+    shape_of-counts
+    returns)

@@ -8,62 +8,62 @@ use Rattle.duthlan_large.proofs.duthlan_large_list_repeat.Tie as tie
 
 -- ---- places: the counts told, the operation run, the counts found long enough
 
-abbrev told : tie.After-slice-known8 → tie.After-put-repeat
+abbrev told : tie.After-slice_known-8-1 → tie.After-put_repeat
 told c = c.before.before
 
-abbrev ran : tie.After-slice-known8 → tie.After-general-list-repeat
+abbrev ran : tie.After-slice_known-8-1 → tie.After-general_list_repeat-answer
 ran c = c.before.before.before.before.before.before.before.before.before.before.before.before.before
 
-abbrev long : tie.After-slice-known8 → tie.Else1
+abbrev long : tie.After-slice_known-8-1 → tie.Else-counts-lt6
 long c = (ran c).before.before.before.before.before.before.before
 
 -- ---- needs
 
+returns-then-counts-lt6 : tie.Need-returns-then-counts-lt6
+returns-then-counts-lt6 c = repeat_unserved (too_short _ _ _ refl (lt-ltb _ 6 c.if-counts-lt6.true))
+
+general_list_repeat-answer-requires : tie.Need-general_list_repeat-answer-requires
+general_list_repeat-answer-requires c κs = search rules
+
+put_repeat-requires : tie.Need-put_repeat-requires
+put_repeat-requires c κs = c.if-counts-lt6.false
+
+shape_of-out_offsets : tie.Need-shape_of-out_offsets
+shape_of-out_offsets c = (ran c).general-list-repeat.auto.1.1.1.1.1.1.1.1.1.0
+
+shape_of-out_rows : tie.Need-shape_of-out_rows
+shape_of-out_rows c = (ran c).general-list-repeat.auto.1.1.1.1.1.1.1.1.1.1.0
+
+shape_of-inner_offsets : tie.Need-shape_of-inner_offsets
+shape_of-inner_offsets c = (ran c).general-list-repeat.auto.1.1.1.1.1.1.1.1.1.1.1.0
+
+shape_of-inner_rows : tie.Need-shape_of-inner_rows
+shape_of-inner_rows c = (ran c).general-list-repeat.auto.1.1.1.1.1.1.1.1.1.1.1.1.0
+
+shape_of-out_values : tie.Need-shape_of-out_values
+shape_of-out_values c = (ran c).general-list-repeat.auto.1.1.1.1.1.1.1.1.1.1.1.1.1.0
+
+shape_of-out_elements : tie.Need-shape_of-out_elements
+shape_of-out_elements c = (ran c).general-list-repeat.auto.1.1.1.1.1.1.1.1.1.1.1.1.1.1.0
+
+shape_of-counts : tie.Need-shape_of-counts
+shape_of-counts c = (told c).put-repeat.auto.1.0
+
 returns : tie.Need-returns
-returns c = repeat_unserved (too_short _ _ _ refl (lt-ltb _ 6 c.if1.true))
-
-general-list-repeat-requires : tie.Need-general-list-repeat-requires
-general-list-repeat-requires c κs = search rules
-
-put-repeat-requires : tie.Need-put-repeat-requires
-put-repeat-requires c κs = c.before.before.before.before.before.before.before.before.before.before.before.before.before.before.before.before.before.if1.false
-
-same_length : tie.Need-same-length
-same_length c = (ran c).general-list-repeat.auto.1.1.1.1.1.1.1.1.1.0
-
-same-length-2 : tie.Need-same-length-2
-same-length-2 c = (ran c).general-list-repeat.auto.1.1.1.1.1.1.1.1.1.1.0
-
-same-length-3 : tie.Need-same-length-3
-same-length-3 c = (ran c).general-list-repeat.auto.1.1.1.1.1.1.1.1.1.1.1.0
-
-same-length-4 : tie.Need-same-length-4
-same-length-4 c = (ran c).general-list-repeat.auto.1.1.1.1.1.1.1.1.1.1.1.1.0
-
-same-length-5 : tie.Need-same-length-5
-same-length-5 c = (ran c).general-list-repeat.auto.1.1.1.1.1.1.1.1.1.1.1.1.1.0
-
-same-length-6 : tie.Need-same-length-6
-same-length-6 c = (ran c).general-list-repeat.auto.1.1.1.1.1.1.1.1.1.1.1.1.1.1.0
-
-same-length-7 : tie.Need-same-length-7
-same-length-7 c = (told c).put-repeat.auto.1.0
-
-returns-2 : tie.Need-returns-2
-returns-2 c = repeat_told (own _ _ _ refl (le-ltb _ 6 (long c).if1.false)) (ran c).general-list-repeat.ensures (told c).put-repeat.ensures
+returns c = repeat_told (own _ _ _ refl (le-ltb _ 6 (long c).if1.false)) (ran c).general-list-repeat.ensures (told c).put-repeat.ensures
 
 pub duthlan_large_list_repeat_spec : {M : Type 1} → statement M
 duthlan_large_list_repeat_spec =
     tie.close
     (tie.spec
-    returns
-    general-list-repeat-requires
-    put-repeat-requires
-    same_length
-    same-length-2
-    same-length-3
-    same-length-4
-    same-length-5
-    same-length-6
-    same-length-7
-    returns-2)
+    returns-then-counts-lt6
+    general_list_repeat-answer-requires
+    put_repeat-requires
+    shape_of-out_offsets
+    shape_of-out_rows
+    shape_of-inner_offsets
+    shape_of-inner_rows
+    shape_of-out_values
+    shape_of-out_elements
+    shape_of-counts
+    returns)

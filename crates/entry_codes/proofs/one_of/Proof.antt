@@ -5,43 +5,43 @@ use borrow.Author.Rules.{rules}
 use Rattle.entry_codes.proofs.one_of.Statement.{statement}
 use Rattle.entry_codes.proofs.one_of.Tie as tie
 
-returns : tie.Need-returns
+returns-then-code-eq11 : tie.Need-returns-then-code-eq11
 unfolding taking_lent one_of
-returns c = rw c.if1.true
+returns-then-code-eq11 c = rw c.if-code-eq11.true
 
-operation-of-requires : tie.Need-operation-of-requires
-operation-of-requires c κs = search rules
+operation_of-named-requires : tie.Need-operation_of-named-requires
+operation_of-named-requires c κs = search rules
 
-enum-known-named : tie.Need-enum-known-named
-enum-known-named c = search rules
+enum_known-named : tie.Need-enum_known-named
+enum_known-named c = search rules
 
-enum_told : tie.Need-enum-told
-enum_told c = search rules
+enum_told-1 : tie.Need-enum_told-1
+enum_told-1 c = search rules
 
-enum-told-2 : tie.Need-enum-told-2
-enum-told-2 c = search rules
+enum_told-in-None : tie.Need-enum_told-in-None
+enum_told-in-None c = search rules
 
-returns-2 : tie.Need-returns-2
+returns-in-One : tie.Need-returns-in-One
 unfolding taking_lent
-returns-2 c = list-one _ c.before.before.before.operation-of.ensures c.before.before.before.before.if1.false c.before.named.given.1
+returns-in-One c = list-one _ c.operation_of-named.ensures c.if-code-eq11.false c.in-One.is
 
-returns-3 : tie.Need-returns-3
+returns-in-Two : tie.Need-returns-in-Two
 unfolding taking_lent
-returns-3 c = list-two _ c.before.before.operation-of.ensures c.before.before.before.if1.false c.enum_told.given.1
+returns-in-Two c = list-two _ c.operation_of-named.ensures c.if-code-eq11.false c.in-Two.is
 
-returns-4 : tie.Need-returns-4
+returns-in-None : tie.Need-returns-in-None
 unfolding taking_lent
-returns-4 c = list-none _ c.before.before.operation-of.ensures c.before.before.before.if1.false c.enum-told2.given.1
+returns-in-None c = list-none _ c.operation_of-named.ensures c.if-code-eq11.false c.in-None.is
 
 pub one_of_spec : {M : Type 1} → statement M
 one_of_spec =
     tie.close
     (tie.spec
-    returns
-    operation-of-requires
-    enum-known-named
-    enum_told
-    enum-told-2
-    returns-2
-    returns-3
-    returns-4)
+    returns-then-code-eq11
+    operation_of-named-requires
+    enum_known-named
+    enum_told-1
+    enum_told-in-None
+    returns-in-One
+    returns-in-Two
+    returns-in-None)

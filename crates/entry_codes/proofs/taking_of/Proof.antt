@@ -4,70 +4,70 @@ use borrow.Author.Rules.{rules}
 use Rattle.entry_codes.proofs.taking_of.Statement.{statement}
 use Rattle.entry_codes.proofs.taking_of.Tie as tie
 
-enum_told : tie.Need-enum-told
-enum_told c = search rules
+enum_told-1 : tie.Need-enum_told-1
+enum_told-1 c = search rules
 
-enum-told-2 : tie.Need-enum-told-2
-enum-told-2 c = search rules
+enum_told-in-Slice : tie.Need-enum_told-in-Slice
+enum_told-in-Slice c = search rules
 
-enum-told-3 : tie.Need-enum-told-3
-enum-told-3 c = search rules
+enum_told-in-SliceBy : tie.Need-enum_told-in-SliceBy
+enum_told-in-SliceBy c = search rules
 
-enum-told-4 : tie.Need-enum-told-4
-enum-told-4 c = search rules
+enum_told-in-Resize : tie.Need-enum_told-in-Resize
+enum_told-in-Resize c = search rules
 
-enum-told-5 : tie.Need-enum-told-5
-enum-told-5 c = search rules
+enum_told-in-ResizeWith : tie.Need-enum_told-in-ResizeWith
+enum_told-in-ResizeWith c = search rules
 
-enum-told-6 : tie.Need-enum-told-6
-enum-told-6 c = search rules
+enum_told-in-Replace : tie.Need-enum_told-in-Replace
+enum_told-in-Replace c = search rules
 
-enum-told-7 : tie.Need-enum-told-7
-enum-told-7 c = search rules
+enum_told-in-Remove : tie.Need-enum_told-in-Remove
+enum_told-in-Remove c = search rules
 
-returns : tie.Need-returns
+returns-in-Plain : tie.Need-returns-in-Plain
 unfolding taking_lent taking_of
-returns c = rw c.enum_told.given.1
+returns-in-Plain c = rw c.in-Plain.is
 
-returns-2 : tie.Need-returns-2
+returns-in-Slice : tie.Need-returns-in-Slice
 unfolding taking_lent taking_of
-returns-2 c = rw c.enum-told2.given.1
+returns-in-Slice c = rw c.in-Slice.is
 
-returns-3 : tie.Need-returns-3
+returns-in-SliceBy : tie.Need-returns-in-SliceBy
 unfolding taking_lent taking_of
-returns-3 c = rw c.enum-told3.given.1
+returns-in-SliceBy c = rw c.in-SliceBy.is
 
-returns-4 : tie.Need-returns-4
+returns-in-Resize : tie.Need-returns-in-Resize
 unfolding taking_lent taking_of
-returns-4 c = rw c.enum-told4.given.1
+returns-in-Resize c = rw c.in-Resize.is
 
-returns-5 : tie.Need-returns-5
+returns-in-ResizeWith : tie.Need-returns-in-ResizeWith
 unfolding taking_lent taking_of
-returns-5 c = rw c.enum-told5.given.1
+returns-in-ResizeWith c = rw c.in-ResizeWith.is
 
-returns-6 : tie.Need-returns-6
+returns-in-Replace : tie.Need-returns-in-Replace
 unfolding taking_lent taking_of
-returns-6 c = rw c.enum-told6.given.1
+returns-in-Replace c = rw c.in-Replace.is
 
-returns-7 : tie.Need-returns-7
+returns-in-Remove : tie.Need-returns-in-Remove
 unfolding taking_lent taking_of
-returns-7 c = rw c.enum-told7.given.1
+returns-in-Remove c = rw c.in-Remove.is
 
 pub taking_of_spec : {M : Type 1} → statement M
 taking_of_spec =
     tie.close
     (tie.spec
-    enum_told
-    enum-told-2
-    enum-told-3
-    enum-told-4
-    enum-told-5
-    enum-told-6
-    enum-told-7
-    returns
-    returns-2
-    returns-3
-    returns-4
-    returns-5
-    returns-6
-    returns-7)
+    enum_told-1
+    enum_told-in-Slice
+    enum_told-in-SliceBy
+    enum_told-in-Resize
+    enum_told-in-ResizeWith
+    enum_told-in-Replace
+    enum_told-in-Remove
+    returns-in-Plain
+    returns-in-Slice
+    returns-in-SliceBy
+    returns-in-Resize
+    returns-in-ResizeWith
+    returns-in-Replace
+    returns-in-Remove)

@@ -6,41 +6,41 @@ use borrow.Author.Rules.{rules}
 use Rattle.entry_codes.proofs.unary_of.Statement.{statement}
 use Rattle.entry_codes.proofs.unary_of.Tie as tie
 
-operation-of-requires : tie.Need-operation-of-requires
-operation-of-requires c κs = search rules
+operation_of-named-requires : tie.Need-operation_of-named-requires
+operation_of-named-requires c κs = search rules
 
-enum-known-named : tie.Need-enum-known-named
-enum-known-named c = search rules
+enum_known-named : tie.Need-enum_known-named
+enum_known-named c = search rules
 
-plain-of-requires : tie.Need-plain-of-requires
-plain-of-requires c κs = search rules
+plain_of-requires : tie.Need-plain_of-requires
+plain_of-requires c κs = search rules
 
-enum_told : tie.Need-enum-told
-enum_told c = search rules
+enum_told-1 : tie.Need-enum_told-1
+enum_told-1 c = search rules
 
-enum-told-2 : tie.Need-enum-told-2
-enum-told-2 c = search rules
+enum_told-in-None : tie.Need-enum_told-in-None
+enum_told-in-None c = search rules
 
-returns : tie.Need-returns
-returns c = c.plain_of.ensures ∙ plain-one _ c.before.before.before.before.operation-of.ensures c.before.before.named.given.1
+returns-in-One : tie.Need-returns-in-One
+returns-in-One c = c.plain_of.ensures ∙ plain-one _ c.operation_of-named.ensures c.in-One.is
 
-returns-2 : tie.Need-returns-2
+returns-in-Two : tie.Need-returns-in-Two
 unfolding plain_lent
-returns-2 c = plain-two _ c.before.before.operation-of.ensures c.enum_told.given.1
+returns-in-Two c = plain-two _ c.operation_of-named.ensures c.in-Two.is
 
-returns-3 : tie.Need-returns-3
+returns-in-None : tie.Need-returns-in-None
 unfolding plain_lent
-returns-3 c = plain-none _ c.before.before.operation-of.ensures c.enum-told2.given.1
+returns-in-None c = plain-none _ c.operation_of-named.ensures c.in-None.is
 
 pub unary_of_spec : {M : Type 1} → statement M
 unary_of_spec =
     tie.close
     (tie.spec
-    operation-of-requires
-    enum-known-named
-    plain-of-requires
-    enum_told
-    enum-told-2
-    returns
-    returns-2
-    returns-3)
+    operation_of-named-requires
+    enum_known-named
+    plain_of-requires
+    enum_told-1
+    enum_told-in-None
+    returns-in-One
+    returns-in-Two
+    returns-in-None)

@@ -6,32 +6,32 @@ use borrow.Author.Rules.{rules}
 use Rattle.entry_codes.proofs.with_of.Statement.{statement}
 use Rattle.entry_codes.proofs.with_of.Tie as tie
 
-one-of-requires : tie.Need-one-of-requires
-one-of-requires c κs = search rules
+one_of-named-requires : tie.Need-one_of-named-requires
+one_of-named-requires c κs = search rules
 
-enum-known-named : tie.Need-enum-known-named
-enum-known-named c = search rules
+enum_known-named : tie.Need-enum_known-named
+enum_known-named c = search rules
 
-taking-of-requires : tie.Need-taking-of-requires
-taking-of-requires c κs = search rules
+taking_of-requires : tie.Need-taking_of-requires
+taking_of-requires c κs = search rules
 
-enum_told : tie.Need-enum-told
-enum_told c = search rules
+enum_told-1 : tie.Need-enum_told-1
+enum_told-1 c = search rules
 
-returns : tie.Need-returns
-returns c = c.taking-of.ensures ∙ taking-one _ c.before.before.before.before.one_of_lem.ensures c.before.before.named.given.1
+returns-in-Of : tie.Need-returns-in-Of
+returns-in-Of c = c.taking_of.ensures ∙ taking-one _ c.before.before.one_of_lem.ensures c.in-Of.is
 
-returns-2 : tie.Need-returns-2
+returns-in-None : tie.Need-returns-in-None
 unfolding taking_lent
-returns-2 c = taking-none _ c.before.before.one_of_lem.ensures c.enum_told.given.1
+returns-in-None c = taking-none _ c.before.one_of_lem.ensures c.in-None.is
 
 pub with_of_spec : {M : Type 1} → statement M
 with_of_spec =
     tie.close
     (tie.spec
-    one-of-requires
-    enum-known-named
-    taking-of-requires
-    enum_told
-    returns
-    returns-2)
+    one_of-named-requires
+    enum_known-named
+    taking_of-requires
+    enum_told-1
+    returns-in-Of
+    returns-in-None)

@@ -5,16 +5,21 @@ use Rattle.entry.proofs.SizeLaws.{any_both}
 use Rattle.entry_recipe.proofs.is_pair_ragged.Statement.{statement}
 use Rattle.entry_recipe.proofs.is_pair_ragged.Tie as tie
 
-is-list-ragged-requires : tie.Need-is-list-ragged-requires
-is-list-ragged-requires c κs = search rules
+is_list_ragged-requires : tie.Need-is_list_ragged-requires
+is_list_ragged-requires c κs = search rules
 
-is-list-ragged-requires-2 : tie.Need-is-list-ragged-requires-2
-is-list-ragged-requires-2 c κs = search rules
+is_list_ragged-requires-2 : tie.Need-is_list_ragged-requires-2
+is_list_ragged-requires-2 c κs = search rules
 
 returns : tie.Need-returns
 returns c =
-    let a = c.before.before.args in
-    any_both ragged (list_sizes a.one-offsets a.one-values) (list_sizes a.two-offsets a.two-values) c.before.is-list-ragged.ensures c.is-list-ragged2.ensures
+    let a = c.args in
+    any_both ragged (list_sizes a.one_offsets a.one_values) (list_sizes a.two_offsets a.two_values) c.is_list_ragged.ensures c.is_list_ragged-2.ensures
 
 pub is_pair_ragged_spec : {M : Type 1} → statement M
-is_pair_ragged_spec = tie.close (tie.spec is-list-ragged-requires is-list-ragged-requires-2 returns)
+is_pair_ragged_spec =
+    tie.close
+    (tie.spec
+    is_list_ragged-requires
+    is_list_ragged-requires-2
+    returns)

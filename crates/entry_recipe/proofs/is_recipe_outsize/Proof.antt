@@ -8,11 +8,15 @@ use Rattle.entry.proofs.SizeLaws.{any-two}
 use Rattle.entry_recipe.proofs.is_recipe_outsize.Statement.{statement}
 use Rattle.entry_recipe.proofs.is_recipe_outsize.Tie as tie
 
-is-outsize-requires : tie.Need-is-outsize-requires
-is-outsize-requires c κs = search rules
+is_outsize-requires : tie.Need-is_outsize-requires
+is_outsize-requires c κs = search rules
 
 returns : tie.Need-returns
-returns c = let n = c.before.args.numbers in any-two outsize _ _ (sym (le-ltb n _ (div-le_self n 4))) c.is-outsize.ensures
+returns c = let n = c.args.numbers in any-two outsize _ _ (sym (le-ltb n _ (div-le_self n 4))) c.is_outsize.ensures
 
-pub is_recipe-outsize_spec : {M : Type 1} → statement M
-is_recipe-outsize_spec = tie.close (tie.spec is-outsize-requires returns)
+pub is_recipe_outsize_spec : {M : Type 1} → statement M
+is_recipe_outsize_spec =
+    tie.close
+    (tie.spec
+    is_outsize-requires
+    returns)

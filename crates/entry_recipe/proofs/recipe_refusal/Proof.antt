@@ -8,62 +8,62 @@ use borrow.Author.Rules.{rules}
 use Rattle.entry_recipe.proofs.recipe_refusal.Statement.{statement}
 use Rattle.entry_recipe.proofs.recipe_refusal.Tie as tie
 
-returns : tie.Need-returns
-returns c = tally-short _ _ _ c.if1.true
+returns-then-tally-lt256 : tie.Need-returns-then-tally-lt256
+returns-then-tally-lt256 c = tally-short _ _ _ c.if-tally-lt256.true
 
-is-recipe-ragged-requires : tie.Need-is-recipe-ragged-requires
-is-recipe-ragged-requires c κs = search rules
+is_recipe_ragged-requires : tie.Need-is_recipe_ragged-requires
+is_recipe_ragged-requires c κs = search rules
 
-is-pair-ragged-requires : tie.Need-is-pair-ragged-requires
-is-pair-ragged-requires c κs = search rules
+is_pair_ragged-requires : tie.Need-is_pair_ragged-requires
+is_pair_ragged-requires c κs = search rules
 
-is-pair-ragged-requires-2 : tie.Need-is-pair-ragged-requires-2
-is-pair-ragged-requires-2 c κs = search rules
+is_pair_ragged-requires-2 : tie.Need-is_pair_ragged-requires-2
+is_pair_ragged-requires-2 c κs = search rules
 
-is-list-ragged-requires : tie.Need-is-list-ragged-requires
-is-list-ragged-requires c κs = search rules
+is_list_ragged-requires : tie.Need-is_list_ragged-requires
+is_list_ragged-requires c κs = search rules
 
-is-recipe-outsize-requires : tie.Need-is-recipe-outsize-requires
-is-recipe-outsize-requires c κs = search rules
+is_recipe_outsize-requires : tie.Need-is_recipe_outsize-requires
+is_recipe_outsize-requires c κs = search rules
 
-is-pair-outsize-requires : tie.Need-is-pair-outsize-requires
-is-pair-outsize-requires c κs = search rules
+is_pair_outsize-requires : tie.Need-is_pair_outsize-requires
+is_pair_outsize-requires c κs = search rules
 
-is-pair-outsize-requires-2 : tie.Need-is-pair-outsize-requires-2
-is-pair-outsize-requires-2 c κs = search rules
+is_pair_outsize-requires-2 : tie.Need-is_pair_outsize-requires-2
+is_pair_outsize-requires-2 c κs = search rules
 
-is-list-outsize-requires : tie.Need-is-list-outsize-requires
-is-list-outsize-requires c κs = search rules
+is_list_outsize-requires : tie.Need-is_list_outsize-requires
+is_list_outsize-requires c κs = search rules
 
 refusal-requires : tie.Need-refusal-requires
 refusal-requires c κs = search rules
 
-returns-2 : tie.Need-returns-2
-returns-2 c =
+returns : tie.Need-returns
+returns c =
     let e = c.before.before.before.before.before.before.before.before.before in
-    let a = e.before.args in
+    let a = e.args in
     let own = recipe_sizes a.numbers a.arguments in
-    let lent = pair_sizes a.offsets a.values a.second-offsets a.second-values in
-    let trays = pair_sizes a.one-offsets a.one-values a.two-offsets a.two-values in
-    let outs = list_sizes a.out-offsets a.out-values in
-    tally-long _ _ _ e.if1.false
+    let lent = pair_sizes a.offsets a.values a.second_offsets a.second_values in
+    let trays = pair_sizes a.one_offsets a.one_values a.two_offsets a.two_values in
+    let outs = list_sizes a.out_offsets a.out_values in
+    tally-long _ _ _ e.if-tally-lt256.false
     (refused_by_lem _ _ _
-    (any_both ragged ((own ++ lent) ++ trays) outs (any_both ragged (own ++ lent) trays (any_both ragged own lent c.before.before.before.before.before.before.before.before.is-recipe-ragged.ensures c.before.before.before.before.before.before.before.is-pair-ragged.ensures) c.before.before.before.before.before.before.is-pair-ragged2.ensures) c.before.before.before.before.before.is-list-ragged.ensures)
-    (any_both outsize ((own ++ lent) ++ trays) outs (any_both outsize (own ++ lent) trays (any_both outsize own lent c.before.before.before.before.is-recipe-outsize.ensures c.before.before.before.is-pair-outsize.ensures) c.before.before.is-pair-outsize2.ensures) c.before.is-list-outsize.ensures)
+    (any_both ragged ((own ++ lent) ++ trays) outs (any_both ragged (own ++ lent) trays (any_both ragged own lent c.is_recipe_ragged.ensures c.is_pair_ragged.ensures) c.is_pair_ragged-2.ensures) c.is_list_ragged.ensures)
+    (any_both outsize ((own ++ lent) ++ trays) outs (any_both outsize (own ++ lent) trays (any_both outsize own lent c.is_recipe_outsize.ensures c.is_pair_outsize.ensures) c.is_pair_outsize-2.ensures) c.is_list_outsize.ensures)
     c.refusal.ensures)
 
-pub recipe-refusal_spec : {M : Type 1} → statement M
-recipe-refusal_spec =
+pub recipe_refusal_spec : {M : Type 1} → statement M
+recipe_refusal_spec =
     tie.close
     (tie.spec
-    returns
-    is-recipe-ragged-requires
-    is-pair-ragged-requires
-    is-pair-ragged-requires-2
-    is-list-ragged-requires
-    is-recipe-outsize-requires
-    is-pair-outsize-requires
-    is-pair-outsize-requires-2
-    is-list-outsize-requires
+    returns-then-tally-lt256
+    is_recipe_ragged-requires
+    is_pair_ragged-requires
+    is_pair_ragged-requires-2
+    is_list_ragged-requires
+    is_recipe_outsize-requires
+    is_pair_outsize-requires
+    is_pair_outsize-requires-2
+    is_list_outsize-requires
     refusal-requires
-    returns-2)
+    returns)

@@ -7,16 +7,21 @@ use borrow.Author.Rules.{rules}
 use Rattle.entry_repeat.proofs.is_repeat_outsize.Statement.{statement}
 use Rattle.entry_repeat.proofs.is_repeat_outsize.Tie as tie
 
-is-list-outsize-requires : tie.Need-is-list-outsize-requires
-is-list-outsize-requires c κs = search rules
+is_list_outsize-requires : tie.Need-is_list_outsize-requires
+is_list_outsize-requires c κs = search rules
 
-is-outsize-requires : tie.Need-is-outsize-requires
-is-outsize-requires c κs = search rules
+is_outsize-requires : tie.Need-is_outsize-requires
+is_outsize-requires c κs = search rules
 
 returns : tie.Need-returns
 returns c =
-    let a = c.before.before.args in
-    any_both outsize (list_sizes a.offsets a.values) (inner_sizes a.inner-offsets) c.before.is-list-outsize.ensures (any-one outsize _ c.is-outsize.ensures)
+    let a = c.args in
+    any_both outsize (list_sizes a.offsets a.values) (inner_sizes a.inner_offsets) c.is_list_outsize.ensures (any-one outsize _ c.is_outsize.ensures)
 
 pub is_repeat_outsize_spec : {M : Type 1} → statement M
-is_repeat_outsize_spec = tie.close (tie.spec is-list-outsize-requires is-outsize-requires returns)
+is_repeat_outsize_spec =
+    tie.close
+    (tie.spec
+    is_list_outsize-requires
+    is_outsize-requires
+    returns)

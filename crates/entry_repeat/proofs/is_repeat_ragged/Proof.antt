@@ -7,16 +7,21 @@ use borrow.Author.Rules.{rules}
 use Rattle.entry_repeat.proofs.is_repeat_ragged.Statement.{statement}
 use Rattle.entry_repeat.proofs.is_repeat_ragged.Tie as tie
 
-is-list-ragged-requires : tie.Need-is-list-ragged-requires
-is-list-ragged-requires c κs = search rules
+is_list_ragged-requires : tie.Need-is_list_ragged-requires
+is_list_ragged-requires c κs = search rules
 
-is-ragged-requires : tie.Need-is-ragged-requires
-is-ragged-requires c κs = search rules
+is_ragged-requires : tie.Need-is_ragged-requires
+is_ragged-requires c κs = search rules
 
 returns : tie.Need-returns
 returns c =
-    let a = c.before.before.args in
-    any_both ragged (list_sizes a.offsets a.values) (inner_sizes a.inner-offsets) c.before.is-list-ragged.ensures (any-one ragged _ c.is-ragged.ensures)
+    let a = c.args in
+    any_both ragged (list_sizes a.offsets a.values) (inner_sizes a.inner_offsets) c.is_list_ragged.ensures (any-one ragged _ c.is_ragged.ensures)
 
 pub is_repeat_ragged_spec : {M : Type 1} → statement M
-is_repeat_ragged_spec = tie.close (tie.spec is-list-ragged-requires is-ragged-requires returns)
+is_repeat_ragged_spec =
+    tie.close
+    (tie.spec
+    is_list_ragged-requires
+    is_ragged-requires
+    returns)

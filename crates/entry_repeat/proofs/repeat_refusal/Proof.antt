@@ -7,47 +7,47 @@ use borrow.Author.Rules.{rules}
 use Rattle.entry_repeat.proofs.repeat_refusal.Statement.{statement}
 use Rattle.entry_repeat.proofs.repeat_refusal.Tie as tie
 
-is-list-ragged-requires : tie.Need-is-list-ragged-requires
-is-list-ragged-requires c κs = search rules
+is_list_ragged-requires : tie.Need-is_list_ragged-requires
+is_list_ragged-requires c κs = search rules
 
-is-value-ragged-requires : tie.Need-is-value-ragged-requires
-is-value-ragged-requires c κs = search rules
+is_value_ragged-requires : tie.Need-is_value_ragged-requires
+is_value_ragged-requires c κs = search rules
 
-is-repeat-ragged-requires : tie.Need-is-repeat-ragged-requires
-is-repeat-ragged-requires c κs = search rules
+is_repeat_ragged-requires : tie.Need-is_repeat_ragged-requires
+is_repeat_ragged-requires c κs = search rules
 
-is-list-outsize-requires : tie.Need-is-list-outsize-requires
-is-list-outsize-requires c κs = search rules
+is_list_outsize-requires : tie.Need-is_list_outsize-requires
+is_list_outsize-requires c κs = search rules
 
-is-value-outsize-requires : tie.Need-is-value-outsize-requires
-is-value-outsize-requires c κs = search rules
+is_value_outsize-requires : tie.Need-is_value_outsize-requires
+is_value_outsize-requires c κs = search rules
 
-is-repeat-outsize-requires : tie.Need-is-repeat-outsize-requires
-is-repeat-outsize-requires c κs = search rules
+is_repeat_outsize-requires : tie.Need-is_repeat_outsize-requires
+is_repeat_outsize-requires c κs = search rules
 
 refusal-requires : tie.Need-refusal-requires
 refusal-requires c κs = search rules
 
 returns : tie.Need-returns
 returns c =
-    let a = c.before.before.before.before.before.before.before.args in
+    let a = c.args in
     let list = list_sizes a.offsets a.values in
     let times = value_sizes a.times in
-    let outs = repeat_sizes a.out-offsets a.inner-offsets a.out-values in
+    let outs = repeat_sizes a.out_offsets a.inner_offsets a.out_values in
     refused_by_lem _ _ _
-    (any_both ragged (list ++ times) outs (any_both ragged list times c.before.before.before.before.before.before.is-list-ragged.ensures c.before.before.before.before.before.is-value-ragged.ensures) c.before.before.before.before.is-repeat-ragged.ensures)
-    (any_both outsize (list ++ times) outs (any_both outsize list times c.before.before.before.is-list-outsize.ensures c.before.before.is-value-outsize.ensures) c.before.is-repeat-outsize.ensures)
+    (any_both ragged (list ++ times) outs (any_both ragged list times c.is_list_ragged.ensures c.is_value_ragged.ensures) c.is_repeat_ragged.ensures)
+    (any_both outsize (list ++ times) outs (any_both outsize list times c.is_list_outsize.ensures c.is_value_outsize.ensures) c.is_repeat_outsize.ensures)
     c.refusal.ensures
 
 pub repeat_refusal_spec : {M : Type 1} → statement M
 repeat_refusal_spec =
     tie.close
     (tie.spec
-    is-list-ragged-requires
-    is-value-ragged-requires
-    is-repeat-ragged-requires
-    is-list-outsize-requires
-    is-value-outsize-requires
-    is-repeat-outsize-requires
+    is_list_ragged-requires
+    is_value_ragged-requires
+    is_repeat_ragged-requires
+    is_list_outsize-requires
+    is_value_outsize-requires
+    is_repeat_outsize-requires
     refusal-requires
     returns)

@@ -12,132 +12,132 @@ use Rattle.entry_with.proofs.enter.Statement.{statement}
 use Rattle.entry_with.proofs.enter.Tie as tie
 
 -- the places that are used below
-abbrev put-list-of-slice-known10 : tie.After-slice-known10 → tie.After-put-list
+abbrev put-list-of-slice-known10 : tie.After-slice_known-in-Of-5-1 → tie.After-put_list
 put-list-of-slice-known10 p = p.before.before.before.before.before.before
 
-abbrev out-elements-of-put-list-arg3 : tie.After-put-list-arg3 → tie.After-out-elements
+abbrev out-elements-of-put-list-arg3 : tie.After-put_list-arg-in-Of-2-1 → tie.After-out_elements-1
 out-elements-of-put-list-arg3 p = p.before.before.before.before.before.before
 
-abbrev run-of-out-elements : tie.After-out-elements → tie.After-run
+abbrev run-of-out-elements : tie.After-out_elements-1 → tie.After-run-answer
 run-of-out-elements p = p.before.before.before.before.before
 
-abbrev run-of-put-list-arg3 : tie.After-put-list-arg3 → tie.After-run
+abbrev run-of-put-list-arg3 : tie.After-put_list-arg-in-Of-2-1 → tie.After-run-answer
 run-of-put-list-arg3 p = run-of-out-elements (out-elements-of-put-list-arg3 p)
 
-abbrev slice-known6-of-put-list-arg3 : tie.After-put-list-arg3 → tie.After-slice-known6
+abbrev slice-known6-of-put-list-arg3 : tie.After-put_list-arg-in-Of-2-1 → tie.After-slice_known-in-Of-1
 slice-known6-of-put-list-arg3 p = p.before.before.before.before.before.before.before.before
 
-abbrev else1-of-slice-known6 : tie.After-slice-known6 → tie.Else1
+abbrev else1-of-slice-known6 : tie.After-slice_known-in-Of-1 → tie.Else-k-ne0
 else1-of-slice-known6 p = p.before.before.before.before.before.before.before.before
 
-abbrev else1-of-put-list-arg3 : tie.After-put-list-arg3 → tie.Else1
+abbrev else1-of-put-list-arg3 : tie.After-put_list-arg-in-Of-2-1 → tie.Else-k-ne0
 else1-of-put-list-arg3 p = else1-of-slice-known6 (slice-known6-of-put-list-arg3 p)
 
-abbrev run-of-slice-known10 : tie.After-slice-known10 → tie.After-run
+abbrev run-of-slice-known10 : tie.After-slice_known-in-Of-5-1 → tie.After-run-answer
 run-of-slice-known10 p = run-of-put-list-arg3 p.before.before.before.before.before.before.before
 
-abbrev slice-known4-of-else1 : tie.Else1 → tie.After-slice-known4
-slice-known4-of-else1 p = p.before.before.before.before.before.before.before
+abbrev slice-known4-of-else1 : tie.Else-k-ne0 → tie.After-slice_known-4-1
+slice-known4-of-else1 p = p.before.before.before.before.before
 
-abbrev shared-slice-known7-of-slice-known4 : tie.After-slice-known4 → tie.After-shared-slice-known7
+abbrev shared-slice-known7-of-slice-known4 : tie.After-slice_known-4-1 → tie.After-shared_slice_known-7-1
 shared-slice-known7-of-slice-known4 p = p.before.before.before.before.before.before.before
 
-abbrev start-of-shared-slice-known7 : tie.After-shared-slice-known7 → tie.Start
+abbrev start-of-shared-slice-known7 : tie.After-shared_slice_known-7-1 → tie.Start
 start-of-shared-slice-known7 p = p.before.before.before.before.before.before.before
 
-abbrev start-of-else1 : tie.Else1 → tie.Start
+abbrev start-of-else1 : tie.Else-k-ne0 → tie.Start
 start-of-else1 p = start-of-shared-slice-known7 (shared-slice-known7-of-slice-known4 (slice-known4-of-else1 p))
 
-abbrev else1-of-slice-known10 : tie.After-slice-known10 → tie.Else1
+abbrev else1-of-slice-known10 : tie.After-slice_known-in-Of-5-1 → tie.Else-k-ne0
 else1-of-slice-known10 p = else1-of-put-list-arg3 p.before.before.before.before.before.before.before
 
-abbrev put-list-arg2-of-slice-known10 : tie.After-slice-known10 → tie.After-put-list-arg2
+abbrev put-list-arg2-of-slice-known10 : tie.After-slice_known-in-Of-5-1 → tie.After-put_list-arg-in-Of-1
 put-list-arg2-of-slice-known10 p = p.before.before.before.before.before.before.before.before
 
-abbrev out-rows-of-put-list-arg2 : tie.After-put-list-arg2 → tie.After-out-rows
+abbrev out-rows-of-put-list-arg2 : tie.After-put_list-arg-in-Of-1 → tie.After-out_rows-1
 out-rows-of-put-list-arg2 p = p.before.before.before.before.before.before.before.before
 
-abbrev with-refusal-of-out-rows : tie.After-out-rows → tie.After-with-refusal
+abbrev with-refusal-of-out-rows : tie.After-out_rows-1 → tie.After-with_refusal-k
 with-refusal-of-out-rows p = p.before.before.before.before.before.before.before.before
 
-abbrev with-refusal-of-slice-known10 : tie.After-slice-known10 → tie.After-with-refusal
+abbrev with-refusal-of-slice-known10 : tie.After-slice_known-in-Of-5-1 → tie.After-with_refusal-k
 with-refusal-of-slice-known10 p = with-refusal-of-out-rows (out-rows-of-put-list-arg2 (put-list-arg2-of-slice-known10 p))
 
-abbrev put-list-arg-of-slice-known10 : tie.After-slice-known10 → tie.After-put-list-arg
+abbrev put-list-arg-of-slice-known10 : tie.After-slice_known-in-Of-5-1 → tie.After-put_list-arg-1
 put-list-arg-of-slice-known10 p = p.before.before.before.before.before.before.before.before.before
 
-abbrev run-of-put-list-arg : tie.After-put-list-arg → tie.After-run
+abbrev run-of-put-list-arg : tie.After-put_list-arg-1 → tie.After-run-answer
 run-of-put-list-arg p = p.before.before.before.before.before.before.before.before.before
 
-abbrev named-of-run : tie.After-run → tie.After-named
-named-of-run p = p.before.before.before.before.before.before.before.before
+abbrev named-of-run : tie.After-run-answer → tie.In-Of-2
+named-of-run p = p.before.before.before.before.before.before.before
 
-abbrev named-of-slice-known10 : tie.After-slice-known10 → tie.After-named
+abbrev named-of-slice-known10 : tie.After-slice_known-in-Of-5-1 → tie.In-Of-2
 named-of-slice-known10 p = named-of-run (run-of-put-list-arg (put-list-arg-of-slice-known10 p))
 
-abbrev put-list-arg3-of-slice-known10 : tie.After-slice-known10 → tie.After-put-list-arg3
+abbrev put-list-arg3-of-slice-known10 : tie.After-slice_known-in-Of-5-1 → tie.After-put_list-arg-in-Of-2-1
 put-list-arg3-of-slice-known10 p = p.before.before.before.before.before.before.before
 
-abbrev v2-of-put-list-arg3 : tie.After-put-list-arg3 → tie.After-v2
+abbrev v2-of-put-list-arg3 : tie.After-put_list-arg-in-Of-2-1 → tie.After-v-in-Of-1
 v2-of-put-list-arg3 p = p.before.before.before.before.before.before.before
 
-abbrev run-arg-of-v2 : tie.After-v2 → tie.After-run-arg
+abbrev run-arg-of-v2 : tie.After-v-in-Of-1 → tie.After-run-arg-1
 run-arg-of-v2 p = p.before.before.before.before.before.before.before
 
-abbrev with-of-of-run-arg : tie.After-run-arg → tie.After-with-of
-with-of-of-run-arg p = p.before.before.before.before.before.before.before
+abbrev with-of-of-run-arg : tie.After-run-arg-1 → tie.After-with_of-named
+with-of-of-run-arg p = p.before.before.before.before.before
 
-abbrev with-of-of-slice-known10 : tie.After-slice-known10 → tie.After-with-of
+abbrev with-of-of-slice-known10 : tie.After-slice_known-in-Of-5-1 → tie.After-with_of-named
 with-of-of-slice-known10 p = with-of-of-run-arg (run-arg-of-v2 (v2-of-put-list-arg3 (put-list-arg3-of-slice-known10 p)))
 
-abbrev S : tie.Else1 → tie.Start
+abbrev S : tie.Else-k-ne0 → tie.Start
 S e = start-of-else1 e
 
-abbrev lists : tie.Else1 → List Numbers
+abbrev lists : tie.Else-k-ne0 → List Numbers
 lists e = list_sizes (length (S e).args.offsets.now) (length (S e).args.values.now)
 
-abbrev firsts : tie.Else1 → List Numbers
+abbrev firsts : tie.Else-k-ne0 → List Numbers
 firsts e = value_sizes (length (S e).args.first.now)
 
-abbrev seconds : tie.Else1 → List Numbers
+abbrev seconds : tie.Else-k-ne0 → List Numbers
 seconds e = value_sizes (length (S e).args.second.now)
 
-abbrev thirds : tie.Else1 → List Numbers
+abbrev thirds : tie.Else-k-ne0 → List Numbers
 thirds e = value_sizes (length (S e).args.third.now)
 
-abbrev ins : tie.Else1 → List Numbers
+abbrev ins : tie.Else-k-ne0 → List Numbers
 ins e = lists e ++ (firsts e ++ (seconds e ++ thirds e))
 
-abbrev outs : tie.Else1 → List Numbers
+abbrev outs : tie.Else-k-ne0 → List Numbers
 outs e = list_sizes (length (S e).args.out-offsets.now) (length (S e).args.out-values.now)
 
 -- the sizes have passed
-passed : (e : tie.Else1) → Sized (ins e ++ outs e) (length (S e).args.counts.now) 32
-passed e = sized _ _ _ (sym e.before.with-refusal.ensures ∙ e.if1.false)
+passed : (e : tie.Else-k-ne0) → Sized (ins e ++ outs e) (length (S e).args.counts.now) 32
+passed e = sized _ _ _ (sym e.with_refusal-k.ensures ∙ e.if-k-ne0.false)
 
-with-of-requires : tie.Need-with-of-requires
-with-of-requires c κs = search rules
+with_of-named-requires : tie.Need-with_of-named-requires
+with_of-named-requires c κs = search rules
 
-enum_told : tie.Need-enum-told
-enum_told c = search rules
+enum_told-1 : tie.Need-enum_told-1
+enum_told-1 c = search rules
 
-enum-known-named : tie.Need-enum-known-named
-enum-known-named c = search rules
+enum_known-named : tie.Need-enum_known-named
+enum_known-named c = search rules
 
-with-refusal-requires : tie.Need-with-refusal-requires
-with-refusal-requires c κs = search rules
+with_refusal-k-requires : tie.Need-with_refusal-k-requires
+with_refusal-k-requires c κs = search rules
 
-returns : tie.Need-returns
-returns c = list-refused _ (size-refused _ _ (with_code _ _ _ _ _ c.before.before.before.before.before.with-of.ensures c.before.before.before.named.given.1) c.before.with-refusal.ensures c.if1.true)
+returns-then-k-ne0 : tie.Need-returns-then-k-ne0
+returns-then-k-ne0 c = list-refused _ (size-refused _ _ (with_code _ _ _ _ _ c.with_of-named.ensures c.in-Of.is) c.with_refusal-k.ensures c.if-k-ne0.true)
 
-slice-aggregate-run : tie.Need-slice-aggregate-run
-slice-aggregate-run c = search rules
+slice_bounds-run-end : tie.Need-slice_bounds-run-end
+slice_bounds-run-end c = search rules
 
-slice-aggregate-run-2 : tie.Need-slice-aggregate-run-2
-slice-aggregate-run-2 c = search rules
+slice_bounds-run-end-in-Of : tie.Need-slice_bounds-run-end-in-Of
+slice_bounds-run-end-in-Of c = search rules
 
-run-requires : tie.Need-run-requires
-run-requires c κs =
+run-answer-requires : tie.Need-run-answer-requires
+run-answer-requires c κs =
     let e = c.before.before.before.before in
     let i = all_left (ins e) (outs e) (passed e).fit in
     let r = all_right (lists e) (firsts e ++ (seconds e ++ thirds e)) i in
@@ -147,61 +147,61 @@ run-requires c κs =
       (value_fits _ (all_left (firsts e) (seconds e ++ thirds e) r), (value_fits _ (all_left (seconds e) (thirds e) s), (value_fits _ (all_right (seconds e) (thirds e) s), (o.offsets, o.values)))),
     )
 
-slice-aggregate-put-list : tie.Need-slice-aggregate-put-list
-slice-aggregate-put-list c = search rules
+slice_bounds-put_list-end : tie.Need-slice_bounds-put_list-end
+slice_bounds-put_list-end c = search rules
 
-slice-aggregate-put-list-2 : tie.Need-slice-aggregate-put-list-2
-slice-aggregate-put-list-2 c = search rules
+slice_bounds-put_list-end-in-Of : tie.Need-slice_bounds-put_list-end-in-Of
+slice_bounds-put_list-end-in-Of c = search rules
 
-put-list-requires : tie.Need-put-list-requires
-put-list-requires c κs =
+put_list-requires : tie.Need-put_list-requires
+put_list-requires c κs =
     let e = else1-of-put-list-arg3 c in
     let o = list-fits _ _ (all_right (ins e) (outs e) (passed e).fit) in
     let r = (run-of-put-list-arg3 c).run in
     ready r.ensures (rw r.kept.1.1.1.1.1.1.1.1.1.1.1.1.1.1.1.1.1.1.0 o.offsets) (rw r.kept.1.1.1.1.1.1.1.1.1.1.1.1.1.1.1.1.1.1.1.1.0 o.values) refl refl (passed e).counts
 
-returns-2 : tie.Need-returns-2
-returns-2 c = list-refused 102 (no_operation _ _ (no_with_code _ _ _ _ _ c.before.before.with-of.ensures c.enum_told.given.1))
+returns-in-None : tie.Need-returns-in-None
+returns-in-None c = list-refused 102 (no_operation _ _ (no_with_code _ _ _ _ _ c.with_of-named.ensures c.in-None.is))
 
-same_length : tie.Need-same-length
-same_length c = (put-list-of-slice-known10 c).put-list.auto.1.1.1.0
+shape_of-out_offsets : tie.Need-shape_of-out_offsets
+shape_of-out_offsets c = (put-list-of-slice-known10 c).put-list.auto.1.1.1.0
 
-same-length-2 : tie.Need-same-length-2
-same-length-2 c = (run-of-slice-known10 c).run.auto.1.1.1.1.1.1.1.1.1.1.1.1.1.1.1.1.1.1.1.0
+shape_of-out_rows : tie.Need-shape_of-out_rows
+shape_of-out_rows c = (run-of-slice-known10 c).run.auto.1.1.1.1.1.1.1.1.1.1.1.1.1.1.1.1.1.1.1.0
 
-same-length-3 : tie.Need-same-length-3
-same-length-3 c = (put-list-of-slice-known10 c).put-list.auto.1.1.1.1.0
+shape_of-out_values : tie.Need-shape_of-out_values
+shape_of-out_values c = (put-list-of-slice-known10 c).put-list.auto.1.1.1.1.0
 
-same-length-4 : tie.Need-same-length-4
-same-length-4 c = (run-of-slice-known10 c).run.auto.1.1.1.1.1.1.1.1.1.1.1.1.1.1.1.1.1.1.1.1.1.0
+shape_of-out_elements : tie.Need-shape_of-out_elements
+shape_of-out_elements c = (run-of-slice-known10 c).run.auto.1.1.1.1.1.1.1.1.1.1.1.1.1.1.1.1.1.1.1.1.1.0
 
-same-length-5 : tie.Need-same-length-5
-same-length-5 c = (put-list-of-slice-known10 c).put-list.auto.1.1.1.1.1.0
+shape_of-counts : tie.Need-shape_of-counts
+shape_of-counts c = (put-list-of-slice-known10 c).put-list.auto.1.1.1.1.1.0
 
-returns-3 : tie.Need-returns-3
-returns-3 c =
+returns-else-k-ne0 : tie.Need-returns-else-k-ne0
+returns-else-k-ne0 c =
     let e = else1-of-slice-known10 c in
-    list_as (called _ _ (with_code _ _ _ _ _ (with-of-of-slice-known10 c).with-of.ensures (named-of-slice-known10 c).named.given.1) (with-refusal-of-slice-known10 c).with-refusal.ensures e.if1.left) (list_returns (run-of-slice-known10 c).run.ensures (put-list-of-slice-known10 c).put-list.ensures)
+    list_as (called _ _ (with_code _ _ _ _ _ (with-of-of-slice-known10 c).with-of.ensures (named-of-slice-known10 c).named.given.1) (with-refusal-of-slice-known10 c).with-refusal.ensures e.if-k-ne0.false) (list_returns (run-of-slice-known10 c).run.ensures (put-list-of-slice-known10 c).put-list.ensures)
 
 pub enter_spec : {M : Type 1} → statement M
 enter_spec =
     tie.close
     (tie.spec
-    with-of-requires
-    enum_told
-    enum-known-named
-    with-refusal-requires
-    returns
-    slice-aggregate-run
-    slice-aggregate-run-2
-    run-requires
-    slice-aggregate-put-list
-    slice-aggregate-put-list-2
-    put-list-requires
-    returns-2
-    same_length
-    same-length-2
-    same-length-3
-    same-length-4
-    same-length-5
-    returns-3)
+    with_of-named-requires
+    enum_told-1
+    enum_known-named
+    with_refusal-k-requires
+    returns-then-k-ne0
+    slice_bounds-run-end
+    slice_bounds-run-end-in-Of
+    run-answer-requires
+    slice_bounds-put_list-end
+    slice_bounds-put_list-end-in-Of
+    put_list-requires
+    returns-in-None
+    shape_of-out_offsets
+    shape_of-out_rows
+    shape_of-out_values
+    shape_of-out_elements
+    shape_of-counts
+    returns-else-k-ne0)

@@ -5,66 +5,66 @@ use Rattle.grade_rows.proofs.RunLaws.{Grading, begun, more, found, some_valid, n
 use Rattle.grade_rows.proofs.elements_grade.Statement.{statement}
 use Rattle.grade_rows.proofs.elements_grade.Tie as tie
 
-abbrev invariant-loop : tie.invariant-loop
-invariant-loop k values elements estart a n seen₀ run₀ p₀ left₀ seen run p left =
+abbrev invariant-loop-left : tie.invariant-loop-left
+invariant-loop-left k values elements estart a n seen₀ run₀ p₀ left₀ seen run p left =
     Grading k values (from estart elements) a n seen run p left
 
-abbrev decreases-loop : tie.decreases-loop
-decreases-loop k values elements estart a n seen₀ run₀ p₀ left₀ seen run p left = left
+abbrev decreases-loop-left : tie.decreases-loop-left
+decreases-loop-left k values elements estart a n seen₀ run₀ p₀ left₀ seen run p left = left
 
 -- ---- places: the loop's start, and what a turn begins with
 
-abbrev S : tie.At-loop invariant-loop decreases-loop → tie.Start invariant-loop decreases-loop
+abbrev S : tie.At-loop-left invariant-loop-left decreases-loop-left → tie.Start invariant-loop-left decreases-loop-left
 S l = l.before.before
 
-abbrev In : tie.After-run-after invariant-loop decreases-loop → tie.In-loop invariant-loop decreases-loop
+abbrev In : tie.After-run_after-run invariant-loop-left decreases-loop-left → tie.In-loop-left invariant-loop-left decreases-loop-left
 In r = r.before.before
 
 -- ---- needs
 
-loop-holds : tie.Need-loop-init invariant-loop decreases-loop
-loop-holds c = begun _ _ _ _ _ c.before.requires.0
+loop-left-init : tie.Need-loop-left-init invariant-loop-left decreases-loop-left
+loop-left-init c = begun _ _ _ _ _ c.requires.0
 
-is-valid-requires : tie.Need-is-valid-requires invariant-loop decreases-loop
-is-valid-requires c κs = let l = c.before in ((S l).requires.1.bits, omega (arith, c.loop-test.true, l.loop.invariant.places, (S l).requires.1.inside))
+is_valid-valid-requires : tie.Need-is_valid-valid-requires invariant-loop-left decreases-loop-left
+is_valid-valid-requires c κs = let l = c.before in ((S l).requires.1.bits, omega (arith, c.loop-left-test.true, l.loop-left.invariant.places, (S l).requires.1.inside))
 
-run-after-requires : tie.Need-run-after-requires invariant-loop decreases-loop
-run-after-requires c κs = let i = c.before in let l = i.before in (omega (arith, i.loop-test.true, l.loop.invariant.places, (S l).requires.1.inside), l.loop.invariant.within)
+run_after-run-requires : tie.Need-run_after-run-requires invariant-loop-left decreases-loop-left
+run_after-run-requires c κs = let i = c.before in let l = i.before in (omega (arith, i.loop-left-test.true, l.loop-left.invariant.places, (S l).requires.1.inside), l.loop-left.invariant.within)
 
-returns : tie.Need-returns invariant-loop decreases-loop
-returns c = let r = c.before in let i = In r in found i.before.loop.inv i.loop-test.taken _ r.before.is-valid.ensures _ r.run-after.ensures c.if1.true
+returns-then-k-run : tie.Need-returns-then-k-run invariant-loop-left decreases-loop-left
+returns-then-k-run c = let r = c.before in let i = In r in found i.loop-left.invariant i.loop-left-test.true _ r.is_valid-valid.ensures _ r.run_after-run.ensures c.if-k-run.true
 
-add-p : tie.Need-overflow-add-p invariant-loop decreases-loop
-add-p c = let i = In c.before in let l = i.before in omega (arith, i.loop-test.taken, l.loop.inv.places, (S l).pre.1.inside)
+overflow_add-p : tie.Need-overflow_add-p invariant-loop-left decreases-loop-left
+overflow_add-p c = let i = In c.before in let l = i.before in omega (arith, i.loop-left-test.true, l.loop-left.invariant.places, (S l).pre.1.inside)
 
-sub-left : tie.Need-overflow-sub-left invariant-loop decreases-loop
-sub-left c = omega (arith, (In c.before).loop-test.taken)
+overflow_sub-left : tie.Need-overflow_sub-left invariant-loop-left decreases-loop-left
+overflow_sub-left c = omega (arith, (In c.before).loop-test.taken)
 
-loop-less : tie.Need-loop-smaller invariant-loop decreases-loop
-loop-less c = omega (arith, (In c.before).loop-test.taken)
+loop-left-smaller : tie.Need-loop-left-smaller invariant-loop-left decreases-loop-left
+loop-left-smaller c = omega (arith, (In c.before).loop-test.taken)
 
-loop-again : tie.Need-loop-preserved invariant-loop decreases-loop
-loop-again c = let r = c.before in let i = In r in more i.before.loop.inv i.loop-test.taken _ r.before.is-valid.ensures _ r.run-after.ensures c.if1.false
+loop-left-preserved : tie.Need-loop-left-preserved invariant-loop-left decreases-loop-left
+loop-left-preserved c = let r = c.before in let i = In r in more i.loop-left.invariant i.loop-left-test.true _ r.is_valid-valid.ensures _ r.run_after-run.ensures c.if-k-run.false
 
-returns-2 : tie.Need-returns-2 invariant-loop decreases-loop
-returns-2 c = let e = c.before in some_valid e.before.loop.invariant e.loop-test.false c.if2.true
+returns-then-seen : tie.Need-returns-then-seen invariant-loop-left decreases-loop-left
+returns-then-seen c = let e = c.before in some_valid e.loop-left.invariant e.loop-left-test.false c.if-seen.true
 
-returns-3 : tie.Need-returns-3 invariant-loop decreases-loop
-returns-3 c = let e = c.before in none_valid e.before.loop.invariant e.loop-test.false c.if2.false
+returns : tie.Need-returns invariant-loop-left decreases-loop-left
+returns c = let e = c.before in none_valid e.loop-left.invariant e.loop-left-test.false c.if-seen.false
 
 pub elements_grade_spec : {M : Type 1} → statement M
 elements_grade_spec =
     tie.close
     (tie.spec
-    invariant-loop
-    decreases-loop
-    loop-holds
-    is-valid-requires
-    run-after-requires
-    returns
-    add-p
-    sub-left
-    loop-less
-    loop-again
-    returns-2
-    returns-3)
+    invariant-loop-left
+    decreases-loop-left
+    loop-left-init
+    is_valid-valid-requires
+    run_after-run-requires
+    returns-then-k-run
+    overflow_add-p
+    overflow_sub-left
+    loop-left-smaller
+    loop-left-preserved
+    returns-then-seen
+    returns)

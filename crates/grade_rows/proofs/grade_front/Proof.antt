@@ -14,89 +14,89 @@ use Rattle.grade_rows.proofs.grade_front.Tie as tie
 
 -- ---- places: an answer that counts, the start, what is cut
 
-abbrev S : tie.Else1 → tie.Start
+abbrev S : tie.Else-not-is_made → tie.Start
 S e = e.before.before.before.before.before
 
-abbrev counts : tie.After-bytes-for2 → tie.Else1
+abbrev counts : tie.After-bytes_for-element_bytes → tie.Else-not-is_made
 counts b = b.before.before.before.before
 
-made : (e : tie.Else1) → is_made (S e).args.answer ≡ true
-made e = sym e.before.is_made.ensures ∙ not-false _ e.if1.false
+made : (e : tie.Else-not-is_made) → is_made (S e).args.answer ≡ true
+made e = sym e.is_made.ensures ∙ not-false _ e.if-not-is_made.false
 
 -- the rows at the front
-at : (m : tie.After-elements-in) → let a = (S m.before.before).args in AtFront m.before.rows_in_lem.result m.elements-in.result a.offsets.now a.rows.now a.values.now a.elements.now
-at m = rw (m.before.rows_in_lem.ensures, m.elements-in.ensures) ((S m.before.before).requires.front (made m.before.before))
+at : (m : tie.After-elements_in-m) → let a = (S m.before.before).args in AtFront m.before.rows_in_lem.result m.elements_in-m.result a.offsets.now a.rows.now a.values.now a.elements.now
+at m = rw (m.before.rows_in_lem.ensures, m.elements_in-m.ensures) ((S m.before.before).requires.front (made m.before.before))
 
 -- ---- needs
 
-is-made-requires : tie.Need-is-made-requires
-is-made-requires c κs = search rules
+is_made-requires : tie.Need-is_made-requires
+is_made-requires c κs = search rules
 
-returns : tie.Need-returns
-returns c = none-graded _ _ _ _ _ _ _ (sym c.before.is_made.ensures ∙ not-true _ c.if1.true)
+returns-then-not-is_made : tie.Need-returns-then-not-is_made
+returns-then-not-is_made c = none-graded _ _ _ _ _ _ _ (sym c.is_made.ensures ∙ not-true _ c.if-not-is_made.true)
 
-rows-in-requires : tie.Need-rows-in-requires
-rows-in-requires c κs = search rules
+rows_in-n-requires : tie.Need-rows_in-n-requires
+rows_in-n-requires c κs = search rules
 
-elements-in-requires : tie.Need-elements-in-requires
-elements-in-requires c κs = search rules
+elements_in-m-requires : tie.Need-elements_in-m-requires
+elements_in-m-requires c κs = search rules
 
-add-slots : tie.Need-overflow-add-slots
-add-slots c = omega (arith, (at c).offsets, (S c.before.before).well-formed)
+overflow_add-slots : tie.Need-overflow_add-slots
+overflow_add-slots c = omega (arith, (at c).offsets, (S c.before.before).well-formed)
 
-bytes-for-requires : tie.Need-bytes-for-requires
-bytes-for-requires c κs = search rules
+bytes_for-row_bytes-requires : tie.Need-bytes_for-row_bytes-requires
+bytes_for-row_bytes-requires c κs = search rules
 
-bytes-for-requires-2 : tie.Need-bytes-for-requires-2
-bytes-for-requires-2 c κs = search rules
+bytes_for-element_bytes-requires : tie.Need-bytes_for-element_bytes-requires
+bytes_for-element_bytes-requires c κs = search rules
 
-slice-aggregate-grade-rows : tie.Need-slice-aggregate-grade-rows
-slice-aggregate-grade-rows c = sym (length-take-le _ _ (at c.before.before.before).offsets)
+slice_bounds-grade_rows-end : tie.Need-slice_bounds-grade_rows-end
+slice_bounds-grade_rows-end c = sym (length-take-le _ _ (at c.before.before.before).offsets)
 
-slice-aggregate-grade-rows-2 : tie.Need-slice-aggregate-grade-rows-2
-slice-aggregate-grade-rows-2 c = let b = c.before.before in sym (length-take-le _ _ (omega (arith, (at b.before.before).rows, b.before.bytes-for.ensures)))
+slice_bounds-grade_rows-end-2 : tie.Need-slice_bounds-grade_rows-end-2
+slice_bounds-grade_rows-end-2 c = let b = c.before.before in sym (length-take-le _ _ (omega (arith, (at b.before.before).rows, b.bytes_for-row_bytes.ensures)))
 
-slice-aggregate-grade-rows-3 : tie.Need-slice-aggregate-grade-rows-3
-slice-aggregate-grade-rows-3 c = sym (length-take-le _ _ (at c.before.before.before.before.before).values)
+slice_bounds-grade_rows-end-3 : tie.Need-slice_bounds-grade_rows-end-3
+slice_bounds-grade_rows-end-3 c = sym (length-take-le _ _ (at c.before.before.before.before.before).values)
 
-slice-aggregate-grade-rows-4 : tie.Need-slice-aggregate-grade-rows-4
-slice-aggregate-grade-rows-4 c = let b = c.before.before.before.before in sym (length-take-le _ _ (omega (arith, (at b.before.before).elements, b.bytes-for2.ensures)))
+slice_bounds-grade_rows-end-4 : tie.Need-slice_bounds-grade_rows-end-4
+slice_bounds-grade_rows-end-4 c = let b = c.before.before.before.before in sym (length-take-le _ _ (omega (arith, (at b.before.before).elements, b.bytes_for-element_bytes.ensures)))
 
-grade-rows-requires : tie.Need-grade-rows-requires
-grade-rows-requires c κs =
+grade_rows-requires : tie.Need-grade_rows-requires
+grade_rows-requires c κs =
     let b = c.before.before.before.before.before in
     let m = b.before.before in
     let s = S (counts b) in
     let l = length-take-le (m.before.rows_in_lem.result + 1) s.args.offsets.now (at m).offsets in (
-      s.pre.positive (made (counts b)),
-      (subst Readable (sym (front_cut _ _ _ _ _ _ b.before.bytes-for.ensures b.bytes-for2.ensures)) (at m).formed, omega (arith, l, m.before.rows_in_lem.ensures, s.pre.room (made (counts b)))),
+      s.requires.positive (made (counts b)),
+      (subst Readable (sym (front_cut _ _ _ _ _ _ b.bytes_for-row_bytes.ensures b.bytes_for-element_bytes.ensures)) (at m).formed, omega (arith, l, m.before.rows_in_lem.ensures, s.requires.room (made (counts b)))),
     )
 
-same_length : tie.Need-same-length
-same_length c = search rules
+shape_of-grades : tie.Need-shape_of-grades
+shape_of-grades c = search rules
 
-returns-2 : tie.Need-returns-2
-returns-2 c =
+returns : tie.Need-returns
+returns c =
     let g = c.before.before in
     let b = g.before.before.before.before.before.before in
     let m = b.before.before in
-    front-graded _ _ _ _ _ _ _ (made (counts b)) m.before.rows_in_lem.ensures m.elements-in.ensures b.before.bytes-for.ensures b.bytes-for2.ensures g.grade-rows.ensures
+    front-graded _ _ _ _ _ _ _ (made (counts b)) m.before.rows_in_lem.ensures m.elements_in-m.ensures b.bytes_for-row_bytes.ensures b.bytes_for-element_bytes.ensures g.grade_rows.ensures
 
 pub grade_front_spec : {M : Type 1} → statement M
 grade_front_spec =
     tie.close
     (tie.spec
-    is-made-requires
-    returns
-    rows-in-requires
-    elements-in-requires
-    add-slots
-    bytes-for-requires
-    bytes-for-requires-2
-    slice-aggregate-grade-rows
-    slice-aggregate-grade-rows-2
-    slice-aggregate-grade-rows-3
-    slice-aggregate-grade-rows-4
-    grade-rows-requires
-    same_length
-    returns-2)
+    is_made-requires
+    returns-then-not-is_made
+    rows_in-n-requires
+    elements_in-m-requires
+    overflow_add-slots
+    bytes_for-row_bytes-requires
+    bytes_for-element_bytes-requires
+    slice_bounds-grade_rows-end
+    slice_bounds-grade_rows-end-2
+    slice_bounds-grade_rows-end-3
+    slice_bounds-grade_rows-end-4
+    grade_rows-requires
+    shape_of-grades
+    returns)

@@ -5,22 +5,27 @@ use borrow.Author.Rules.{rules}
 use Rattle.grade_rows.proofs.row_grade.Statement.{statement}
 use Rattle.grade_rows.proofs.row_grade.Tie as tie
 
-is-valid-requires : tie.Need-is-valid-requires
-is-valid-requires c κs = search rules
+is_valid-requires : tie.Need-is_valid-requires
+is_valid-requires c κs = search rules
+
+returns-then-not-is_valid : tie.Need-returns-then-not-is_valid
+returns-then-not-is_valid c = null_grade _ _ _ _ _ _ (sym c.is_valid.ensures ∙ not-true _ c.if-not-is_valid.true)
+
+overflow_sub-b : tie.Need-overflow_sub-b
+overflow_sub-b c = search rules
+
+elements_grade-requires : tie.Need-elements_grade-requires
+elements_grade-requires c κs = search rules
 
 returns : tie.Need-returns
-returns c = null_grade _ _ _ _ _ _ (sym c.before.is-valid.ensures ∙ not-true _ c.if1.true)
-
-sub-elements-grade : tie.Need-overflow-sub-elements-grade
-sub-elements-grade c = search rules
-
-elements-grade-requires : tie.Need-elements-grade-requires
-elements-grade-requires c κs = search rules
-
-returns-2 : tie.Need-returns-2
-returns-2 c = row_graded _ _ _ _ _ _ (sym c.before.before.is-valid.ensures ∙ not-false _ c.before.if1.false) c.elements-grade.ensures
+returns c = row_graded _ _ _ _ _ _ (sym c.is_valid.ensures ∙ not-false _ c.if-not-is_valid.false) c.elements_grade.ensures
 
 pub row_grade_spec : {M : Type 1} → statement M
 row_grade_spec =
     tie.close
-    (tie.spec is-valid-requires returns sub-elements-grade elements-grade-requires returns-2)
+    (tie.spec
+    is_valid-requires
+    returns-then-not-is_valid
+    overflow_sub-b
+    elements_grade-requires
+    returns)

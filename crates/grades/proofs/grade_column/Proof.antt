@@ -15,71 +15,71 @@ use Rattle.grades.proofs.grade_column.Tie as tie
 
 -- ---- places: the start, the column, 12 and 9, the column's own refusals
 
-abbrev S : tie.After-early-refusal → tie.Start
+abbrev S : tie.After-early_refusal-early → tie.Start
 S e = e.before.before.before.before
 
-abbrev C : tie.After-early-refusal → Column
+abbrev C : tie.After-early_refusal-early → Column
 C e = let a = (S e).args in column a.offsets.now (from a.rows_start a.rows.now) a.values.now (from a.elements-start a.elements.now)
 
-early : (e : tie.After-early-refusal) → e.early-refusal.result ≡ grade_refusal (S e).args.k (rows_of (C e)) (length (S e).args.grades.now)
-early e = early_is (S e).args.k (C e) (length (S e).args.grades.now) e.early-refusal.ensures
+early : (e : tie.After-early_refusal-early) → e.early_refusal-early.result ≡ grade_refusal (S e).args.k (rows_of (C e)) (length (S e).args.grades.now)
+early e = early_is (S e).args.k (C e) (length (S e).args.grades.now) e.early_refusal-early.ensures
 
-abbrev passed : tie.After-refusal-in → tie.Else1
+abbrev passed : tie.After-refusal_in-number → tie.Else-early-ne0
 passed r = r.before.before
 
-own : (r : tie.After-refusal-in) → r.refusal-in.result ≡ columns_refusal (C (passed r).before ∷ []) []
-own r = r.refusal-in.ensures ∙ column-refusal _ (C (passed r).before) r.before.general-array-any-value-lengths.ensures
+own : (r : tie.After-refusal_in-number) → r.refusal_in-number.result ≡ columns_refusal (C (passed r).before ∷ []) []
+own r = r.refusal_in-number.ensures ∙ column-refusal _ (C (passed r).before) r.general_array_any_value_lengths-lengths.ensures
 
 -- ---- needs
 
-early-refusal-requires : tie.Need-early-refusal-requires
-early-refusal-requires c κs = search rules
+early_refusal-early-requires : tie.Need-early_refusal-early-requires
+early_refusal-early-requires c κs = search rules
 
-returns : tie.Need-returns
-returns c = grade_early _ (C c.before) _ (early c.before) c.if1.true
+returns-then-early-ne0 : tie.Need-returns-then-early-ne0
+returns-then-early-ne0 c = grade_early _ (C c.before) _ (early c.before) c.if-early-ne0.true
 
-general-array-any-value-lengths-requires : tie.Need-general-array-any-value-lengths-requires
-general-array-any-value-lengths-requires c κs = search rules
+general_array_any_value_lengths-lengths-requires : tie.Need-general_array_any_value_lengths-lengths-requires
+general_array_any_value_lengths-lengths-requires c κs = search rules
 
-refusal-in-requires : tie.Need-refusal-in-requires
-refusal-in-requires c κs = search rules
+refusal_in-number-requires : tie.Need-refusal_in-number-requires
+refusal_in-number-requires c κs = search rules
 
-returns-2 : tie.Need-returns-2
-returns-2 c = let r = c.before in let x = passed r in grade_refused _ (C x.before) _ (early x.before) x.if1.left (own r) c.if2.true
+returns-then-number-ne0 : tie.Need-returns-then-number-ne0
+returns-then-number-ne0 c = let r = c.before in let x = passed r in grade_refused _ (C x.before) _ (early x.before) x.if-early-ne0.false (own r) c.if-number-ne0.true
 
-grade-rows-requires : tie.Need-grade-rows-requires
-grade-rows-requires c κs =
+grade_rows-requires : tie.Need-grade_rows-requires
+grade_rows-requires c κs =
     let y = c.before in
     let x = passed y.before in
-    let n = none_early _ (rows_of (C x.before)) _ (sym (early x.before) ∙ x.if1.left) in
-    (n.0, (readable (C x.before) (sym (own y.before) ∙ y.if2.false), omega (arith, n.1, length-rows (C x.before))))
+    let n = none_early _ (rows_of (C x.before)) _ (sym (early x.before) ∙ x.if-early-ne0.false) in
+    (n.0, (readable (C x.before) (sym (own y.before) ∙ y.if-number-ne0.false), omega (arith, n.1, length-rows (C x.before))))
 
-rows-measured-requires : tie.Need-rows-measured-requires
-rows-measured-requires c κs = search rules
+rows_measured-requires : tie.Need-rows_measured-requires
+rows_measured-requires c κs = search rules
 
-same_length : tie.Need-same-length
-same_length c = search rules
+shape_of-grades : tie.Need-shape_of-grades
+shape_of-grades c = search rules
 
-returns-3 : tie.Need-returns-3
-returns-3 c =
+returns : tie.Need-returns
+returns c =
     let g = c.before.before.before in
     let y = g.before.before in
     let r = y.before in
     let x = passed r in
-    grade_made _ (C x.before) _ (early x.before) x.if1.left (own r) y.if2.false
-    (c.rows-measured.ensures ∙ column-rows _ (C x.before) r.before.general-array-any-value-lengths.ensures (sym r.refusal-in.ensures ∙ y.if2.false))
-    g.grade-rows.ensures
+    grade_made _ (C x.before) _ (early x.before) x.if-early-ne0.false (own r) y.if-number-ne0.false
+    (c.rows_measured.ensures ∙ column-rows _ (C x.before) r.general_array_any_value_lengths-lengths.ensures (sym r.refusal_in-number.ensures ∙ y.if-number-ne0.false))
+    g.grade_rows.ensures
 
 pub grade_column_spec : {M : Type 1} → statement M
 grade_column_spec =
     tie.close
     (tie.spec
-    early-refusal-requires
-    returns
-    general-array-any-value-lengths-requires
-    refusal-in-requires
-    returns-2
-    grade-rows-requires
-    rows-measured-requires
-    same_length
-    returns-3)
+    early_refusal-early-requires
+    returns-then-early-ne0
+    general_array_any_value_lengths-lengths-requires
+    refusal_in-number-requires
+    returns-then-number-ne0
+    grade_rows-requires
+    rows_measured-requires
+    shape_of-grades
+    returns)

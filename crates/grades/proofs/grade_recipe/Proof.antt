@@ -11,112 +11,112 @@ use Rattle.grades.proofs.grade_recipe.Tie as tie
 
 -- ---- places: the answer told, the recipe run, the station chosen, the start
 
-abbrev told : tie.After-after → tie.After-answer-for
+abbrev told : tie.After-after-1 → tie.After-answer_for-answer
 told c = c.before.before.before.before.before.before.before.before.before
 
-abbrev ran : tie.After-answer-for → tie.After-run-recipe
+abbrev ran : tie.After-answer_for-answer → tie.After-run_recipe-done
 ran t = t.before.before.before.before.before.before.before.before.before.before.before.before.before.before.before.before.before.before.before
 
-abbrev named : tie.After-run-recipe → tie.After-station-for
+abbrev named : tie.After-run_recipe-done → tie.After-station_for-named
 named r = r.before.before.before.before.before.before.before.before.before.before.before.before.before
 
-abbrev S : tie.After-run-recipe → tie.Start
+abbrev S : tie.After-run_recipe-done → tie.Start
 S r = (named r).before.before.before.before.before.before.before.before.before.before.before.before.before.before.before
 
-abbrev C : tie.After-run-recipe → Column
+abbrev C : tie.After-run_recipe-done → Column
 C r = let a = (S r).args in column a.offsets.now (from a.rows_start a.rows.now) a.values.now (from a.elements-start a.elements.now)
 
-early : (r : tie.After-run-recipe) → (named r).before.early-refusal.result ≡ grade_refusal (S r).args.k (rows_of (C r)) (length (S r).args.grades.now)
+early : (r : tie.After-run_recipe-done) → (named r).before.early-refusal.result ≡ grade_refusal (S r).args.k (rows_of (C r)) (length (S r).args.grades.now)
 early r = early_is (S r).args.k (C r) (length (S r).args.grades.now) (named r).before.early-refusal.ensures
 
 -- ---- needs
 
-early-refusal-requires : tie.Need-early-refusal-requires
-early-refusal-requires c κs = tt
+early_refusal-early-requires : tie.Need-early_refusal-early-requires
+early_refusal-early-requires c κs = tt
 
-station-for-requires : tie.Need-station-for-requires
-station-for-requires c κs = tt
+station_for-named-requires : tie.Need-station_for-named-requires
+station_for-named-requires c κs = tt
 
-run-recipe-requires : tie.Need-run-recipe-requires
-run-recipe-requires c κs = tt
+run_recipe-done-requires : tie.Need-run_recipe-done-requires
+run_recipe-done-requires c κs = tt
 
-answer-for-requires : tie.Need-answer-for-requires
-answer-for-requires c κs = tt
+answer_for-answer-requires : tie.Need-answer_for-answer-requires
+answer_for-answer-requires c κs = tt
 
-grade-front-requires : tie.Need-grade-front-requires
-grade-front-requires c κs =
+grade_front-requires : tie.Need-grade_front-requires
+grade_front-requires c κs =
     let t = c.before.before.before.before.before in
     let r = ran t in
-    counted _ _ _ _ (graded_meets _ _ _ _ _ (early r) (named r).station-for.ensures t.answer-for.ensures r.run-recipe.ensures.0) (has_places _ _ _ _ (recipe-rows _ _ _ _ _ _ _ _ _))
+    counted _ _ _ _ (graded_meets _ _ _ _ _ (early r) (named r).station-for.ensures t.answer_for-answer.ensures r.run_recipe-done.ensures.0) (has_places _ _ _ _ (recipe-rows _ _ _ _ _ _ _ _ _))
 
-same_length : tie.Need-same-length
-same_length c = (ran (told c)).run-recipe.auto.1.1.1.1.1.1.1.1.1.1.1.1.1.1.1.1.1.1.1.0
+shape_of-one_offsets : tie.Need-shape_of-one_offsets
+shape_of-one_offsets c = (ran (told c)).run_recipe-done.auto.one_offsets
 
-same-length-2 : tie.Need-same-length-2
-same-length-2 c = (ran (told c)).run-recipe.auto.1.1.1.1.1.1.1.1.1.1.1.1.1.1.1.1.1.1.1.1.0
+shape_of-one_rows : tie.Need-shape_of-one_rows
+shape_of-one_rows c = (ran (told c)).run_recipe-done.auto.one_rows
 
-same-length-3 : tie.Need-same-length-3
-same-length-3 c = (ran (told c)).run-recipe.auto.1.1.1.1.1.1.1.1.1.1.1.1.1.1.1.1.1.1.1.1.1.0
+shape_of-one_values : tie.Need-shape_of-one_values
+shape_of-one_values c = (ran (told c)).run_recipe-done.auto.one_values
 
-same-length-4 : tie.Need-same-length-4
-same-length-4 c = (ran (told c)).run-recipe.auto.1.1.1.1.1.1.1.1.1.1.1.1.1.1.1.1.1.1.1.1.1.1.0
+shape_of-one_elements : tie.Need-shape_of-one_elements
+shape_of-one_elements c = (ran (told c)).run_recipe-done.auto.one_elements
 
-same-length-5 : tie.Need-same-length-5
-same-length-5 c = (ran (told c)).run-recipe.auto.1.1.1.1.1.1.1.1.1.1.1.1.1.1.1.1.1.1.1.1.1.1.1.0
+shape_of-two_offsets : tie.Need-shape_of-two_offsets
+shape_of-two_offsets c = (ran (told c)).run_recipe-done.auto.two_offsets
 
-same-length-6 : tie.Need-same-length-6
-same-length-6 c = (ran (told c)).run-recipe.auto.1.1.1.1.1.1.1.1.1.1.1.1.1.1.1.1.1.1.1.1.1.1.1.1.0
+shape_of-two_rows : tie.Need-shape_of-two_rows
+shape_of-two_rows c = (ran (told c)).run_recipe-done.auto.two_rows
 
-same-length-7 : tie.Need-same-length-7
-same-length-7 c = (ran (told c)).run-recipe.auto.1.1.1.1.1.1.1.1.1.1.1.1.1.1.1.1.1.1.1.1.1.1.1.1.1.0
+shape_of-two_values : tie.Need-shape_of-two_values
+shape_of-two_values c = (ran (told c)).run_recipe-done.auto.two_values
 
-same-length-8 : tie.Need-same-length-8
-same-length-8 c = (ran (told c)).run-recipe.auto.1.1.1.1.1.1.1.1.1.1.1.1.1.1.1.1.1.1.1.1.1.1.1.1.1.1.0
+shape_of-two_elements : tie.Need-shape_of-two_elements
+shape_of-two_elements c = (ran (told c)).run_recipe-done.auto.two_elements
 
-same-length-9 : tie.Need-same-length-9
-same-length-9 c = (ran (told c)).run-recipe.auto.1.1.1.1.1.1.1.1.1.1.1.1.1.1.1.1.1.1.1.1.1.1.1.1.1.1.1.0
+shape_of-out_offsets : tie.Need-shape_of-out_offsets
+shape_of-out_offsets c = (ran (told c)).run_recipe-done.auto.out_offsets
 
-same-length-10 : tie.Need-same-length-10
-same-length-10 c = (ran (told c)).run-recipe.auto.1.1.1.1.1.1.1.1.1.1.1.1.1.1.1.1.1.1.1.1.1.1.1.1.1.1.1.1.0
+shape_of-out_rows : tie.Need-shape_of-out_rows
+shape_of-out_rows c = (ran (told c)).run_recipe-done.auto.out_rows
 
-same-length-11 : tie.Need-same-length-11
-same-length-11 c = (ran (told c)).run-recipe.auto.1.1.1.1.1.1.1.1.1.1.1.1.1.1.1.1.1.1.1.1.1.1.1.1.1.1.1.1.1.0
+shape_of-out_values : tie.Need-shape_of-out_values
+shape_of-out_values c = (ran (told c)).run_recipe-done.auto.out_values
 
-same-length-12 : tie.Need-same-length-12
-same-length-12 c = (ran (told c)).run-recipe.auto.1.1.1.1.1.1.1.1.1.1.1.1.1.1.1.1.1.1.1.1.1.1.1.1.1.1.1.1.1.1.0
+shape_of-out_elements : tie.Need-shape_of-out_elements
+shape_of-out_elements c = (ran (told c)).run_recipe-done.auto.out_elements
 
-same-length-13 : tie.Need-same-length-13
-same-length-13 c = c.before.before.before.grade-front.auto.1.1.1.1.1.1.0
+shape_of-grades : tie.Need-shape_of-grades
+shape_of-grades c = c.grade_front.auto.grades
 
 returns : tie.Need-returns
 returns c =
     let t = told c in
     let r = ran t in
-    let m = r.run-recipe.ensures in
+    let m = r.run_recipe-done.ensures in
     let h = (named r).station-for.ensures in
-    let w = graded_meets _ _ _ _ _ (early r) h t.answer-for.ensures m.0 in
-    (w, (m.1.0, (m.1.1.0, (graded-tally _ _ _ _ _ (early r) _ h m.1.1.1, graded-front _ _ _ w c.before.before.before.grade-front.ensures))))
+    let w = graded_meets _ _ _ _ _ (early r) h t.answer_for-answer.ensures m.0 in
+    (w, (m.1.0, (m.1.1.0, (graded-tally _ _ _ _ _ (early r) _ h m.1.1.1, graded-front _ _ _ w c.grade_front.ensures))))
 
 pub grade_recipe_spec : {M : Type 1} → statement M
 grade_recipe_spec =
     tie.close
     (tie.spec
-    early-refusal-requires
-    station-for-requires
-    run-recipe-requires
-    answer-for-requires
-    grade-front-requires
-    same_length
-    same-length-2
-    same-length-3
-    same-length-4
-    same-length-5
-    same-length-6
-    same-length-7
-    same-length-8
-    same-length-9
-    same-length-10
-    same-length-11
-    same-length-12
-    same-length-13
+    early_refusal-early-requires
+    station_for-named-requires
+    run_recipe-done-requires
+    answer_for-answer-requires
+    grade_front-requires
+    shape_of-one_offsets
+    shape_of-one_rows
+    shape_of-one_values
+    shape_of-one_elements
+    shape_of-two_offsets
+    shape_of-two_rows
+    shape_of-two_values
+    shape_of-two_elements
+    shape_of-out_offsets
+    shape_of-out_rows
+    shape_of-out_values
+    shape_of-out_elements
+    shape_of-grades
     returns)

@@ -4,22 +4,29 @@ use native.Mathlib.Omega.{arith}
 use Rattle.hash_checks.proofs.need_of.Statement.{statement}
 use Rattle.hash_checks.proofs.need_of.Tie as tie
 
-enum_told : tie.Need-enum-told
-enum_told c = search
+enum_told-1 : tie.Need-enum_told-1
+enum_told-1 c = search
 
-enum-told-2 : tie.Need-enum-told-2
-enum-told-2 c = search
+enum_told-in-Pair : tie.Need-enum_told-in-Pair
+enum_told-in-Pair c = search
 
-add-result : tie.Need-overflow-add-result
-add-result c = let s = c.before.before in omega (arith, s.requires.0, s.requires.1)
+overflow_add-result : tie.Need-overflow_add-result
+overflow_add-result c = let s = c.before in omega (arith, s.requires.0, s.requires.1)
 
-returns : tie.Need-returns
+returns-in-Distinct : tie.Need-returns-in-Distinct
 unfolding row_need
-returns c = rw c.enum_told.given.1
+returns-in-Distinct c = rw c.in-Distinct.is
 
-returns-2 : tie.Need-returns-2
+returns-in-Pair : tie.Need-returns-in-Pair
 unfolding row_need
-returns-2 c = rw c.enum-told2.given.1
+returns-in-Pair c = rw c.in-Pair.is
 
 pub need_of_spec : {M : Type 1} → statement M
-need_of_spec = tie.close (tie.spec enum_told enum-told-2 add-result returns returns-2)
+need_of_spec =
+    tie.close
+    (tie.spec
+    enum_told-1
+    enum_told-in-Pair
+    overflow_add-result
+    returns-in-Distinct
+    returns-in-Pair)

@@ -3,23 +3,29 @@ use Rattle.hash_checks.specs.Area.{op_refusal}
 use Rattle.hash_checks.proofs.op_refusal.Statement.{statement}
 use Rattle.hash_checks.proofs.op_refusal.Tie as tie
 
-enum_told : tie.Need-enum-told
-enum_told c = search
+enum_told-1 : tie.Need-enum_told-1
+enum_told-1 c = search
 
-enum-known-op : tie.Need-enum-known-op
-enum-known-op c = search
+enum_known-op : tie.Need-enum_known-op
+enum_known-op c = search
 
-union-refusal-requires : tie.Need-union-refusal-requires
-union-refusal-requires c κs = search
+union_refusal-requires : tie.Need-union_refusal-requires
+union_refusal-requires c κs = search
 
-returns : tie.Need-returns
+returns-in-Distinct : tie.Need-returns-in-Distinct
 unfolding op_refusal
-returns c = rw c.enum_told.given.1
+returns-in-Distinct c = rw c.in-Distinct.is
 
-returns-2 : tie.Need-returns-2
+returns-in-Pair : tie.Need-returns-in-Pair
 unfolding op_refusal
-returns-2 c = rw c.before.before.op.given.1 c.union-refusal.ensures
+returns-in-Pair c = rw c.in-Pair.is c.union_refusal.ensures
 
 pub op_refusal_spec : {M : Type 1} → statement M
 op_refusal_spec =
-    tie.close (tie.spec enum_told enum-known-op union-refusal-requires returns returns-2)
+    tie.close
+    (tie.spec
+    enum_told-1
+    enum_known-op
+    union_refusal-requires
+    returns-in-Distinct
+    returns-in-Pair)

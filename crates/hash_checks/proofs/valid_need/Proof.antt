@@ -3,14 +3,19 @@ use borrow.Author.Tests.{not-true, not-false}
 use Rattle.hash_checks.proofs.valid_need.Statement.{statement}
 use Rattle.hash_checks.proofs.valid_need.Tie as tie
 
+returns-then-not-valid : tie.Need-returns-then-not-valid
+returns-then-not-valid c = rw (not-true c.args.valid c.if-not-valid.true)
+
+need_of-requires : tie.Need-need_of-requires
+need_of-requires c κs = search
+
 returns : tie.Need-returns
-returns c = rw (not-true c.before.args.valid c.if1.true)
-
-need-of-requires : tie.Need-need-of-requires
-need-of-requires c κs = search
-
-returns-2 : tie.Need-returns-2
-returns-2 c = rw (not-false c.before.before.args.valid c.before.if1.false) c.need-of.ensures
+returns c = rw (not-false c.args.valid c.if-not-valid.false) c.need_of.ensures
 
 pub valid_need_spec : {M : Type 1} → statement M
-valid_need_spec = tie.close (tie.spec returns need-of-requires returns-2)
+valid_need_spec =
+    tie.close
+    (tie.spec
+    returns-then-not-valid
+    need_of-requires
+    returns)

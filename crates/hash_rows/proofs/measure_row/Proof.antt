@@ -3,43 +3,43 @@ use Rattle.hash_checks.specs.Area.{hash_elems, row_need}
 use Rattle.hash_rows.proofs.measure_row.Statement.{statement}
 use Rattle.hash_rows.proofs.measure_row.Tie as tie
 
-enum_told : tie.Need-enum-told
-enum_told c = search
+enum_told-1 : tie.Need-enum_told-1
+enum_told-1 c = search
 
-measure-first-requires : tie.Need-measure-first-requires
+measure_first-requires : tie.Need-measure_first-requires
 unfolding row_need
-measure-first-requires c κs = let s = c.before.before.before.before.before.before in (s.requires.0, (s.requires.1.1.0, (rw c.before.enum_told.given.1 at s.requires.1.1.1.1.0, s.requires.1.1.1.1.1)))
+measure_first-requires c κs = let s = c.before.before.before.before.before in (s.requires.0, (s.requires.1.1.0, (rw c.in-Distinct.is at s.requires.1.1.1.1.0, s.requires.1.1.1.1.1)))
 
-enum-known-op : tie.Need-enum-known-op
-enum-known-op c = search
+enum_known-op : tie.Need-enum_known-op
+enum_known-op c = search
 
-measure-set-requires : tie.Need-measure-set-requires
+measure_set-requires : tie.Need-measure_set-requires
 unfolding row_need
-measure-set-requires c κs = let s = c.before.before.before.before.before.before.before in (s.requires.0, (s.requires.1.0, (s.requires.1.1.0, (s.requires.1.1.1.0, (rw c.before.before.op.given.1 at s.requires.1.1.1.1.0, s.requires.1.1.1.1.1)))))
+measure_set-requires c κs = let s = c.before.before.before.before.before in (s.requires.0, (s.requires.1.0, (s.requires.1.1.0, (s.requires.1.1.1.0, (rw c.in-Pair.is at s.requires.1.1.1.1.0, s.requires.1.1.1.1.1)))))
 
-same_length : tie.Need-same-length
-same_length c = search
+shape_of-area-in-Distinct : tie.Need-shape_of-area-in-Distinct
+shape_of-area-in-Distinct c = search
 
-returns : tie.Need-returns
+returns-in-Distinct : tie.Need-returns-in-Distinct
 unfolding hash_elems
-returns c = rw c.before.before.before.before.enum_told.given.1 c.before.before.measure-first.ensures
+returns-in-Distinct c = rw c.in-Distinct.is c.measure_first.ensures
 
-same-length-2 : tie.Need-same-length-2
-same-length-2 c = search
+shape_of-area-in-Pair : tie.Need-shape_of-area-in-Pair
+shape_of-area-in-Pair c = search
 
-returns-2 : tie.Need-returns-2
+returns-in-Pair : tie.Need-returns-in-Pair
 unfolding hash_elems
-returns-2 c = rw c.before.before.before.before.before.op.given.1 c.before.before.measure-set.ensures
+returns-in-Pair c = rw c.in-Pair.is c.measure_set.ensures
 
 pub measure_row_spec : {M : Type 1} → statement M
 measure_row_spec =
     tie.close
     (tie.spec
-    enum_told
-    measure-first-requires
-    enum-known-op
-    measure-set-requires
-    same_length
-    returns
-    same-length-2
-    returns-2)
+    enum_told-1
+    measure_first-requires
+    enum_known-op
+    measure_set-requires
+    shape_of-area-in-Distinct
+    returns-in-Distinct
+    shape_of-area-in-Pair
+    returns-in-Pair)

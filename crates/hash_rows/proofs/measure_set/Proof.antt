@@ -4,51 +4,51 @@ use borrow.Author.Rules.{rules}
 use Rattle.hash_rows.proofs.measure_set.Statement.{statement}
 use Rattle.hash_rows.proofs.measure_set.Tie as tie
 
-add-if1 : tie.Need-overflow-add-if1
-add-if1 c = let s = c.before.before.before in omega (arith, s.requires.1.1.0, s.requires.1.1.1.0)
+overflow_add-n : tie.Need-overflow_add-n
+overflow_add-n c = let s = c.before.before.before in omega (arith, s.requires.1.1.0, s.requires.1.1.1.0)
 
-measure-set-requires : tie.Need-measure-set-requires
-measure-set-requires c κs = let s = c.before.before.before.before in (s.requires.0, (s.requires.1.0, omega (arith, s.requires.1.1.0, s.requires.1.1.1.0)))
+measure_set-requires : tie.Need-measure_set-requires
+measure_set-requires c κs = let s = c.before.before.before.before in (s.requires.0, (s.requires.1.0, omega (arith, s.requires.1.1.0, s.requires.1.1.1.0)))
 
-returns : tie.Need-returns
-returns c = (c.measure-set.ensures, c.before.before.before.before.before.requires.1.1.1.1.1)
+returns-then-n-m-lt-FEW : tie.Need-returns-then-n-m-lt-FEW
+returns-then-n-m-lt-FEW c = (c.measure_set.ensures, c.requires.1.1.1.1.1)
 
-enum_told : tie.Need-enum-told
-enum_told c = search
+enum_told-1 : tie.Need-enum_told-1
+enum_told-1 c = search
 
-measure-union-requires : tie.Need-measure-union-requires
-measure-union-requires c κs = let s = c.before.before.before.before.before.before.before in (s.requires.0, (s.requires.1.0, (omega (arith, s.requires.1.1.0), (omega (arith, s.requires.1.1.1.0), (omega (arith, s.requires.1.1.1.1.0), s.requires.1.1.1.1.1)))))
+measure_union-requires : tie.Need-measure_union-requires
+measure_union-requires c κs = let s = c.before.before.before.before.before.before in (s.requires.0, (s.requires.1.0, (omega (arith, s.requires.1.1.0), (omega (arith, s.requires.1.1.1.0), (omega (arith, s.requires.1.1.1.1.0), s.requires.1.1.1.1.1)))))
 
-enum-told-2 : tie.Need-enum-told-2
-enum-told-2 c = search
+enum_told-in-Intersect : tie.Need-enum_told-in-Intersect
+enum_told-in-Intersect c = search
 
-measure-intersect-requires : tie.Need-measure-intersect-requires
-measure-intersect-requires c κs = let s = c.before.before.before.before.before.before.before in (s.requires.0, (s.requires.1.0, (omega (arith, s.requires.1.1.0), (omega (arith, s.requires.1.1.1.0), (omega (arith, s.requires.1.1.1.1.0), s.requires.1.1.1.1.1)))))
+measure_intersect-requires : tie.Need-measure_intersect-requires
+measure_intersect-requires c κs = let s = c.before.before.before.before.before.before in (s.requires.0, (s.requires.1.0, (omega (arith, s.requires.1.1.0), (omega (arith, s.requires.1.1.1.0), (omega (arith, s.requires.1.1.1.1.0), s.requires.1.1.1.1.1)))))
 
-same_length : tie.Need-same-length
-same_length c = search
+shape_of-area-in-Union : tie.Need-shape_of-area-in-Union
+shape_of-area-in-Union c = search
 
-returns-2 : tie.Need-returns-2
-returns-2 c = rw c.before.before.before.before.enum_told.given.1 c.before.before.measure-union.ensures
+returns-in-Union : tie.Need-returns-in-Union
+returns-in-Union c = rw c.in-Union.is c.measure_union.ensures
 
-same-length-2 : tie.Need-same-length-2
-same-length-2 c = search
+shape_of-area-in-Intersect : tie.Need-shape_of-area-in-Intersect
+shape_of-area-in-Intersect c = search
 
-returns-3 : tie.Need-returns-3
-returns-3 c = rw c.before.before.before.before.enum-told2.given.1 c.before.before.measure-intersect.ensures
+returns-in-Intersect : tie.Need-returns-in-Intersect
+returns-in-Intersect c = rw c.in-Intersect.is c.measure_intersect.ensures
 
 pub measure_set_spec : {M : Type 1} → statement M
 measure_set_spec =
     tie.close
     (tie.spec
-    add-if1
-    measure-set-requires
-    returns
-    enum_told
-    measure-union-requires
-    enum-told-2
-    measure-intersect-requires
-    same_length
-    returns-2
-    same-length-2
-    returns-3)
+    overflow_add-n
+    measure_set-requires
+    returns-then-n-m-lt-FEW
+    enum_told-1
+    measure_union-requires
+    enum_told-in-Intersect
+    measure_intersect-requires
+    shape_of-area-in-Union
+    returns-in-Union
+    shape_of-area-in-Intersect
+    returns-in-Intersect)

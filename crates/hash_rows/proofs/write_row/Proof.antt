@@ -3,65 +3,65 @@ use Rattle.hash_checks.specs.Area.{hash_elems, row_need}
 use Rattle.hash_rows.proofs.write_row.Statement.{statement}
 use Rattle.hash_rows.proofs.write_row.Tie as tie
 
-enum_told : tie.Need-enum-told
-enum_told c = search
+enum_told-1 : tie.Need-enum_told-1
+enum_told-1 c = search
 
-write-first-requires : tie.Need-write-first-requires
+write_first-requires : tie.Need-write_first-requires
 unfolding hash_elems row_need
-write-first-requires c κs =
-    let s = c.before.before.before.before.before.before.before.before.before in
-    let e = c.before.before.before.enum_told.given.1 in
+write_first-requires c κs =
+    let s = c.before.before.before.before.before.before.before.before in
+    let e = c.in-Distinct.is in
     (s.requires.0, (rw e at s.requires.1.1.0, (s.requires.1.1.1.0, (rw e at s.requires.1.1.1.1.1.0, s.requires.1.1.1.1.1.1))))
 
-enum-known-op : tie.Need-enum-known-op
-enum-known-op c = search
+enum_known-op : tie.Need-enum_known-op
+enum_known-op c = search
 
-write-set-requires : tie.Need-write-set-requires
+write_set-requires : tie.Need-write_set-requires
 unfolding hash_elems row_need
-write-set-requires c κs =
-    let s = c.before.before.before.before.before.before.before.before.before.before in
-    let e = c.before.before.before.before.op.given.1 in
+write_set-requires c κs =
+    let s = c.before.before.before.before.before.before.before.before in
+    let e = c.in-Pair.is in
     (s.requires.0, (s.requires.1.0, (rw e at s.requires.1.1.0, (s.requires.1.1.1.0, (s.requires.1.1.1.1.0, (rw e at s.requires.1.1.1.1.1.0, s.requires.1.1.1.1.1.1))))))
 
-same_length : tie.Need-same-length
-same_length c = search
+shape_of-out_values-in-Distinct : tie.Need-shape_of-out_values-in-Distinct
+shape_of-out_values-in-Distinct c = search
 
-same-length-2 : tie.Need-same-length-2
-same-length-2 c = search
+shape_of-out_elements-in-Distinct : tie.Need-shape_of-out_elements-in-Distinct
+shape_of-out_elements-in-Distinct c = search
 
-same-length-3 : tie.Need-same-length-3
-same-length-3 c = search
+shape_of-area-in-Distinct : tie.Need-shape_of-area-in-Distinct
+shape_of-area-in-Distinct c = search
 
-returns : tie.Need-returns
+returns-in-Distinct : tie.Need-returns-in-Distinct
 unfolding hash_elems
-returns c = rw c.before.before.before.before.before.before.before.before.before.enum_told.given.1 c.before.before.before.before.before.write-first.ensures
+returns-in-Distinct c = rw c.in-Distinct.is c.write_first.ensures
 
-same-length-4 : tie.Need-same-length-4
-same-length-4 c = search
+shape_of-out_values-in-Pair : tie.Need-shape_of-out_values-in-Pair
+shape_of-out_values-in-Pair c = search
 
-same-length-5 : tie.Need-same-length-5
-same-length-5 c = search
+shape_of-out_elements-in-Pair : tie.Need-shape_of-out_elements-in-Pair
+shape_of-out_elements-in-Pair c = search
 
-same-length-6 : tie.Need-same-length-6
-same-length-6 c = search
+shape_of-area-in-Pair : tie.Need-shape_of-area-in-Pair
+shape_of-area-in-Pair c = search
 
-returns-2 : tie.Need-returns-2
+returns-in-Pair : tie.Need-returns-in-Pair
 unfolding hash_elems
-returns-2 c = rw c.before.before.before.before.before.before.before.before.before.before.op.given.1 c.before.before.before.before.before.write-set.ensures
+returns-in-Pair c = rw c.in-Pair.is c.write_set.ensures
 
 pub write_row_spec : {M : Type 1} → statement M
 write_row_spec =
     tie.close
     (tie.spec
-    enum_told
-    write-first-requires
-    enum-known-op
-    write-set-requires
-    same_length
-    same-length-2
-    same-length-3
-    returns
-    same-length-4
-    same-length-5
-    same-length-6
-    returns-2)
+    enum_told-1
+    write_first-requires
+    enum_known-op
+    write_set-requires
+    shape_of-out_values-in-Distinct
+    shape_of-out_elements-in-Distinct
+    shape_of-area-in-Distinct
+    returns-in-Distinct
+    shape_of-out_values-in-Pair
+    shape_of-out_elements-in-Pair
+    shape_of-area-in-Pair
+    returns-in-Pair)

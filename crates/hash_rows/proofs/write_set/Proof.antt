@@ -3,75 +3,75 @@ use native.Mathlib.Omega.{arith}
 use Rattle.hash_rows.proofs.write_set.Statement.{statement}
 use Rattle.hash_rows.proofs.write_set.Tie as tie
 
-add-if1 : tie.Need-overflow-add-if1
-add-if1 c = let s = c.before.before.before.before in omega (arith, s.requires.1.1.1.0, s.requires.1.1.1.1.0)
+overflow_add-n : tie.Need-overflow_add-n
+overflow_add-n c = let s = c.before.before.before.before in omega (arith, s.requires.1.1.1.0, s.requires.1.1.1.1.0)
 
-write-set-requires : tie.Need-write-set-requires
-write-set-requires c κs = let s = c.before.before.before.before.before.before.before in (s.requires.0, (s.requires.1.0, s.requires.1.1.0))
+write_set-requires : tie.Need-write_set-requires
+write_set-requires c κs = let s = c.before.before.before.before.before.before.before in (s.requires.0, (s.requires.1.0, s.requires.1.1.0))
 
-same_length : tie.Need-same-length
-same_length c = search
+shape_of-out_values-then-n-m-lt-FEW : tie.Need-shape_of-out_values-then-n-m-lt-FEW
+shape_of-out_values-then-n-m-lt-FEW c = search
 
-same-length-2 : tie.Need-same-length-2
-same-length-2 c = search
+shape_of-out_elements-then-n-m-lt-FEW : tie.Need-shape_of-out_elements-then-n-m-lt-FEW
+shape_of-out_elements-then-n-m-lt-FEW c = search
 
-returns : tie.Need-returns
-returns c = (c.before.before.before.write-set.ensures, c.before.before.before.before.before.before.before.before.before.before.before.requires.1.1.1.1.1.1)
+returns-then-n-m-lt-FEW : tie.Need-returns-then-n-m-lt-FEW
+returns-then-n-m-lt-FEW c = (c.write_set.ensures, c.requires.1.1.1.1.1.1)
 
-enum_told : tie.Need-enum-told
-enum_told c = search
+enum_told-1 : tie.Need-enum_told-1
+enum_told-1 c = search
 
-write-union-requires : tie.Need-write-union-requires
-write-union-requires c κs = let s = c.before.before.before.before.before.before.before.before.before.before in (s.requires.0, (s.requires.1.0, (rw c.before.before.before.enum_told.given.1 at s.requires.1.1.0, (omega (arith, s.requires.1.1.1.0), (omega (arith, s.requires.1.1.1.1.0), (omega (arith, s.requires.1.1.1.1.1.0), s.requires.1.1.1.1.1.1))))))
+write_union-requires : tie.Need-write_union-requires
+write_union-requires c κs = let s = c.before.before.before.before.before.before.before.before.before in (s.requires.0, (s.requires.1.0, (rw c.in-Union.is at s.requires.1.1.0, (omega (arith, s.requires.1.1.1.0), (omega (arith, s.requires.1.1.1.1.0), (omega (arith, s.requires.1.1.1.1.1.0), s.requires.1.1.1.1.1.1))))))
 
-enum-told-2 : tie.Need-enum-told-2
-enum-told-2 c = search
+enum_told-in-Intersect : tie.Need-enum_told-in-Intersect
+enum_told-in-Intersect c = search
 
-write-intersect-requires : tie.Need-write-intersect-requires
-write-intersect-requires c κs = let s = c.before.before.before.before.before.before.before.before.before.before in (s.requires.0, (s.requires.1.0, (rw c.before.before.before.enum-told2.given.1 at s.requires.1.1.0, (omega (arith, s.requires.1.1.1.0), (omega (arith, s.requires.1.1.1.1.0), (omega (arith, s.requires.1.1.1.1.1.0), s.requires.1.1.1.1.1.1))))))
+write_intersect-requires : tie.Need-write_intersect-requires
+write_intersect-requires c κs = let s = c.before.before.before.before.before.before.before.before.before in (s.requires.0, (s.requires.1.0, (rw c.in-Intersect.is at s.requires.1.1.0, (omega (arith, s.requires.1.1.1.0), (omega (arith, s.requires.1.1.1.1.0), (omega (arith, s.requires.1.1.1.1.1.0), s.requires.1.1.1.1.1.1))))))
 
-same-length-3 : tie.Need-same-length-3
-same-length-3 c = search
+shape_of-out_values-in-Union : tie.Need-shape_of-out_values-in-Union
+shape_of-out_values-in-Union c = search
 
-same-length-4 : tie.Need-same-length-4
-same-length-4 c = search
+shape_of-out_elements-in-Union : tie.Need-shape_of-out_elements-in-Union
+shape_of-out_elements-in-Union c = search
 
-same-length-5 : tie.Need-same-length-5
-same-length-5 c = search
+shape_of-area-in-Union : tie.Need-shape_of-area-in-Union
+shape_of-area-in-Union c = search
 
-returns-2 : tie.Need-returns-2
-returns-2 c = rw c.before.before.before.before.before.before.before.before.before.enum_told.given.1 c.before.before.before.before.before.write-union.ensures
+returns-in-Union : tie.Need-returns-in-Union
+returns-in-Union c = rw c.in-Union.is c.write_union.ensures
 
-same-length-6 : tie.Need-same-length-6
-same-length-6 c = search
+shape_of-out_values-in-Intersect : tie.Need-shape_of-out_values-in-Intersect
+shape_of-out_values-in-Intersect c = search
 
-same-length-7 : tie.Need-same-length-7
-same-length-7 c = search
+shape_of-out_elements-in-Intersect : tie.Need-shape_of-out_elements-in-Intersect
+shape_of-out_elements-in-Intersect c = search
 
-same-length-8 : tie.Need-same-length-8
-same-length-8 c = search
+shape_of-area-in-Intersect : tie.Need-shape_of-area-in-Intersect
+shape_of-area-in-Intersect c = search
 
-returns-3 : tie.Need-returns-3
-returns-3 c = rw c.before.before.before.before.before.before.before.before.before.enum-told2.given.1 c.before.before.before.before.before.write-intersect.ensures
+returns-in-Intersect : tie.Need-returns-in-Intersect
+returns-in-Intersect c = rw c.in-Intersect.is c.write_intersect.ensures
 
 pub write_set_spec : {M : Type 1} → statement M
 write_set_spec =
     tie.close
     (tie.spec
-    add-if1
-    write-set-requires
-    same_length
-    same-length-2
-    returns
-    enum_told
-    write-union-requires
-    enum-told-2
-    write-intersect-requires
-    same-length-3
-    same-length-4
-    same-length-5
-    returns-2
-    same-length-6
-    same-length-7
-    same-length-8
-    returns-3)
+    overflow_add-n
+    write_set-requires
+    shape_of-out_values-then-n-m-lt-FEW
+    shape_of-out_elements-then-n-m-lt-FEW
+    returns-then-n-m-lt-FEW
+    enum_told-1
+    write_union-requires
+    enum_told-in-Intersect
+    write_intersect-requires
+    shape_of-out_values-in-Union
+    shape_of-out_elements-in-Union
+    shape_of-area-in-Union
+    returns-in-Union
+    shape_of-out_values-in-Intersect
+    shape_of-out_elements-in-Intersect
+    shape_of-area-in-Intersect
+    returns-in-Intersect)

@@ -8,15 +8,20 @@ use Rattle.hash_slots.proofs.clear_area.Statement.{statement}
 use Rattle.hash_slots.proofs.clear_area.Tie as tie
 
 clear-requires : tie.Need-clear-requires
-clear-requires c κs = (omega arith, clean_past c.before.before.args.area.now)
+clear-requires c κs = (omega arith, clean_past c.args.area.now)
 
-same_length : tie.Need-same-length
-same_length c = search
+shape_of-area : tie.Need-shape_of-area
+shape_of-area c = search
 
 returns : tie.Need-returns
 returns c =
-    let f = c.before.before.clear in
-    clean_zeros _ f.ensures ∙ ap (λ (n : ℕ). replicate n 0) f.auto.0
+    let f = c.clear in
+    clean_zeros _ f.ensures ∙ ap (λ (n : ℕ). replicate n 0) f.auto.area
 
 pub clear_area_spec : {M : Type 1} → statement M
-clear_area_spec = tie.close (tie.spec clear-requires same_length returns)
+clear_area_spec =
+    tie.close
+    (tie.spec
+    clear-requires
+    shape_of-area
+    returns)

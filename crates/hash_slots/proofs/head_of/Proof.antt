@@ -6,32 +6,32 @@ use borrow.Author.Rules.{rules}
 use Rattle.hash_slots.proofs.head_of.Statement.{statement}
 use Rattle.hash_slots.proofs.head_of.Tie as tie
 
-is-valid-requires : tie.Need-is-valid-requires
-is-valid-requires c κs = search rules
+is_valid-requires : tie.Need-is_valid-requires
+is_valid-requires c κs = search rules
 
-mul-head-of-value : tie.Need-overflow-mul-head-of-value
-mul-head-of-value c = search rules
+offset_bounds-values-i : tie.Need-offset_bounds-values-i
+offset_bounds-values-i c = search rules
 
-shared-slice-copy-out-head-of-value : tie.Need-shared-slice-copy-out-head-of-value
-shared-slice-copy-out-head-of-value c = search rules
+bounds-values-i : tie.Need-bounds-values-i
+bounds-values-i c = search rules
 
-head-of-value-requires : tie.Need-head-of-value-requires
-head-of-value-requires c κs = search rules
+head_of_value-requires : tie.Need-head_of_value-requires
+head_of_value-requires c κs = search rules
+
+returns-then-is_valid : tie.Need-returns-then-is_valid
+returns-then-is_valid c = rw (elem_valid _ _ _ (sym c.is_valid.ensures ∙ c.if-is_valid.true)) (rw (back64 _ c.head_of_value-arg-1.given) at c.head_of_value.ensures)
 
 returns : tie.Need-returns
-returns c = rw (elem_valid _ _ _ (sym c.before.before.before.is-valid.ensures ∙ c.before.before.if1.true)) (rw (back64 _ c.before.head-of-value-arg.given) at c.head-of-value.ensures)
-
-returns-2 : tie.Need-returns-2
 unfolding head_of
-returns-2 c = rw (elem_null _ _ _ (sym c.before.is-valid.ensures ∙ c.if1.false))
+returns c = rw (elem_null _ _ _ (sym c.is_valid.ensures ∙ c.if-is_valid.false))
 
 pub head_of_spec : {M : Type 1} → statement M
 head_of_spec =
     tie.close
     (tie.spec
-    is-valid-requires
-    mul-head-of-value
-    shared-slice-copy-out-head-of-value
-    head-of-value-requires
-    returns
-    returns-2)
+    is_valid-requires
+    offset_bounds-values-i
+    bounds-values-i
+    head_of_value-requires
+    returns-then-is_valid
+    returns)

@@ -10,27 +10,36 @@ use Rattle.hash_slots.proofs.SlotLaws.{scaled_fits, fold_fits, fold_lt}
 use Rattle.hash_slots.proofs.head_of_value.Statement.{statement}
 use Rattle.hash_slots.proofs.head_of_value.Tie as tie
 
-from-i64-requires : tie.Need-from-i64-requires
-from-i64-requires c κs = search rules
+from_i64-x-requires : tie.Need-from_i64-x-requires
+from_i64-x-requires c κs = search rules
 
-mul-s : tie.Need-overflow-mul-s
-mul-s c = search rules
+overflow_mul-s : tie.Need-overflow_mul-s
+overflow_mul-s c = search rules
 
-mul-s-2 : tie.Need-overflow-mul-s-2
-mul-s-2 c = search rules
+overflow_mul-s-2 : tie.Need-overflow_mul-s-2
+overflow_mul-s-2 c = search rules
 
-add-s : tie.Need-overflow-add-s
-add-s c = search rules
+overflow_add-s : tie.Need-overflow_add-s
+overflow_add-s c = search rules
 
-add-h : tie.Need-overflow-add-h
-add-h c = record { fits = fold_fits c.from-i64.result c.from-i64.type-inv }
+overflow_add-h : tie.Need-overflow_add-h
+overflow_add-h c = record { fits = fold_fits c.from_i64-x.result c.from_i64-x.type_inv }
 
-mul-result : tie.Need-overflow-mul-result
-mul-result c = record { fits = scaled_fits (folded (summed c.from-i64.result)) _ (fold_lt (summed c.from-i64.result)) c.before.requires }
+overflow_mul-result : tie.Need-overflow_mul-result
+overflow_mul-result c = record { fits = scaled_fits (folded (summed c.from_i64-x.result)) _ (fold_lt (summed c.from_i64-x.result)) c.requires }
 
 returns : tie.Need-returns
 unfolding head_of
-returns c = rw (c.from-i64.ensures, back64 _ c.before.ranges.v.sfits)
+returns c = rw (c.from_i64-x.ensures, back64 _ c.ranges.v.sfits)
 
 pub head_of_value_spec : {M : Type 1} → statement M
-head_of_value_spec = tie.close (tie.spec from-i64-requires mul-s mul-s-2 add-s add-h mul-result returns)
+head_of_value_spec =
+    tie.close
+    (tie.spec
+    from_i64-x-requires
+    overflow_mul-s
+    overflow_mul-s-2
+    overflow_add-s
+    overflow_add-h
+    overflow_mul-result
+    returns)

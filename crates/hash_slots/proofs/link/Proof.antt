@@ -4,41 +4,41 @@ use borrow.Author.Rules.{rules}
 use Rattle.hash_slots.proofs.link.Statement.{statement}
 use Rattle.hash_slots.proofs.link.Tie as tie
 
-add-h : tie.Need-overflow-add-h
-add-h c = search rules
+overflow_add-h : tie.Need-overflow_add-h
+overflow_add-h c = search rules
 
-mul-older : tie.Need-overflow-mul-older
-mul-older c = search rules
+offset_bounds-area-h : tie.Need-offset_bounds-area-h
+offset_bounds-area-h c = search rules
 
-slice-read-older : tie.Need-slice-read-older
-slice-read-older c = search rules
+bounds-area-h : tie.Need-bounds-area-h
+bounds-area-h c = search rules
 
-add-area : tie.Need-overflow-add-area
-add-area c = search rules
+overflow_add-area : tie.Need-overflow_add-area
+overflow_add-area c = search rules
 
-add-area-2 : tie.Need-overflow-add-area-2
-add-area-2 c = search rules
+overflow_add-area-2 : tie.Need-overflow_add-area-2
+overflow_add-area-2 c = search rules
 
-mul-area : tie.Need-overflow-mul-area
-mul-area c = search rules
+offset_bounds-area-o : tie.Need-offset_bounds-area-o
+offset_bounds-area-o c = search rules
 
-slice-write-area : tie.Need-slice-write-area
-slice-write-area c = search rules
+bounds-area-o : tie.Need-bounds-area-o
+bounds-area-o c = search rules
 
-add-area-3 : tie.Need-overflow-add-area-3
-add-area-3 c = search rules
+overflow_add-area-3 : tie.Need-overflow_add-area-3
+overflow_add-area-3 c = search rules
 
-cast-area : tie.Need-overflow-cast-area
-cast-area c = search rules
+overflow_cast-area : tie.Need-overflow_cast-area
+overflow_cast-area c = search rules
 
-mul-area-2 : tie.Need-overflow-mul-area-2
-mul-area-2 c = search rules
+offset_bounds-area-h-2 : tie.Need-offset_bounds-area-h-2
+offset_bounds-area-h-2 c = search rules
 
-slice-write-area-2 : tie.Need-slice-write-area-2
-slice-write-area-2 c = simp length-set (omega arith)
+bounds-area-h-2 : tie.Need-bounds-area-h-2
+bounds-area-h-2 c = simp length-set (omega arith)
 
-same_length : tie.Need-same-length
-same_length c = search rules
+shape_of-area : tie.Need-shape_of-area
+shape_of-area c = search rules
 
 returns : tie.Need-returns
 returns c = search rules
@@ -47,16 +47,16 @@ pub link_spec : {M : Type 1} → statement M
 link_spec =
     tie.close
     (tie.spec
-    add-h
-    mul-older
-    slice-read-older
-    add-area
-    add-area-2
-    mul-area
-    slice-write-area
-    add-area-3
-    cast-area
-    mul-area-2
-    slice-write-area-2
-    same_length
+    overflow_add-h
+    offset_bounds-area-h
+    bounds-area-h
+    overflow_add-area
+    overflow_add-area-2
+    offset_bounds-area-o
+    bounds-area-o
+    overflow_add-area-3
+    overflow_cast-area
+    offset_bounds-area-h-2
+    bounds-area-h-2
+    shape_of-area
     returns)

@@ -4,65 +4,65 @@ use borrow.Author.Rules.{rules}
 use Rattle.hash_tables.proofs.enter.Statement.{statement}
 use Rattle.hash_tables.proofs.enter.Tie as tie
 
-add-i : tie.Need-overflow-add-i
-add-i c = search rules
+overflow_add-i : tie.Need-overflow_add-i
+overflow_add-i c = search rules
 
-head-of-requires : tie.Need-head-of-requires
-head-of-requires c κs = search rules
+head_of-b-requires : tie.Need-head_of-b-requires
+head_of-b-requires c κs = search rules
 
-add_wide : tie.Need-overflow-add-wide
-add_wide c = let s = c.before.before.before in omega (arith, head_lt _ _ _ _ _ _ s.requires.1.1.1 s.requires.1.0 c.head_of.ensures, s.requires.1.1.1.room)
+overflow_add-o : tie.Need-overflow_add-o
+overflow_add-o c = let s = c.before.before.before in omega (arith, head_lt _ _ _ _ _ _ s.requires.1.1.1 s.requires.1.0 c.head_of-b.ensures, s.requires.1.1.1.room)
 
-mul_wide : tie.Need-overflow-mul-wide
-mul_wide c = let s = c.before.before.before in omega (arith, head_lt _ _ _ _ _ _ s.requires.1.1.1 s.requires.1.0 c.head_of.ensures, s.requires.1.1.1.room)
+offset_bounds-area-o : tie.Need-offset_bounds-area-o
+offset_bounds-area-o c = let s = c.before.before.before in omega (arith, head_lt _ _ _ _ _ _ s.requires.1.1.1 s.requires.1.0 c.head_of-b.ensures, s.requires.1.1.1.room)
 
-slice-read-wide : tie.Need-slice-read-wide
-slice-read-wide c = let s = c.before.before.before.before in omega (arith, head_lt _ _ _ _ _ _ s.requires.1.1.1 s.requires.1.0 c.before.head_of.ensures, s.requires.1.1.1.room)
+bounds-area-o : tie.Need-bounds-area-o
+bounds-area-o c = let s = c.before.before.before.before in omega (arith, head_lt _ _ _ _ _ _ s.requires.1.1.1 s.requires.1.0 c.head_of-b.ensures, s.requires.1.1.1.room)
 
-wide-requires : tie.Need-wide-requires
-wide-requires c κs = search rules
+wide-s-requires : tie.Need-wide-s-requires
+wide-s-requires c κs = search rules
 
-is-chained-requires : tie.Need-is-chained-requires
-is-chained-requires c κs =
+is_chained-requires : tie.Need-is_chained-requires
+is_chained-requires c κs =
     let s = c.before.before.before.before.before.before in
     let T = s.requires.1.1.1 in
-    (omega (arith, s.requires.0.inside, s.requires.1.0), (s.requires.0.bits, (s.requires.0, (T.room, (T.down, head_le _ _ _ _ _ _ T s.requires.1.0 c.before.before.before.head_of.ensures c.before.wide.ensures)))))
+    (omega (arith, s.requires.0.inside, s.requires.1.0), (s.requires.0.bits, (s.requires.0, (T.room, (T.down, head_le _ _ _ _ _ _ T s.requires.1.0 c.head_of-b.ensures c.wide-s.ensures)))))
 
-same_length : tie.Need-same-length
-same_length c = search rules
+shape_of-area-then-is_chained : tie.Need-shape_of-area-then-is_chained
+shape_of-area-then-is_chained c = search rules
 
-returns : tie.Need-returns
-returns c =
+returns-then-is_chained : tie.Need-returns-then-is_chained
+returns-then-is_chained c =
     let s = c.before.before.before.before.before.before.before.before in
-    enter_old _ _ _ _ _ _ s.requires.1.1.1 s.requires.1.0 c.before.before.before.before.before.head_of.ensures c.before.before.before.wide.ensures c.before.is-chained.ensures c.if1.true
+    enter_old _ _ _ _ _ _ s.requires.1.1.1 s.requires.1.0 c.head_of-b.ensures c.wide-s.ensures c.is_chained.ensures c.if-is_chained.true
 
 link-requires : tie.Need-link-requires
 link-requires c κs =
     let s = c.before.before.before.before.before.before.before.before.before in
     let T = s.requires.1.1.1 in
-    (T.room, (s.requires.1.0, (head_lt _ _ _ _ _ _ T s.requires.1.0 c.before.before.before.before.before.before.head_of.ensures, s.requires.1.1.0)))
+    (T.room, (s.requires.1.0, (head_lt _ _ _ _ _ _ T s.requires.1.0 c.head_of-b.ensures, s.requires.1.1.0)))
 
-same-length-2 : tie.Need-same-length-2
-same-length-2 c = search rules
+shape_of-area : tie.Need-shape_of-area
+shape_of-area c = search rules
 
-returns-2 : tie.Need-returns-2
-returns-2 c =
+returns : tie.Need-returns
+returns c =
     let s = c.before.before.before.before.before.before.before.before.before.before.before.before in
-    enter_new _ _ _ _ _ _ s.requires.1.1.1 s.requires.1.0 c.before.before.before.before.before.before.before.before.before.head_of.ensures c.before.before.before.before.before.before.before.wide.ensures c.before.before.before.before.before.is-chained.ensures c.before.before.before.before.if1.false c.before.before.link.ensures
+    enter_new _ _ _ _ _ _ s.requires.1.1.1 s.requires.1.0 c.head_of-b.ensures c.wide-s.ensures c.is_chained.ensures c.if-is_chained.false c.link.ensures
 
 pub enter_spec : {M : Type 1} → statement M
 enter_spec =
     tie.close
     (tie.spec
-    add-i
-    head-of-requires
-    add_wide
-    mul_wide
-    slice-read-wide
-    wide-requires
-    is-chained-requires
-    same_length
-    returns
+    overflow_add-i
+    head_of-b-requires
+    overflow_add-o
+    offset_bounds-area-o
+    bounds-area-o
+    wide-s-requires
+    is_chained-requires
+    shape_of-area-then-is_chained
+    returns-then-is_chained
     link-requires
-    same-length-2
-    returns-2)
+    shape_of-area
+    returns)

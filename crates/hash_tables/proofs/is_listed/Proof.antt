@@ -8,50 +8,50 @@ use borrow.Author.Rules.{rules}
 use Rattle.hash_tables.proofs.is_listed.Statement.{statement}
 use Rattle.hash_tables.proofs.is_listed.Tie as tie
 
-returns : tie.Need-returns
-returns c = sym (is_in-none _ _ _ _ (omega arith))
+returns-then-m-eq0 : tie.Need-returns-then-m-eq0
+returns-then-m-eq0 c = sym (is_in-none _ _ _ _ (omega arith))
 
-head-of-requires : tie.Need-head-of-requires
-head-of-requires c κs = search rules
+head_of-h-requires : tie.Need-head_of-h-requires
+head_of-h-requires c κs = search rules
 
-add_wide : tie.Need-overflow-add-wide
-add_wide c =
+overflow_add-o : tie.Need-overflow_add-o
+overflow_add-o c =
     let s = c.before.before.before.before.before in
-    omega (arith, listed_lt _ _ _ _ _ _ s.requires.1.1.1.1 (omega arith) (omega arith) _ c.head_of.ensures, s.requires.1.1.1.1.room)
+    omega (arith, listed_lt _ _ _ _ _ _ s.requires.1.1.1.1 (omega arith) (omega arith) _ c.head_of-h.ensures, s.requires.1.1.1.1.room)
 
-mul_wide : tie.Need-overflow-mul-wide
-mul_wide c =
+offset_bounds-area-o : tie.Need-offset_bounds-area-o
+offset_bounds-area-o c =
     let s = c.before.before.before.before.before in
-    omega (arith, listed_lt _ _ _ _ _ _ s.requires.1.1.1.1 (omega arith) (omega arith) _ c.head_of.ensures, s.requires.1.1.1.1.room)
+    omega (arith, listed_lt _ _ _ _ _ _ s.requires.1.1.1.1 (omega arith) (omega arith) _ c.head_of-h.ensures, s.requires.1.1.1.1.room)
 
-shared-slice-read-wide : tie.Need-shared-slice-read-wide
-shared-slice-read-wide c =
+bounds-area-o : tie.Need-bounds-area-o
+bounds-area-o c =
     let s = c.before.before.before.before.before.before in
-    omega (arith, listed_lt _ _ _ _ _ _ s.requires.1.1.1.1 (omega arith) (omega arith) _ c.before.head_of.ensures, s.requires.1.1.1.1.room)
+    omega (arith, listed_lt _ _ _ _ _ _ s.requires.1.1.1.1 (omega arith) (omega arith) _ c.head_of-h.ensures, s.requires.1.1.1.1.room)
 
-wide-requires : tie.Need-wide-requires
-wide-requires c κs = search rules
+wide-s-requires : tie.Need-wide-s-requires
+wide-s-requires c κs = search rules
 
-is-chained-requires : tie.Need-is-chained-requires
-is-chained-requires c κs =
+is_chained-requires : tie.Need-is_chained-requires
+is_chained-requires c κs =
     let s = c.before.before.before.before.before.before.before in
     let T = s.requires.1.1.1.1 in
-    (s.requires.0, (s.requires.1.0, (s.requires.1.1.0, (T.room, (T.down, listed_le _ _ _ _ _ _ T (omega arith) (omega arith) _ c.before.before.head_of.ensures c.wide.ensures)))))
+    (s.requires.0, (s.requires.1.0, (s.requires.1.1.0, (T.room, (T.down, listed_le _ _ _ _ _ _ T (omega arith) (omega arith) _ c.head_of-h.ensures c.wide-s.ensures)))))
 
-returns-2 : tie.Need-returns-2
-returns-2 c =
+returns : tie.Need-returns
+returns c =
     let s = c.before.before.before.before.before.before.before.before in
-    listed _ _ _ _ _ _ s.requires.1.1.1.1 (omega arith) (omega arith) _ c.before.before.before.head_of.ensures c.before.wide.ensures c.is-chained.ensures
+    listed _ _ _ _ _ _ s.requires.1.1.1.1 (omega arith) (omega arith) _ c.head_of-h.ensures c.wide-s.ensures c.is_chained.ensures
 
 pub is_listed_spec : {M : Type 1} → statement M
 is_listed_spec =
     tie.close
     (tie.spec
-    returns
-    head-of-requires
-    add_wide
-    mul_wide
-    shared-slice-read-wide
-    wide-requires
-    is-chained-requires
-    returns-2)
+    returns-then-m-eq0
+    head_of-h-requires
+    overflow_add-o
+    offset_bounds-area-o
+    bounds-area-o
+    wide-s-requires
+    is_chained-requires
+    returns)

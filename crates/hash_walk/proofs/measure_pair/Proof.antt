@@ -9,46 +9,46 @@ use Rattle.hash_walk.proofs.WalkingLaws.{need_valid}
 use Rattle.hash_walk.proofs.measure_pair.Statement.{statement}
 use Rattle.hash_walk.proofs.measure_pair.Tie as tie
 
-are-valid-requires : tie.Need-are-valid-requires
-are-valid-requires c κs = search
+are_valid-requires : tie.Need-are_valid-requires
+are_valid-requires c κs = search
 
-returns : tie.Need-returns
-returns c =
+returns-then-not-are_valid : tie.Need-returns-then-not-are_valid
+returns-then-not-are_valid c =
     let s = c.before.before.before.before.before.before.before in
     let a = s.args in
-    (rw (elems_pair (hash_elems a.op) (from a.l-rstart a.lrows.now) (from a.r-rstart a.rrows.now) (elem_at a.lvalues.now (from a.l-estart a.lelements.now)) (elem_at a.rvalues.now (from a.r-estart a.relements.now)) a.r a.a a.b a.c a.d c.before.are-valid.result c.before.are-valid.ensures, not-true c.before.are-valid.result c.if1.true), s.requires.1.1.1.1.1)
+    (rw (elems_pair (hash_elems a.op) (from a.l_rstart a.lrows.now) (from a.r_rstart a.rrows.now) (elem_at a.lvalues.now (from a.l_estart a.lelements.now)) (elem_at a.rvalues.now (from a.r_estart a.relements.now)) a.r a.a a.b a.c a.d c.are_valid.result c.are_valid.ensures, not-true c.are_valid.result c.if-not-are_valid.true), s.requires.1.1.1.1.1)
 
-sub-measure-row : tie.Need-overflow-sub-measure-row
-sub-measure-row c = search
+overflow_sub-b : tie.Need-overflow_sub-b
+overflow_sub-b c = search
 
-sub-measure-row-2 : tie.Need-overflow-sub-measure-row-2
-sub-measure-row-2 c = search
+overflow_sub-d : tie.Need-overflow_sub-d
+overflow_sub-d c = search
 
-measure-row-requires : tie.Need-measure-row-requires
-measure-row-requires c κs =
+measure_row-requires : tie.Need-measure_row-requires
+measure_row-requires c κs =
     let s = c.before.before.before.before.before.before.before.before in
     let a = s.args in
     let v = c.before.before in
-    (record { inside = omega (arith, s.requires.0.rises, s.requires.0.inside); bits = s.requires.0.elements }, (record { inside = omega (arith, s.requires.1.0.rises, s.requires.1.0.inside); bits = s.requires.1.0.elements }, (omega (arith, s.requires.1.1.0), (omega (arith, s.requires.1.1.1.0), (need_valid a.op (from a.l-rstart a.lrows.now) (from a.r-rstart a.rrows.now) a.r a.a a.b a.c a.d v.are-valid.result _ v.are-valid.ensures (not-false v.are-valid.result c.before.if1.false) s.requires.1.1.1.1.0, s.requires.1.1.1.1.1)))))
+    (record { inside = omega (arith, s.requires.0.rises, s.requires.0.inside); bits = s.requires.0.elements }, (record { inside = omega (arith, s.requires.1.0.rises, s.requires.1.0.inside); bits = s.requires.1.0.elements }, (omega (arith, s.requires.1.1.0), (omega (arith, s.requires.1.1.1.0), (need_valid a.op (from a.l_rstart a.lrows.now) (from a.r_rstart a.rrows.now) a.r a.a a.b a.c a.d v.are_valid.result _ v.are_valid.ensures (not-false v.are_valid.result c.if-not-are_valid.false) s.requires.1.1.1.1.0, s.requires.1.1.1.1.1)))))
 
-same_length : tie.Need-same-length
-same_length c = search
+shape_of-area : tie.Need-shape_of-area
+shape_of-area c = search
 
-returns-2 : tie.Need-returns-2
-returns-2 c =
-    let a = c.before.before.before.before.before.before.before.before.before.before.before.args in
+returns : tie.Need-returns
+returns c =
+    let a = c.args in
     let v = c.before.before.before.before.before in
-    let m = c.before.before.measure-row.ensures in
-    (rw (elems_pair (hash_elems a.op) (from a.l-rstart a.lrows.now) (from a.r-rstart a.rrows.now) (elem_at a.lvalues.now (from a.l-estart a.lelements.now)) (elem_at a.rvalues.now (from a.r-estart a.relements.now)) a.r a.a a.b a.c a.d v.are-valid.result v.are-valid.ensures, not-false v.are-valid.result c.before.before.before.before.if1.false) m.0, m.1)
+    let m = c.measure_row.ensures in
+    (rw (elems_pair (hash_elems a.op) (from a.l_rstart a.lrows.now) (from a.r_rstart a.rrows.now) (elem_at a.lvalues.now (from a.l_estart a.lelements.now)) (elem_at a.rvalues.now (from a.r_estart a.relements.now)) a.r a.a a.b a.c a.d v.are_valid.result v.are_valid.ensures, not-false v.are_valid.result c.if-not-are_valid.false) m.0, m.1)
 
 pub measure_pair_spec : {M : Type 1} → statement M
 measure_pair_spec =
     tie.close
     (tie.spec
-    are-valid-requires
-    returns
-    sub-measure-row
-    sub-measure-row-2
-    measure-row-requires
-    same_length
-    returns-2)
+    are_valid-requires
+    returns-then-not-are_valid
+    overflow_sub-b
+    overflow_sub-d
+    measure_row-requires
+    shape_of-area
+    returns)

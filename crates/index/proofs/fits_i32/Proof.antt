@@ -10,11 +10,15 @@ use Rattle.index.proofs.fits_i32.Tie as tie
 read_x : (s : tie.Start) → to_z w64 (of_z w64 s.args.x) ≡ s.args.x
 read_x s = read_back w64 s.args.x s.ranges.x
 
-returns : tie.Need-returns
-returns c = fits_low narrow refl _ (rw (read_x c.before) at c.if1.true)
+returns-then-x-ltminus2147483648 : tie.Need-returns-then-x-ltminus2147483648
+returns-then-x-ltminus2147483648 c = fits_low narrow refl _ (rw (read_x c.before) at c.if-x-ltminus2147483648.true)
 
-returns-2 : tie.Need-returns-2
-returns-2 c = rw (read_x c.before) (fits_high narrow refl _ (rw (read_x c.before) at c.if1.false))
+returns : tie.Need-returns
+returns c = rw (read_x c.before) (fits_high narrow refl _ (rw (read_x c.before) at c.if-x-ltminus2147483648.false))
 
 pub fits_i32_spec : {M : Type 1} → statement M
-fits_i32_spec = tie.close (tie.spec returns returns-2)
+fits_i32_spec =
+    tie.close
+    (tie.spec
+    returns-then-x-ltminus2147483648
+    returns)

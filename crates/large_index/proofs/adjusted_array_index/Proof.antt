@@ -18,48 +18,55 @@ read_len : (s : tie.Start) → to_z w64 s.args.len ≡ pos s.args.len
 read_len s = to_z_pos w64 (omega (arith, s.requires))
 
 -- the place that was found
-module _ (c : tie.After-index-place) where
+module _ (c : tie.After-index_place-at) where
   abbrev start : tie.Start
   start = c.before
 
-  at_small : SFits w64 c.index-place.result
-  at_small = record { sfits = c.index-place.type-inv }
+  at_small : SFits w64 c.index_place-at.result
+  at_small = record { sfits = c.index_place-at.type_inv }
 
-  read_at : to_z w64 (of_z w64 c.index-place.result) ≡ c.index-place.result
+  read_at : to_z w64 (of_z w64 c.index_place-at.result) ≡ c.index_place-at.result
   read_at = read_back w64 _ at_small
 
-  at_is : place_in start.args.len c.index-place.result ≡ index_place start.args.len start.args.index
+  at_is : place_in start.args.len c.index_place-at.result ≡ index_place start.args.len start.args.index
   unfolding count
-  at_is = rw (read_back w64 start.args.index start.fits.index, read_len start) at c.index-place.ensures
+  at_is = rw (read_back w64 start.args.index start.ranges.index, read_len start) at c.index_place-at.ensures
 
-cast-n : tie.Need-overflow-cast-n
-cast-n c = search rules
+overflow_cast-n : tie.Need-overflow_cast-n
+overflow_cast-n c = search rules
 
-index-place-requires : tie.Need-index-place-requires
-index-place-requires c κs = rw (read_len c) tt
+index_place-at-requires : tie.Need-index_place-at-requires
+index_place-at-requires c κs = rw (read_len c) tt
+
+returns-then-at-lt0 : tie.Need-returns-then-at-lt0
+unfolding fits
+returns-then-at-lt0 c = let a = c.before in answer_before wide _ _ _ refl (at_is a) (rw (read_at a) at c.if-at-lt0.true)
+
+overflow_cast-result : tie.Need-overflow_cast-result
+overflow_cast-result c =
+    let a = c.before.before in
+    rw (read_at a) (casts w64 a.index_place-at.result tt (at_small a) (not_below a.index_place-at.result 0 (rw (read_at a) at c.if-at-lt0.false)))
+
+returns-then-at-n : tie.Need-returns-then-at-n
+unfolding fits
+returns-then-at-n c =
+    let a = c.before.before in
+    rw (read_at a)
+    (answer-inside wide _ _ _ refl (at_is a) (not_below a.index_place-at.result 0 (rw (read_at a) at c.if-at-lt0.false)) (rw (read_at a, read_len (start a)) at c.if-at-n.true))
 
 returns : tie.Need-returns
 unfolding fits
-returns c = let a = c.before in answer_before wide _ _ _ refl (at_is a) (rw (read_at a) at c.if1.true)
-
-cast-result : tie.Need-overflow-cast-result
-cast-result c =
+returns c =
     let a = c.before.before in
-    rw (read_at a) (casts w64 a.index-place.result tt (at_small a) (not_below a.index-place.result 0 (rw (read_at a) at c.before.if1.false)))
-
-returns-2 : tie.Need-returns-2
-unfolding fits
-returns-2 c =
-    let a = c.before.before in
-    rw (read_at a)
-    (answer-inside wide _ _ _ refl (at_is a) (not_below a.index-place.result 0 (rw (read_at a) at c.before.if1.false)) (rw (read_at a, read_len (start a)) at c.if2.true))
-
-returns-3 : tie.Need-returns-3
-unfolding fits
-returns-3 c =
-    let a = c.before.before in
-    answer_past wide _ _ _ refl (at_is a) (rw (read_at a, read_len (start a)) at c.if2.false)
+    answer_past wide _ _ _ refl (at_is a) (rw (read_at a, read_len (start a)) at c.if-at-n.false)
 
 pub adjusted_array_index_spec : {M : Type 1} → statement M
 adjusted_array_index_spec =
-    tie.close (tie.spec cast-n index-place-requires returns cast-result returns-2 returns-3)
+    tie.close
+    (tie.spec
+    overflow_cast-n
+    index_place-at-requires
+    returns-then-at-lt0
+    overflow_cast-result
+    returns-then-at-n
+    returns)

@@ -3,17 +3,23 @@ use Rattle.index.proofs.ReadLaws as laws
 use Rattle.large_index.proofs.index_place.Statement.{statement}
 use Rattle.large_index.proofs.index_place.Tie as tie
 
-add-result : tie.Need-overflow-add-result
-add-result c = let s = c.before in laws.end_fits w64 _ _ s.ranges.index s.ranges.len s.requires c.if1.true
+overflow_add-result : tie.Need-overflow_add-result
+overflow_add-result c = let s = c.before in laws.end_fits w64 _ _ s.ranges.index s.ranges.len s.requires c.if-index-lt0.true
+
+returns-then-index-lt0 : tie.Need-returns-then-index-lt0
+returns-then-index-lt0 c = let s = c.before in laws.index_back w64 _ _ s.ranges.index s.ranges.len s.requires c.if-index-lt0.true
+
+overflow_sub-result : tie.Need-overflow_sub-result
+overflow_sub-result c = let s = c.before in laws.natural-fits w64 _ _ s.ranges.index s.ranges.len c.if-index-lt0.false
 
 returns : tie.Need-returns
-returns c = let s = c.before in laws.index_back w64 _ _ s.ranges.index s.ranges.len s.requires c.if1.true
-
-sub-result : tie.Need-overflow-sub-result
-sub-result c = let s = c.before in laws.natural-fits w64 _ _ s.ranges.index s.ranges.len c.if1.false
-
-returns-2 : tie.Need-returns-2
-returns-2 c = let s = c.before in laws.index_on w64 _ _ s.ranges.index s.ranges.len c.if1.false
+returns c = let s = c.before in laws.index_on w64 _ _ s.ranges.index s.ranges.len c.if-index-lt0.false
 
 pub index_place_spec : {M : Type 1} → statement M
-index_place_spec = tie.close (tie.spec add-result returns sub-result returns-2)
+index_place_spec =
+    tie.close
+    (tie.spec
+    overflow_add-result
+    returns-then-index-lt0
+    overflow_sub-result
+    returns)

@@ -38,10 +38,10 @@ Z s = arguments s.args.zs.now (from s.args.zstart s.args.zbits.now)
 
 -- the offsets that are written, as the call began
 abbrev O : tie.Start → List ℤ
-O s = used s.args.width s.args.out-offsets.now s.args.out-large.now
+O s = used s.args.width s.args.out_offsets.now s.args.out_large.now
 
 abbrev L : tie.Start → Room
-L s = let a = s.args in room (length (O s)) (length a.out-rows.now) (length a.out-values.now) (length a.out-elements.now)
+L s = let a = s.args in room (length (O s)) (length a.out_rows.now) (length a.out_values.now) (length a.out_elements.now)
 
 abbrev W : tie.Start → List Row
 W s = call_rows (N s) s.args.op (C s) (X s) (Y s) (Z s)
@@ -51,76 +51,76 @@ R s = rows_refusal (N s) (call_of s.args.op (rows_of (C s)) (shown_by (X s)) (sh
 
 -- ---- places: the start; the total, from what is written by it and after it
 
-abbrev S : tie.After-total → tie.Start
+abbrev S : tie.After-total-total → tie.Start
 S t = t.before.before.before.before.before.before.before.before
 
-abbrev sum : tie.After-write-fitting-arg5 → tie.After-total3
-sum p = p.before.before.before.before.before.before
+abbrev sum : tie.After-write_fitting-arg-in-Sum-4-1 → tie.In-Sum-2
+sum p = p.before.before.before.before.before
 
-abbrev written : tie.After-out-large → tie.After-write-fitting
+abbrev written : tie.After-out_large-1 → tie.After-write_fitting
 written p = p.before.before.before.before.before.before.before
 
 -- what was measured
-total_is : (t : tie.After-total) → t.total.result ≡ measure_of (gate (R (S t)) (made (length (flat (W (S t))))))
-total_is t = let s = S t in t.total.ensures.0 ∙ measured (N s) s.args.op (C s) (X s) (Y s) (Z s) s.pre.1
+total_is : (t : tie.After-total-total) → t.total-total.result ≡ measure_of (gate (R (S t)) (made (length (flat (W (S t))))))
+total_is t = let s = S t in t.total-total.ensures.0 ∙ measured (N s) s.args.op (C s) (X s) (Y s) (Z s) s.requires.1
 
-total-requires : tie.Need-total-requires
-total-requires c κs = search
+total-total-requires : tie.Need-total-total-requires
+total-total-requires c κs = search
 
-enum-known-total : tie.Need-enum-known-total
-enum-known-total c = search
+enum_known-total : tie.Need-enum_known-total
+enum_known-total c = search
 
-enum-known-total-2 : tie.Need-enum-known-total-2
-enum-known-total-2 c = search
+enum_known-total-in-Sum-1 : tie.Need-enum_known-total-in-Sum-1
+enum_known-total-in-Sum-1 c = search
 
-write-fitting-requires : tie.Need-write-fitting-requires
+write_fitting-requires : tie.Need-write_fitting-requires
 unfolding let_through
-write-fitting-requires c κs =
+write_fitting-requires c κs =
     let t = (sum c).before.before in
     let s = S t in
     let m = measure_sum (R s) (length (flat (W s))) _ (fitted (W s) (L s)) (sym (total_is t) ∙ (sum c).total3.given.1) in
-    (s.pre.0, (s.pre.1, (m.1, subst (λ x. let_through x ≤ (N s).offset) (sum c).total3.given.1 t.total.ensures.1)))
+    (s.requires.0, (s.requires.1, (m.1, subst (λ x. let_through x ≤ (N s).offset) (sum c).total3.given.1 t.total-total.ensures.1)))
 
-returns : tie.Need-returns
-returns c =
-    let t = c.before.before.before in
+returns-in-Refused : tie.Need-returns-in-Refused
+returns-in-Refused c =
+    let t = c.before in
     let s = S t in
-    list-refused _ (laws.after_three_lem (N s) s.args.op (C s) (X s) (Y s) (Z s) (L s) s.pre.1 ∙ measure_refused (R s) (length (flat (W s))) _ (fitted (W s) (L s)) (sym (total_is t) ∙ c.before.total2.given.1))
+    list-refused _ (laws.after_three_lem (N s) s.args.op (C s) (X s) (Y s) (Z s) (L s) s.requires.1 ∙ measure_refused (R s) (length (flat (W s))) _ (fitted (W s) (L s)) (sym (total_is t) ∙ c.in-Refused.is))
 
-same_length : tie.Need-same-length
-same_length c = search
+shape_of-out_offsets : tie.Need-shape_of-out_offsets
+shape_of-out_offsets c = search
 
-same-length-2 : tie.Need-same-length-2
-same-length-2 c = search
+shape_of-out_rows : tie.Need-shape_of-out_rows
+shape_of-out_rows c = search
 
-same-length-3 : tie.Need-same-length-3
-same-length-3 c = search
+shape_of-out_values : tie.Need-shape_of-out_values
+shape_of-out_values c = search
 
-same-length-4 : tie.Need-same-length-4
-same-length-4 c = search
+shape_of-out_elements : tie.Need-shape_of-out_elements
+shape_of-out_elements c = search
 
-same-length-5 : tie.Need-same-length-5
-same-length-5 c = search
+shape_of-out_large : tie.Need-shape_of-out_large
+shape_of-out_large c = search
 
-returns-2 : tie.Need-returns-2
-returns-2 c =
+returns-in-Sum : tie.Need-returns-in-Sum
+returns-in-Sum c =
     let t = (sum (written c).before).before.before in
     let s = S t in
     let m = measure_sum (R s) (length (flat (W s))) _ (fitted (W s) (L s)) (sym (total_is t) ∙ (sum (written c).before).total3.given.1) in
-    rw (laws.after_three_lem (N s) s.args.op (C s) (X s) (Y s) (Z s) (L s) s.pre.1, m.0) (written c).write-fitting.ensures
+    rw (laws.after_three_lem (N s) s.args.op (C s) (X s) (Y s) (Z s) (L s) s.requires.1, m.0) (written c).write-fitting.ensures
 
 pub after_three_spec : {M : Type 1} → statement M
 after_three_spec =
     tie.close
     (tie.spec
-    total-requires
-    enum-known-total
-    enum-known-total-2
-    write-fitting-requires
-    returns
-    same_length
-    same-length-2
-    same-length-3
-    same-length-4
-    same-length-5
-    returns-2)
+    total-total-requires
+    enum_known-total
+    enum_known-total-in-Sum-1
+    write_fitting-requires
+    returns-in-Refused
+    shape_of-out_offsets
+    shape_of-out_rows
+    shape_of-out_values
+    shape_of-out_elements
+    shape_of-out_large
+    returns-in-Sum)

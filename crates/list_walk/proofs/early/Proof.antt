@@ -28,50 +28,50 @@ Z s = arguments s.args.zs.now (from s.args.zstart s.args.zbits.now)
 
 -- ---- places: the starting bits tested, the list tested; and the start
 
-abbrev S : tie.After-is-start-over → tie.Start
+abbrev S : tie.After-is_start_over → tie.Start
 S t = t.before.before.before.before.before.before
 
-abbrev started : tie.After-list-refusal → tie.After-is-start-over
+abbrev started : tie.After-list_refusal-k → tie.After-is_start_over
 started f = f.before.before
 
 -- no starting bit of a column that is taken is over 7
-not_over : (f : tie.After-list-refusal) → let a = (S (started f)).args in start_over a.op a.xstart a.ystart a.zstart ≡ false
-not_over f = sym (started f).is-start-over.ensures ∙ f.before.if1.false
+not_over : (f : tie.After-list_refusal-k) → let a = (S (started f)).args in start_over a.op a.xstart a.ystart a.zstart ≡ false
+not_over f = sym (started f).is-start-over.ensures ∙ f.if-is_start_over.false
 
 -- 13, 1 and 2 of the list do not apply
-formed : (e : tie.Else2) → columns_refusal (C (S (started e.before)) ∷ []) [] ≡ 0
-formed e = sym e.before.list-refusal.ensures ∙ e.if2.false
+formed : (e : tie.Else-k-ne0) → columns_refusal (C (S (started e.before)) ∷ []) [] ≡ 0
+formed e = sym e.list_refusal-k.ensures ∙ e.if-k-ne0.false
 
 -- 2 and 3 of the arguments
-arguments_are : (a : tie.After-arguments-refusal) → let s = S (started a.before.before.before) in a.arguments-refusal.result ≡ arguments_refusal s.args.op (row_count (C s).offsets) (X s) (Y s) (Z s)
-arguments_are a = rw (← a.before.row_count.ensures) a.arguments-refusal.ensures
+arguments_are : (a : tie.After-arguments_refusal) → let s = S (started a.before.before.before) in a.arguments_refusal.result ≡ arguments_refusal s.args.op (row_count (C s).offsets) (X s) (Y s) (Z s)
+arguments_are a = rw (← a.row_count.ensures) a.arguments_refusal.ensures
 
 -- ---- needs
 
-is-start-over-requires : tie.Need-is-start-over-requires
-is-start-over-requires c κs = search
+is_start_over-requires : tie.Need-is_start_over-requires
+is_start_over-requires c κs = search
+
+returns-then-is_start_over : tie.Need-returns-then-is_start_over
+returns-then-is_start_over c =
+    let s = S c.before in
+    (call_starts s.args.op (C s) (X s) (Y s) (Z s) (sym c.is_start_over.ensures ∙ c.if-is_start_over.true), λ h. let n : ⊥ = omega (arith, h) in absurd n)
+
+list_refusal-k-requires : tie.Need-list_refusal-k-requires
+list_refusal-k-requires c κs = search
+
+returns-then-k-ne0 : tie.Need-returns-then-k-ne0
+returns-then-k-ne0 c =
+    let s = S (started c.before) in
+    (call_early s.args.op (C s) (X s) (Y s) (Z s) (not_over c.before) _ c.list_refusal-k.ensures c.if-k-ne0.true, λ h. absurd (c.if-k-ne0.true h))
+
+row_count-requires : tie.Need-row_count-requires
+row_count-requires c κs = search
+
+arguments_refusal-requires : tie.Need-arguments_refusal-requires
+arguments_refusal-requires c κs = not_over c.before.before
 
 returns : tie.Need-returns
 returns c =
-    let s = S c.before in
-    (call_starts s.args.op (C s) (X s) (Y s) (Z s) (sym c.before.is-start-over.ensures ∙ c.if1.true), λ h. let n : ⊥ = omega (arith, h) in absurd n)
-
-list-refusal-requires : tie.Need-list-refusal-requires
-list-refusal-requires c κs = search
-
-returns-2 : tie.Need-returns-2
-returns-2 c =
-    let s = S (started c.before) in
-    (call_early s.args.op (C s) (X s) (Y s) (Z s) (not_over c.before) _ c.before.list-refusal.ensures c.if2.true, λ h. absurd (c.if2.true h))
-
-row-count-requires : tie.Need-row-count-requires
-row-count-requires c κs = search
-
-arguments-refusal-requires : tie.Need-arguments-refusal-requires
-arguments-refusal-requires c κs = not_over c.before.before
-
-returns-3 : tie.Need-returns-3
-returns-3 c =
     let f = c.before.before.before in
     let s = S (started f) in (
       call-arguments s.args.op (C s) (X s) (Y s) (Z s) (not_over f) (formed c.before.before) _ (arguments_are c),
@@ -85,10 +85,10 @@ pub early_spec : {M : Type 1} → statement M
 early_spec =
     tie.close
     (tie.spec
-    is-start-over-requires
-    returns
-    list-refusal-requires
-    returns-2
-    row-count-requires
-    arguments-refusal-requires
-    returns-3)
+    is_start_over-requires
+    returns-then-is_start_over
+    list_refusal-k-requires
+    returns-then-k-ne0
+    row_count-requires
+    arguments_refusal-requires
+    returns)

@@ -49,76 +49,76 @@ M s = room_for (row_count (C s).offsets) (length (flat (W s)))
 
 -- ---- places: the early refusals; and the start
 
-abbrev early-of : tie.After-total → tie.After-early
+abbrev early-of : tie.After-total-total → tie.After-early-k
 early-of t = t.before.before
 
-abbrev S : tie.After-early → tie.Start
+abbrev S : tie.After-early-k → tie.Start
 S e = e.before.before.before.before.before.before
 
 -- the early refusals have passed
-begun : (t : tie.After-total) → let s = S (early-of t) in Begun s.args.op (C s) (X s) (Y s) (Z s)
-begun t = (early-of t).early.ensures.1 t.before.if1.false
+begun : (t : tie.After-total-total) → let s = S (early-of t) in Begun s.args.op (C s) (X s) (Y s) (Z s)
+begun t = (early-of t).early.ensures.1 t.if-k-ne0.false
 
 -- what was measured
-total_is : (t : tie.After-total) → let s = S (early-of t) in t.total.result ≡ measure_of (gate (R s) (made (length (flat (W s)))))
-total_is t = let s = S (early-of t) in t.total.ensures.0 ∙ measured (N s) s.args.op (C s) (X s) (Y s) (Z s) (begun t).arguments
+total_is : (t : tie.After-total-total) → let s = S (early-of t) in t.total-total.result ≡ measure_of (gate (R s) (made (length (flat (W s)))))
+total_is t = let s = S (early-of t) in t.total-total.ensures.0 ∙ measured (N s) s.args.op (C s) (X s) (Y s) (Z s) (begun t).arguments
 
 -- ---- needs
 
-early-requires : tie.Need-early-requires
-early-requires c κs = tt
+early-k-requires : tie.Need-early-k-requires
+early-k-requires c κs = tt
 
-returns : tie.Need-returns
+returns-then-k-ne0 : tie.Need-returns-then-k-ne0
 unfolding asked_list
-returns c = let s = S c.before in lengths_early (N s) s.args.op (C s) (X s) (Y s) (Z s) _ c.before.early.ensures.0 c.if1.true
+returns-then-k-ne0 c = let s = S c.before in lengths_early (N s) s.args.op (C s) (X s) (Y s) (Z s) _ c.early-k.ensures.0 c.if-k-ne0.true
 
-total-requires : tie.Need-total-requires
-total-requires c κs = let b = c.before.early.ensures.1 c.if1.false in (b.column, b.arguments)
+total-total-requires : tie.Need-total-total-requires
+total-total-requires c κs = let b = c.early-k.ensures.1 c.if-k-ne0.false in (b.column, b.arguments)
 
-enum-known-total : tie.Need-enum-known-total
-enum-known-total c = search rules
+enum_known-total : tie.Need-enum_known-total
+enum_known-total c = search rules
 
-enum-known-total-2 : tie.Need-enum-known-total-2
-enum-known-total-2 c = search rules
+enum_known-total-in-Sum-1 : tie.Need-enum_known-total-in-Sum-1
+enum_known-total-in-Sum-1 c = search rules
 
-row-count-requires : tie.Need-row-count-requires
-row-count-requires c κs = search rules
+row_count-requires : tie.Need-row_count-requires
+row_count-requires c κs = search rules
 
-lengths-for-requires : tie.Need-lengths-for-requires
-lengths-for-requires c κs =
-    let s = S (early-of c.before.before.before.before) in
+lengths_for-requires : tie.Need-lengths_for-requires
+lengths_for-requires c κs =
+    let s = S (early-of c.before.before) in
     let a = s.args in
     omega (arith, c.row_count.ensures, used-below 18446744073709551616 a.width a.offsets.now a.large.now (omega (arith, s.good.1.0)) (omega (arith, s.good.1.1.1.1.1.1.1.1.1.1.1)))
 
-returns-2 : tie.Need-returns-2
+returns-in-Refused : tie.Need-returns-in-Refused
 unfolding asked_list
-returns-2 c =
-    let t = c.before.before.before in
+returns-in-Refused c =
+    let t = c.before in
     let s = S (early-of t) in
     sym
-    (lengths_go (N s) s.args.op (C s) (X s) (Y s) (Z s) _ (early-of t).early.ensures.0 t.before.if1.false (begun t).arguments
-    ∙ measure_refused (R s) (length (flat (W s))) _ (made (M s)) (sym (total_is t) ∙ c.before.total2.given.1))
+    (lengths_go (N s) s.args.op (C s) (X s) (Y s) (Z s) _ (early-of t).early.ensures.0 t.if-k-ne0.false (begun t).arguments
+    ∙ measure_refused (R s) (length (flat (W s))) _ (made (M s)) (sym (total_is t) ∙ c.in-Refused.is))
 
-returns-3 : tie.Need-returns-3
-returns-3 c =
-    let t = c.before.before.before.before.before in
+returns-in-Sum : tie.Need-returns-in-Sum
+returns-in-Sum c =
+    let t = c.before.before.before in
     let s = S (early-of t) in
-    let m = measure_sum (R s) (length (flat (W s))) _ (made (M s)) (sym (total_is t) ∙ c.before.before.before.total3.given.1) in
-    c.lengths-for.ensures
-    ∙ ap (λ (n : ℕ). made (room_for n c.before.before.before.total3.given.0.0)) c.before.row_count.ensures
+    let m = measure_sum (R s) (length (flat (W s))) _ (made (M s)) (sym (total_is t) ∙ c.in-Sum.is) in
+    c.lengths_for.ensures
+    ∙ ap (λ (n : ℕ). made (room_for n c.in-Sum.m)) c.row_count.ensures
     ∙ ap (λ (n : ℕ). made (room_for (row_count (C s).offsets) n)) m.1
-    ∙ sym (lengths_go (N s) s.args.op (C s) (X s) (Y s) (Z s) _ (early-of t).early.ensures.0 t.before.if1.false (begun t).arguments ∙ m.0)
+    ∙ sym (lengths_go (N s) s.args.op (C s) (X s) (Y s) (Z s) _ (early-of t).early.ensures.0 t.if-k-ne0.false (begun t).arguments ∙ m.0)
 
-pub lengths-at_spec : {M : Type 1} → statement M
-lengths-at_spec =
+pub lengths_at_spec : {M : Type 1} → statement M
+lengths_at_spec =
     tie.close
     (tie.spec
-    early-requires
-    returns
-    total-requires
-    enum-known-total
-    enum-known-total-2
-    row-count-requires
-    lengths-for-requires
-    returns-2
-    returns-3)
+    early-k-requires
+    returns-then-k-ne0
+    total-total-requires
+    enum_known-total
+    enum_known-total-in-Sum-1
+    row_count-requires
+    lengths_for-requires
+    returns-in-Refused
+    returns-in-Sum)

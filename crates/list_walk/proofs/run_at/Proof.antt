@@ -31,67 +31,67 @@ Z s = arguments s.args.zs.now (from s.args.zstart s.args.zbits.now)
 
 -- the offsets that are written, as the call began
 abbrev O : tie.Start → List ℤ
-O s = used s.args.width s.args.out-offsets.now s.args.out-large.now
+O s = used s.args.width s.args.out_offsets.now s.args.out_large.now
 
 abbrev L : tie.Start → Room
-L s = let a = s.args in room (length (O s)) (length a.out-rows.now) (length a.out-values.now) (length a.out-elements.now)
+L s = let a = s.args in room (length (O s)) (length a.out_rows.now) (length a.out_values.now) (length a.out_elements.now)
 
 -- ---- places: what is written, the early refusals passed and found; and the start
 
-abbrev wrote : tie.After-out-large → tie.After-after-three
+abbrev wrote : tie.After-out_large-1 → tie.After-after_three
 wrote c = c.before.before.before.before.before.before.before
 
-abbrev passed : tie.After-out-large → tie.Else1
+abbrev passed : tie.After-out_large-1 → tie.Else-k-ne0
 passed c = (wrote c).before.before.before.before.before.before
 
-abbrev S : tie.After-early → tie.Start
+abbrev S : tie.After-early-k → tie.Start
 S e = e.before.before.before.before.before.before.before.before
 
 -- ---- needs
 
-early-requires : tie.Need-early-requires
-early-requires c κs = tt
+early-k-requires : tie.Need-early-k-requires
+early-k-requires c κs = tt
 
-returns : tie.Need-returns
-returns c = let s = S c.before in list-refused _ (run_early (N s) s.args.op (C s) (X s) (Y s) (Z s) _ c.before.early.ensures.0 (L s) c.if1.true)
+returns-then-k-ne0 : tie.Need-returns-then-k-ne0
+returns-then-k-ne0 c = let s = S c.before in list-refused _ (run_early (N s) s.args.op (C s) (X s) (Y s) (Z s) _ c.early-k.ensures.0 (L s) c.if-k-ne0.true)
 
-after-three-requires : tie.Need-after-three-requires
-after-three-requires c κs =
+after_three-requires : tie.Need-after_three-requires
+after_three-requires c κs =
     let e = c.before.before.before.before.before in
-    let b = e.before.early.ensures.1 e.if1.false in
+    let b = e.early-k.ensures.1 e.if-k-ne0.false in
     (b.column, b.arguments)
 
-same_length : tie.Need-same-length
-same_length c = (wrote c).after-three.auto.1.1.1.1.1.1.1.1.1.1.1.1.1.1.1.1.0
+shape_of-out_offsets : tie.Need-shape_of-out_offsets
+shape_of-out_offsets c = (wrote c).after-three.auto.1.1.1.1.1.1.1.1.1.1.1.1.1.1.1.1.0
 
-same-length-2 : tie.Need-same-length-2
-same-length-2 c = (wrote c).after-three.auto.1.1.1.1.1.1.1.1.1.1.1.1.1.1.1.1.1.0
+shape_of-out_rows : tie.Need-shape_of-out_rows
+shape_of-out_rows c = (wrote c).after-three.auto.1.1.1.1.1.1.1.1.1.1.1.1.1.1.1.1.1.0
 
-same-length-3 : tie.Need-same-length-3
-same-length-3 c = (wrote c).after-three.auto.1.1.1.1.1.1.1.1.1.1.1.1.1.1.1.1.1.1.0
+shape_of-out_values : tie.Need-shape_of-out_values
+shape_of-out_values c = (wrote c).after-three.auto.1.1.1.1.1.1.1.1.1.1.1.1.1.1.1.1.1.1.0
 
-same-length-4 : tie.Need-same-length-4
-same-length-4 c = (wrote c).after-three.auto.1.1.1.1.1.1.1.1.1.1.1.1.1.1.1.1.1.1.1.0
+shape_of-out_elements : tie.Need-shape_of-out_elements
+shape_of-out_elements c = (wrote c).after-three.auto.1.1.1.1.1.1.1.1.1.1.1.1.1.1.1.1.1.1.1.0
 
-same-length-5 : tie.Need-same-length-5
-same-length-5 c = (wrote c).after-three.auto.1.1.1.1.1.1.1.1.1.1.1.1.1.1.1.1.1.1.1.1.1.1.0
+shape_of-out_large : tie.Need-shape_of-out_large
+shape_of-out_large c = (wrote c).after-three.auto.1.1.1.1.1.1.1.1.1.1.1.1.1.1.1.1.1.1.1.1.1.1.0
 
-returns-2 : tie.Need-returns-2
-returns-2 c =
+returns : tie.Need-returns
+returns c =
     let e = passed c in
     let s = S e.before in
-    rw (run_goes (N s) s.args.op (C s) (X s) (Y s) (Z s) _ e.before.early.ensures.0 (L s) e.if1.left) (wrote c).after-three.ensures
+    rw (run_goes (N s) s.args.op (C s) (X s) (Y s) (Z s) _ e.early-k.ensures.0 (L s) e.if-k-ne0.false) (wrote c).after-three.ensures
 
 pub run_at_spec : {M : Type 1} → statement M
 run_at_spec =
     tie.close
     (tie.spec
-    early-requires
-    returns
-    after-three-requires
-    same_length
-    same-length-2
-    same-length-3
-    same-length-4
-    same-length-5
-    returns-2)
+    early-k-requires
+    returns-then-k-ne0
+    after_three-requires
+    shape_of-out_offsets
+    shape_of-out_rows
+    shape_of-out_values
+    shape_of-out_elements
+    shape_of-out_large
+    returns)

@@ -35,114 +35,114 @@ Z s = arguments s.args.zs.now (from s.args.zstart s.args.zbits.now)
 
 -- the offsets that are written, as the call began
 abbrev O : tie.Start → List ℤ
-O s = used s.args.width s.args.out-offsets.now s.args.out-large.now
+O s = used s.args.width s.args.out_offsets.now s.args.out_large.now
 
 abbrev L : tie.Start → Room
-L s = let a = s.args in room (length (O s)) (length a.out-rows.now) (length a.out-values.now) (length a.out-elements.now)
+L s = let a = s.args in room (length (O s)) (length a.out_rows.now) (length a.out_values.now) (length a.out_elements.now)
 
 abbrev W : tie.Start → List Row
 W s = call_rows (N s) s.args.op (C s) (X s) (Y s) (Z s)
 
 -- the places that are used below
-abbrev has-room-of-write-rows-arg5 : tie.After-write-rows-arg5 → tie.After-has-room
+abbrev has-room-of-write-rows-arg5 : tie.After-write_rows-arg-5-1 → tie.After-has_room
 has-room-of-write-rows-arg5 p = p.before.before.before.before.before.before
 
-abbrev write-rows-of-list-answer-arg2 : tie.After-list-answer-arg2 → tie.After-write-rows
+abbrev write-rows-of-list-answer-arg2 : tie.After-list-answer-arg2 → tie.After-write_rows
 write-rows-of-list-answer-arg2 p = p.before.before.before.before.before.before.before.before.before
 
-abbrev start-of-has-room : tie.After-has-room → tie.Start
+abbrev start-of-has-room : tie.After-has_room → tie.Start
 start-of-has-room p = p.before.before.before.before.before.before.before.before.before.before
 
-abbrev write-rows-of-list-answer : tie.After-list-answer → tie.After-write-rows
+abbrev write-rows-of-list-answer : tie.After-list_answer → tie.After-write_rows
 write-rows-of-list-answer p = p.before.before.before.before.before.before.before.before.before.before
 
-abbrev out-rows-of-list-answer-arg2 : tie.After-list-answer-arg2 → tie.After-out-rows
+abbrev out-rows-of-list-answer-arg2 : tie.After-list-answer-arg2 → tie.After-out_rows-1
 out-rows-of-list-answer-arg2 p = p.before.before.before.before.before.before.before
 
-abbrev else1-of-out-rows : tie.After-out-rows → tie.Else1
+abbrev else1-of-out-rows : tie.After-out_rows-1 → tie.Else-not-has_room
 else1-of-out-rows p = p.before.before.before.before.before.before.before.before
 
-abbrev else1-of-list-answer-arg2 : tie.After-list-answer-arg2 → tie.Else1
+abbrev else1-of-list-answer-arg2 : tie.After-list-answer-arg2 → tie.Else-not-has_room
 else1-of-list-answer-arg2 p = else1-of-out-rows (out-rows-of-list-answer-arg2 p)
 
-abbrev else1-of-list-answer : tie.After-list-answer → tie.Else1
+abbrev else1-of-list-answer : tie.After-list_answer → tie.Else-not-has_room
 else1-of-list-answer p = else1-of-list-answer-arg2 p.before
 
-abbrev S : tie.After-has-room → tie.Start
+abbrev S : tie.After-has_room → tie.Start
 S h = start-of-has-room h
 
 -- what the test of the room tells
-rows_are : (h : tie.After-has-room) → h.before.before.row_count.result ≡ length (W (S h))
-rows_are h = let s = S h in h.before.before.row_count.ensures ∙ sym (length-call (N s) s.args.op (C s) (X s) (Y s) (Z s))
+rows_are : (h : tie.After-has_room) → h.row_count-n.result ≡ length (W (S h))
+rows_are h = let s = S h in h.row_count-n.ensures ∙ sym (length-call (N s) s.args.op (C s) (X s) (Y s) (Z s))
 
-slots : (h : tie.After-has-room) → h.before.pick.result ≡ length (O (S h))
-slots h = let a = (S h).args in h.before.pick.ensures ∙ sym (used-length a.width a.out-offsets.now a.out-large.now)
+slots : (h : tie.After-has_room) → h.pick.result ≡ length (O (S h))
+slots h = let a = (S h).args in h.pick.ensures ∙ sym (used-length a.width a.out_offsets-1.now a.out_large-1.now)
 
-room_is : (h : tie.After-has-room) → h.has_room.result ≡ fits_in (length (W (S h))) (length (flat (W (S h)))) (L (S h))
+room_is : (h : tie.After-has_room) → h.has_room.result ≡ fits_in (length (W (S h))) (length (flat (W (S h)))) (L (S h))
 room_is h = rw (slots h) at h.has_room.ensures ∙ same_fit (L (S h)) (rows_are h) (S h).requires.1.1.0
 
-roomy : (e : tie.Else1) → let s = S e.before in RoomInˡ (length (W s)) (length (flat (W s))) (length (O s)) (length s.args.out-rows.now) (length s.args.out-values.now) (length s.args.out-elements.now)
-roomy e = has_room _ _ _ _ _ _ (sym (room_is e.before) ∙ not-false _ e.if1.false)
+roomy : (e : tie.Else-not-has_room) → let s = S e.before in RoomInˡ (length (W s)) (length (flat (W s))) (length (O s)) (length s.args.out_rows.now) (length s.args.out_values.now) (length s.args.out_elements.now)
+roomy e = has_room _ _ _ _ _ _ (sym (room_is e.before) ∙ not-false _ e.if-not-has_room.false)
 
-row-count-requires : tie.Need-row-count-requires
-row-count-requires c κs = search
+row_count-n-requires : tie.Need-row_count-n-requires
+row_count-n-requires c κs = search
 
 pick-requires : tie.Need-pick-requires
 pick-requires c κs = search
 
-has-room-requires : tie.Need-has-room-requires
-has-room-requires c κs = search
+has_room-requires : tie.Need-has_room-requires
+has_room-requires c κs = search
 
-returns : tie.Need-returns
-returns c = let h = c.before in list-refused 9 (fitted_short (W (S h)) (L (S h)) (sym (room_is h) ∙ not-true _ c.if1.true))
+returns-then-not-has_room : tie.Need-returns-then-not-has_room
+returns-then-not-has_room c = let h = c.before in list-refused 9 (fitted_short (W (S h)) (L (S h)) (sym (room_is h) ∙ not-true _ c.if-not-has_room.true))
 
-write-rows-requires : tie.Need-write-rows-requires
-write-rows-requires c κs =
+write_rows-requires : tie.Need-write_rows-requires
+write_rows-requires c κs =
     let s = S (has-room-of-write-rows-arg5 c) in
-    (s.pre.0, (s.pre.1.0, (omega (arith, s.pre.1.1.0, s.pre.1.1.1), rw (length-call (N s) s.args.op (C s) (X s) (Y s) (Z s)) at (roomy c.before.before.before.before.before))))
+    (s.requires.0, (s.requires.1.0, (omega (arith, s.requires.1.1.0, s.requires.1.1.1), rw (length-call (N s) s.args.op (C s) (X s) (Y s) (Z s)) at (roomy c.before.before.before.before.before))))
 
-list-answer-requires : tie.Need-list-answer-requires
-list-answer-requires c κs =
+list_answer-requires : tie.Need-list_answer-requires
+list_answer-requires c κs =
     let e = else1-of-list-answer-arg2 c in
     let s = S e.before in
     let r = roomy e in
-    (omega (arith, r.rows, rows_are e.before, (write-rows-of-list-answer-arg2 c).write-rows.auto.1.1.1.1.1.1.1.1.1.1.1.1.1.1.1.1.1.0), omega (arith, r.elements, s.pre.1.1.0, (write-rows-of-list-answer-arg2 c).write-rows.auto.1.1.1.1.1.1.1.1.1.1.1.1.1.1.1.1.1.1.1.0))
+    (omega (arith, r.rows, rows_are e.before, (write-rows-of-list-answer-arg2 c).write-rows.auto.1.1.1.1.1.1.1.1.1.1.1.1.1.1.1.1.1.0), omega (arith, r.elements, s.requires.1.1.0, (write-rows-of-list-answer-arg2 c).write-rows.auto.1.1.1.1.1.1.1.1.1.1.1.1.1.1.1.1.1.1.1.0))
 
-same_length : tie.Need-same-length
-same_length c = search
+shape_of-out_offsets : tie.Need-shape_of-out_offsets
+shape_of-out_offsets c = search
 
-same-length-2 : tie.Need-same-length-2
-same-length-2 c = search
+shape_of-out_rows : tie.Need-shape_of-out_rows
+shape_of-out_rows c = search
 
-same-length-3 : tie.Need-same-length-3
-same-length-3 c = search
+shape_of-out_values : tie.Need-shape_of-out_values
+shape_of-out_values c = search
 
-same-length-4 : tie.Need-same-length-4
-same-length-4 c = search
+shape_of-out_elements : tie.Need-shape_of-out_elements
+shape_of-out_elements c = search
 
-same-length-5 : tie.Need-same-length-5
-same-length-5 c = search
+shape_of-out_large : tie.Need-shape_of-out_large
+shape_of-out_large c = search
 
-returns-2 : tie.Need-returns-2
-returns-2 c =
+returns : tie.Need-returns
+returns c =
     let e = else1-of-list-answer c in
     let h = e.before in
     let s = S h in
-    list-made (W s) _ _ (fitted-made (W s) (L s) (sym (room_is h) ∙ not-false _ e.if1.left)) (rows_are h) s.pre.1.1.0 (write-rows-of-list-answer c).write-rows.ensures c.list-answer.ensures
+    list-made (W s) _ _ (fitted-made (W s) (L s) (sym (room_is h) ∙ not-false _ e.if-not-has_room.false)) (rows_are h) s.requires.1.1.0 (write-rows-of-list-answer c).write-rows.ensures c.list_answer.ensures
 
 pub write_fitting_spec : {M : Type 1} → statement M
 write_fitting_spec =
     tie.close
     (tie.spec
-    row-count-requires
+    row_count-n-requires
     pick-requires
-    has-room-requires
-    returns
-    write-rows-requires
-    list-answer-requires
-    same_length
-    same-length-2
-    same-length-3
-    same-length-4
-    same-length-5
-    returns-2)
+    has_room-requires
+    returns-then-not-has_room
+    write_rows-requires
+    list_answer-requires
+    shape_of-out_offsets
+    shape_of-out_rows
+    shape_of-out_values
+    shape_of-out_elements
+    shape_of-out_large
+    returns)

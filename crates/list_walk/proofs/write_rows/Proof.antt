@@ -24,299 +24,299 @@ Z s = arguments s.args.zs.now (from s.args.zstart s.args.zbits.now)
 
 -- ---- places: the start, from what comes before the match; what a kind's walk was told, from what is lent to it, and from its end
 
-abbrev S : tie.After-slice-known2 → tie.Start
+abbrev S : tie.After-slice_known-2-1 → tie.Start
 S k = k.before.before.before.before.before.before.before
 
-abbrev plain_of : tie.After-write-rows-arg5 → tie.After-op
-plain_of c = c.before.before.before.before.before.before
+abbrev plain_of : tie.After-write_rows-arg-in-Plain-4-1 → tie.In-Plain-2
+plain_of c = c.before.before.before.before.before
 
-abbrev told2 : tie.After-write-rows-arg10 → tie.After-enum-told
+abbrev told2 : tie.After-write_rows-arg-in-Slice-5-1 → tie.In-Slice
 told2 c = c.before.before.before.before.before
 
-abbrev told3 : tie.After-write-rows-arg15 → tie.After-enum-told2
+abbrev told3 : tie.After-write_rows-arg-in-SliceBy-5-1 → tie.In-SliceBy
 told3 c = c.before.before.before.before.before
 
-abbrev told4 : tie.After-write-rows-arg20 → tie.After-enum-told3
+abbrev told4 : tie.After-write_rows-arg-in-Resize-5-1 → tie.In-Resize
 told4 c = c.before.before.before.before.before
 
-abbrev told5 : tie.After-write-rows-arg25 → tie.After-enum-told4
+abbrev told5 : tie.After-write_rows-arg-in-ResizeWith-5-1 → tie.In-ResizeWith
 told5 c = c.before.before.before.before.before
 
-abbrev told6 : tie.After-write-rows-arg30 → tie.After-enum-told5
+abbrev told6 : tie.After-write_rows-arg-in-Replace-5-1 → tie.In-Replace
 told6 c = c.before.before.before.before.before
 
-abbrev told7 : tie.After-write-rows-arg35 → tie.After-enum-told6
+abbrev told7 : tie.After-write_rows-arg-in-Remove-5-1 → tie.In-Remove
 told7 c = c.before.before.before.before.before
 
-abbrev lent1 : tie.After-out-large → tie.After-write-rows-arg5
+abbrev lent1 : tie.After-out_large-1 → tie.After-write_rows-arg-in-Plain-4-1
 lent1 c = c.before.before.before.before.before.before.before.before
 
-abbrev lent2 : tie.After-out-large2 → tie.After-write-rows-arg10
+abbrev lent2 : tie.After-out_large-in-Slice-1 → tie.After-write_rows-arg-in-Slice-5-1
 lent2 c = c.before.before.before.before.before.before.before.before
 
-abbrev lent3 : tie.After-out-large3 → tie.After-write-rows-arg15
+abbrev lent3 : tie.After-out_large-in-SliceBy-1 → tie.After-write_rows-arg-in-SliceBy-5-1
 lent3 c = c.before.before.before.before.before.before.before.before
 
-abbrev lent4 : tie.After-out-large4 → tie.After-write-rows-arg20
+abbrev lent4 : tie.After-out_large-in-Resize-1 → tie.After-write_rows-arg-in-Resize-5-1
 lent4 c = c.before.before.before.before.before.before.before.before
 
-abbrev lent5 : tie.After-out-large5 → tie.After-write-rows-arg25
+abbrev lent5 : tie.After-out_large-in-ResizeWith-1 → tie.After-write_rows-arg-in-ResizeWith-5-1
 lent5 c = c.before.before.before.before.before.before.before.before
 
-abbrev lent6 : tie.After-out-large6 → tie.After-write-rows-arg30
+abbrev lent6 : tie.After-out_large-in-Replace-1 → tie.After-write_rows-arg-in-Replace-5-1
 lent6 c = c.before.before.before.before.before.before.before.before
 
-abbrev lent7 : tie.After-out-large7 → tie.After-write-rows-arg35
+abbrev lent7 : tie.After-out_large-in-Remove-1 → tie.After-write_rows-arg-in-Remove-5-1
 lent7 c = c.before.before.before.before.before.before.before.before
 
 -- ---- needs
 
-enum-known-op : tie.Need-enum-known-op
-enum-known-op c = search rules
+enum_known-op : tie.Need-enum_known-op
+enum_known-op c = search rules
 
-write-rows-requires : tie.Need-write-rows-requires
-write-rows-requires c κs =
+write_rows-requires : tie.Need-write_rows-requires
+write_rows-requires c κs =
     let o = plain_of c in
     let s = S o.before.before in
-    let e = plain_kind (N s) s.args.op (C s) (X s) (Y s) (Z s) o.op.given.0.0 o.op.given.1 in
-    (s.pre.0, (rw e at s.pre.1.1.0, rw e at s.pre.1.1.1))
+    let e = plain_kind (N s) s.args.op (C s) (X s) (Y s) (Z s) o.in-Plain.u o.in-Plain.is in
+    (s.requires.0, (rw e at s.requires.1.1.0, rw e at s.requires.1.1.1))
 
-enum_told : tie.Need-enum-told
-enum_told c = search rules
+enum_told-1 : tie.Need-enum_told-1
+enum_told-1 c = search rules
 
-write-rows-requires-2 : tie.Need-write-rows-requires-2
-write-rows-requires-2 c κs = let s = S (told2 c).before.before in (s.pre.0, (s.pre.1.0, (is_slice_lem s.args.op (told2 c).enum_told.given.1, (s.pre.1.1.0, s.pre.1.1.1))))
+write_rows-requires-in-Slice : tie.Need-write_rows-requires-in-Slice
+write_rows-requires-in-Slice c κs = let s = S (told2 c).before.before in (s.requires.0, (s.requires.1.0, (is_slice_lem s.args.op (told2 c).enum_told.given.1, (s.requires.1.1.0, s.requires.1.1.1))))
 
-enum-told-2 : tie.Need-enum-told-2
-enum-told-2 c = search rules
+enum_told-in-SliceBy : tie.Need-enum_told-in-SliceBy
+enum_told-in-SliceBy c = search rules
 
-write-rows-requires-3 : tie.Need-write-rows-requires-3
-write-rows-requires-3 c κs = let s = S (told3 c).before.before in (s.pre.0, (s.pre.1.0, (is_strided s.args.op (told3 c).enum-told2.given.1, (s.pre.1.1.0, s.pre.1.1.1))))
+write_rows-requires-in-SliceBy : tie.Need-write_rows-requires-in-SliceBy
+write_rows-requires-in-SliceBy c κs = let s = S (told3 c).before.before in (s.requires.0, (s.requires.1.0, (is_strided s.args.op (told3 c).enum-told2.given.1, (s.requires.1.1.0, s.requires.1.1.1))))
 
-enum-told-3 : tie.Need-enum-told-3
-enum-told-3 c = search rules
+enum_told-in-Resize : tie.Need-enum_told-in-Resize
+enum_told-in-Resize c = search rules
 
-write-rows-requires-4 : tie.Need-write-rows-requires-4
-write-rows-requires-4 c κs = let s = S (told4 c).before.before in (s.pre.0, (s.pre.1.0, (is_resize_lem s.args.op (told4 c).enum-told3.given.1, (s.pre.1.1.0, s.pre.1.1.1))))
+write_rows-requires-in-Resize : tie.Need-write_rows-requires-in-Resize
+write_rows-requires-in-Resize c κs = let s = S (told4 c).before.before in (s.requires.0, (s.requires.1.0, (is_resize_lem s.args.op (told4 c).enum-told3.given.1, (s.requires.1.1.0, s.requires.1.1.1))))
 
-enum-told-4 : tie.Need-enum-told-4
-enum-told-4 c = search rules
+enum_told-in-ResizeWith : tie.Need-enum_told-in-ResizeWith
+enum_told-in-ResizeWith c = search rules
 
-write-rows-requires-5 : tie.Need-write-rows-requires-5
-write-rows-requires-5 c κs = let s = S (told5 c).before.before in (s.pre.0, (s.pre.1.0, (is_filled s.args.op (told5 c).enum-told4.given.1, (s.pre.1.1.0, s.pre.1.1.1))))
+write_rows-requires-in-ResizeWith : tie.Need-write_rows-requires-in-ResizeWith
+write_rows-requires-in-ResizeWith c κs = let s = S (told5 c).before.before in (s.requires.0, (s.requires.1.0, (is_filled s.args.op (told5 c).enum-told4.given.1, (s.requires.1.1.0, s.requires.1.1.1))))
 
-enum-told-5 : tie.Need-enum-told-5
-enum-told-5 c = search rules
+enum_told-in-Replace : tie.Need-enum_told-in-Replace
+enum_told-in-Replace c = search rules
 
-write-rows-requires-6 : tie.Need-write-rows-requires-6
-write-rows-requires-6 c κs =
+write_rows-requires-in-Replace : tie.Need-write_rows-requires-in-Replace
+write_rows-requires-in-Replace c κs =
     let o = (told6 c).enum-told5.given.1 in
     let s = S (told6 c).before.before in
     let e = replace_kind (N s) s.args.op (C s) (X s) (Y s) (Z s) o in
-    (s.pre.0, (replace_takes o s.pre.1.0, (rw e at s.pre.1.1.0, rw e at s.pre.1.1.1)))
+    (s.requires.0, (replace_takes o s.requires.1.0, (rw e at s.requires.1.1.0, rw e at s.requires.1.1.1)))
 
-enum-told-6 : tie.Need-enum-told-6
-enum-told-6 c = search rules
+enum_told-in-Remove : tie.Need-enum_told-in-Remove
+enum_told-in-Remove c = search rules
 
-write-rows-requires-7 : tie.Need-write-rows-requires-7
-write-rows-requires-7 c κs =
+write_rows-requires-in-Remove : tie.Need-write_rows-requires-in-Remove
+write_rows-requires-in-Remove c κs =
     let o = (told7 c).enum-told6.given.1 in
     let s = S (told7 c).before.before in
     let e = remove_kind (N s) s.args.op (C s) (X s) (Y s) (Z s) o in
-    (s.pre.0, (remove_takes o s.pre.1.0, (rw e at s.pre.1.1.0, rw e at s.pre.1.1.1)))
+    (s.requires.0, (remove_takes o s.requires.1.0, (rw e at s.requires.1.1.0, rw e at s.requires.1.1.1)))
 
-same_length : tie.Need-same-length
-same_length c = c.before.before.before.before.before.before.before.write-rows.auto.1.1.1.1.1.1.1.0
+shape_of-out_offsets-in-Plain : tie.Need-shape_of-out_offsets-in-Plain
+shape_of-out_offsets-in-Plain c = c.write_rows.auto.out_offsets
 
-same-length-2 : tie.Need-same-length-2
-same-length-2 c = c.before.before.before.before.before.before.before.write-rows.auto.1.1.1.1.1.1.1.1.0
+shape_of-out_rows-in-Plain : tie.Need-shape_of-out_rows-in-Plain
+shape_of-out_rows-in-Plain c = c.write_rows.auto.out_rows
 
-same-length-3 : tie.Need-same-length-3
-same-length-3 c = c.before.before.before.before.before.before.before.write-rows.auto.1.1.1.1.1.1.1.1.1.0
+shape_of-out_values-in-Plain : tie.Need-shape_of-out_values-in-Plain
+shape_of-out_values-in-Plain c = c.write_rows.auto.out_values
 
-same-length-4 : tie.Need-same-length-4
-same-length-4 c = c.before.before.before.before.before.before.before.write-rows.auto.1.1.1.1.1.1.1.1.1.1.0
+shape_of-out_elements-in-Plain : tie.Need-shape_of-out_elements-in-Plain
+shape_of-out_elements-in-Plain c = c.write_rows.auto.out_elements
 
-same-length-5 : tie.Need-same-length-5
-same-length-5 c = c.before.before.before.before.before.before.before.write-rows.auto.1.1.1.1.1.1.1.1.1.1.1.1.1.0
+shape_of-out_large-in-Plain : tie.Need-shape_of-out_large-in-Plain
+shape_of-out_large-in-Plain c = c.write_rows.auto.out_large
 
-returns : tie.Need-returns
-returns c =
+returns-in-Plain : tie.Need-returns-in-Plain
+returns-in-Plain c =
     let o = plain_of (lent1 c) in
     let s = S o.before.before in
-    rw (plain_kind (N s) s.args.op (C s) (X s) (Y s) (Z s) o.op.given.0.0 o.op.given.1) c.before.before.before.before.before.before.before.write-rows.ensures
+    rw (plain_kind (N s) s.args.op (C s) (X s) (Y s) (Z s) o.in-Plain.u o.in-Plain.is) c.write_rows.ensures
 
-same-length-6 : tie.Need-same-length-6
-same-length-6 c = c.before.before.before.before.before.before.before.write-rows2.auto.1.1.1.1.1.1.1.1.1.1.1.1.1.1.1.1.0
+shape_of-out_offsets-in-Slice : tie.Need-shape_of-out_offsets-in-Slice
+shape_of-out_offsets-in-Slice c = c.write_rows-in-Slice.auto.out_offsets
 
-same-length-7 : tie.Need-same-length-7
-same-length-7 c = c.before.before.before.before.before.before.before.write-rows2.auto.1.1.1.1.1.1.1.1.1.1.1.1.1.1.1.1.1.0
+shape_of-out_rows-in-Slice : tie.Need-shape_of-out_rows-in-Slice
+shape_of-out_rows-in-Slice c = c.write_rows-in-Slice.auto.out_rows
 
-same-length-8 : tie.Need-same-length-8
-same-length-8 c = c.before.before.before.before.before.before.before.write-rows2.auto.1.1.1.1.1.1.1.1.1.1.1.1.1.1.1.1.1.1.0
+shape_of-out_values-in-Slice : tie.Need-shape_of-out_values-in-Slice
+shape_of-out_values-in-Slice c = c.write_rows-in-Slice.auto.out_values
 
-same-length-9 : tie.Need-same-length-9
-same-length-9 c = c.before.before.before.before.before.before.before.write-rows2.auto.1.1.1.1.1.1.1.1.1.1.1.1.1.1.1.1.1.1.1.0
+shape_of-out_elements-in-Slice : tie.Need-shape_of-out_elements-in-Slice
+shape_of-out_elements-in-Slice c = c.write_rows-in-Slice.auto.out_elements
 
-same-length-10 : tie.Need-same-length-10
-same-length-10 c = c.before.before.before.before.before.before.before.write-rows2.auto.1.1.1.1.1.1.1.1.1.1.1.1.1.1.1.1.1.1.1.1.1.1.0
+shape_of-out_large-in-Slice : tie.Need-shape_of-out_large-in-Slice
+shape_of-out_large-in-Slice c = c.write_rows-in-Slice.auto.out_large
 
-returns-2 : tie.Need-returns-2
-returns-2 c = c.before.before.before.before.before.before.before.write-rows2.ensures
+returns-in-Slice : tie.Need-returns-in-Slice
+returns-in-Slice c = c.write_rows-in-Slice.ensures
 
-same-length-11 : tie.Need-same-length-11
-same-length-11 c = c.before.before.before.before.before.before.before.write-rows3.auto.1.1.1.1.1.1.1.1.1.1.1.1.1.1.1.1.0
+shape_of-out_offsets-in-SliceBy : tie.Need-shape_of-out_offsets-in-SliceBy
+shape_of-out_offsets-in-SliceBy c = c.write_rows-in-SliceBy.auto.out_offsets
 
-same-length-12 : tie.Need-same-length-12
-same-length-12 c = c.before.before.before.before.before.before.before.write-rows3.auto.1.1.1.1.1.1.1.1.1.1.1.1.1.1.1.1.1.0
+shape_of-out_rows-in-SliceBy : tie.Need-shape_of-out_rows-in-SliceBy
+shape_of-out_rows-in-SliceBy c = c.write_rows-in-SliceBy.auto.out_rows
 
-same-length-13 : tie.Need-same-length-13
-same-length-13 c = c.before.before.before.before.before.before.before.write-rows3.auto.1.1.1.1.1.1.1.1.1.1.1.1.1.1.1.1.1.1.0
+shape_of-out_values-in-SliceBy : tie.Need-shape_of-out_values-in-SliceBy
+shape_of-out_values-in-SliceBy c = c.write_rows-in-SliceBy.auto.out_values
 
-same-length-14 : tie.Need-same-length-14
-same-length-14 c = c.before.before.before.before.before.before.before.write-rows3.auto.1.1.1.1.1.1.1.1.1.1.1.1.1.1.1.1.1.1.1.0
+shape_of-out_elements-in-SliceBy : tie.Need-shape_of-out_elements-in-SliceBy
+shape_of-out_elements-in-SliceBy c = c.write_rows-in-SliceBy.auto.out_elements
 
-same-length-15 : tie.Need-same-length-15
-same-length-15 c = c.before.before.before.before.before.before.before.write-rows3.auto.1.1.1.1.1.1.1.1.1.1.1.1.1.1.1.1.1.1.1.1.1.1.0
+shape_of-out_large-in-SliceBy : tie.Need-shape_of-out_large-in-SliceBy
+shape_of-out_large-in-SliceBy c = c.write_rows-in-SliceBy.auto.out_large
 
-returns-3 : tie.Need-returns-3
-returns-3 c = c.before.before.before.before.before.before.before.write-rows3.ensures
+returns-in-SliceBy : tie.Need-returns-in-SliceBy
+returns-in-SliceBy c = c.write_rows-in-SliceBy.ensures
 
-same-length-16 : tie.Need-same-length-16
-same-length-16 c = c.before.before.before.before.before.before.before.write-rows4.auto.1.1.1.1.1.1.1.1.1.1.1.1.1.1.1.1.0
+shape_of-out_offsets-in-Resize : tie.Need-shape_of-out_offsets-in-Resize
+shape_of-out_offsets-in-Resize c = c.write_rows-in-Resize.auto.out_offsets
 
-same-length-17 : tie.Need-same-length-17
-same-length-17 c = c.before.before.before.before.before.before.before.write-rows4.auto.1.1.1.1.1.1.1.1.1.1.1.1.1.1.1.1.1.0
+shape_of-out_rows-in-Resize : tie.Need-shape_of-out_rows-in-Resize
+shape_of-out_rows-in-Resize c = c.write_rows-in-Resize.auto.out_rows
 
-same-length-18 : tie.Need-same-length-18
-same-length-18 c = c.before.before.before.before.before.before.before.write-rows4.auto.1.1.1.1.1.1.1.1.1.1.1.1.1.1.1.1.1.1.0
+shape_of-out_values-in-Resize : tie.Need-shape_of-out_values-in-Resize
+shape_of-out_values-in-Resize c = c.write_rows-in-Resize.auto.out_values
 
-same-length-19 : tie.Need-same-length-19
-same-length-19 c = c.before.before.before.before.before.before.before.write-rows4.auto.1.1.1.1.1.1.1.1.1.1.1.1.1.1.1.1.1.1.1.0
+shape_of-out_elements-in-Resize : tie.Need-shape_of-out_elements-in-Resize
+shape_of-out_elements-in-Resize c = c.write_rows-in-Resize.auto.out_elements
 
-same-length-20 : tie.Need-same-length-20
-same-length-20 c = c.before.before.before.before.before.before.before.write-rows4.auto.1.1.1.1.1.1.1.1.1.1.1.1.1.1.1.1.1.1.1.1.1.1.0
+shape_of-out_large-in-Resize : tie.Need-shape_of-out_large-in-Resize
+shape_of-out_large-in-Resize c = c.write_rows-in-Resize.auto.out_large
 
-returns-4 : tie.Need-returns-4
-returns-4 c = c.before.before.before.before.before.before.before.write-rows4.ensures
+returns-in-Resize : tie.Need-returns-in-Resize
+returns-in-Resize c = c.write_rows-in-Resize.ensures
 
-same-length-21 : tie.Need-same-length-21
-same-length-21 c = c.before.before.before.before.before.before.before.write-rows5.auto.1.1.1.1.1.1.1.1.1.1.1.1.1.1.1.1.0
+shape_of-out_offsets-in-ResizeWith : tie.Need-shape_of-out_offsets-in-ResizeWith
+shape_of-out_offsets-in-ResizeWith c = c.write_rows-in-ResizeWith.auto.out_offsets
 
-same-length-22 : tie.Need-same-length-22
-same-length-22 c = c.before.before.before.before.before.before.before.write-rows5.auto.1.1.1.1.1.1.1.1.1.1.1.1.1.1.1.1.1.0
+shape_of-out_rows-in-ResizeWith : tie.Need-shape_of-out_rows-in-ResizeWith
+shape_of-out_rows-in-ResizeWith c = c.write_rows-in-ResizeWith.auto.out_rows
 
-same-length-23 : tie.Need-same-length-23
-same-length-23 c = c.before.before.before.before.before.before.before.write-rows5.auto.1.1.1.1.1.1.1.1.1.1.1.1.1.1.1.1.1.1.0
+shape_of-out_values-in-ResizeWith : tie.Need-shape_of-out_values-in-ResizeWith
+shape_of-out_values-in-ResizeWith c = c.write_rows-in-ResizeWith.auto.out_values
 
-same-length-24 : tie.Need-same-length-24
-same-length-24 c = c.before.before.before.before.before.before.before.write-rows5.auto.1.1.1.1.1.1.1.1.1.1.1.1.1.1.1.1.1.1.1.0
+shape_of-out_elements-in-ResizeWith : tie.Need-shape_of-out_elements-in-ResizeWith
+shape_of-out_elements-in-ResizeWith c = c.write_rows-in-ResizeWith.auto.out_elements
 
-same-length-25 : tie.Need-same-length-25
-same-length-25 c = c.before.before.before.before.before.before.before.write-rows5.auto.1.1.1.1.1.1.1.1.1.1.1.1.1.1.1.1.1.1.1.1.1.1.0
+shape_of-out_large-in-ResizeWith : tie.Need-shape_of-out_large-in-ResizeWith
+shape_of-out_large-in-ResizeWith c = c.write_rows-in-ResizeWith.auto.out_large
 
-returns-5 : tie.Need-returns-5
-returns-5 c = c.before.before.before.before.before.before.before.write-rows5.ensures
+returns-in-ResizeWith : tie.Need-returns-in-ResizeWith
+returns-in-ResizeWith c = c.write_rows-in-ResizeWith.ensures
 
-same-length-26 : tie.Need-same-length-26
-same-length-26 c = c.before.before.before.before.before.before.before.write-rows6.auto.1.1.1.1.1.1.1.1.1.1.1.1.1.1.1.0
+shape_of-out_offsets-in-Replace : tie.Need-shape_of-out_offsets-in-Replace
+shape_of-out_offsets-in-Replace c = c.write_rows-in-Replace.auto.out_offsets
 
-same-length-27 : tie.Need-same-length-27
-same-length-27 c = c.before.before.before.before.before.before.before.write-rows6.auto.1.1.1.1.1.1.1.1.1.1.1.1.1.1.1.1.0
+shape_of-out_rows-in-Replace : tie.Need-shape_of-out_rows-in-Replace
+shape_of-out_rows-in-Replace c = c.write_rows-in-Replace.auto.out_rows
 
-same-length-28 : tie.Need-same-length-28
-same-length-28 c = c.before.before.before.before.before.before.before.write-rows6.auto.1.1.1.1.1.1.1.1.1.1.1.1.1.1.1.1.1.0
+shape_of-out_values-in-Replace : tie.Need-shape_of-out_values-in-Replace
+shape_of-out_values-in-Replace c = c.write_rows-in-Replace.auto.out_values
 
-same-length-29 : tie.Need-same-length-29
-same-length-29 c = c.before.before.before.before.before.before.before.write-rows6.auto.1.1.1.1.1.1.1.1.1.1.1.1.1.1.1.1.1.1.0
+shape_of-out_elements-in-Replace : tie.Need-shape_of-out_elements-in-Replace
+shape_of-out_elements-in-Replace c = c.write_rows-in-Replace.auto.out_elements
 
-same-length-30 : tie.Need-same-length-30
-same-length-30 c = c.before.before.before.before.before.before.before.write-rows6.auto.1.1.1.1.1.1.1.1.1.1.1.1.1.1.1.1.1.1.1.1.1.0
+shape_of-out_large-in-Replace : tie.Need-shape_of-out_large-in-Replace
+shape_of-out_large-in-Replace c = c.write_rows-in-Replace.auto.out_large
 
-returns-6 : tie.Need-returns-6
-returns-6 c =
+returns-in-Replace : tie.Need-returns-in-Replace
+returns-in-Replace c =
     let o = told6 (lent6 c) in
     let s = S o.before.before in
-    rw (replace_kind (N s) s.args.op (C s) (X s) (Y s) (Z s) o.enum-told5.given.1) c.before.before.before.before.before.before.before.write-rows6.ensures
+    rw (replace_kind (N s) s.args.op (C s) (X s) (Y s) (Z s) o.in-Replace.is) c.write_rows-in-Replace.ensures
 
-same-length-31 : tie.Need-same-length-31
-same-length-31 c = c.before.before.before.before.before.before.before.write-rows7.auto.1.1.1.1.1.1.1.1.1.1.1.1.0
+shape_of-out_offsets-in-Remove : tie.Need-shape_of-out_offsets-in-Remove
+shape_of-out_offsets-in-Remove c = c.write_rows-in-Remove.auto.out_offsets
 
-same-length-32 : tie.Need-same-length-32
-same-length-32 c = c.before.before.before.before.before.before.before.write-rows7.auto.1.1.1.1.1.1.1.1.1.1.1.1.1.0
+shape_of-out_rows-in-Remove : tie.Need-shape_of-out_rows-in-Remove
+shape_of-out_rows-in-Remove c = c.write_rows-in-Remove.auto.out_rows
 
-same-length-33 : tie.Need-same-length-33
-same-length-33 c = c.before.before.before.before.before.before.before.write-rows7.auto.1.1.1.1.1.1.1.1.1.1.1.1.1.1.0
+shape_of-out_values-in-Remove : tie.Need-shape_of-out_values-in-Remove
+shape_of-out_values-in-Remove c = c.write_rows-in-Remove.auto.out_values
 
-same-length-34 : tie.Need-same-length-34
-same-length-34 c = c.before.before.before.before.before.before.before.write-rows7.auto.1.1.1.1.1.1.1.1.1.1.1.1.1.1.1.0
+shape_of-out_elements-in-Remove : tie.Need-shape_of-out_elements-in-Remove
+shape_of-out_elements-in-Remove c = c.write_rows-in-Remove.auto.out_elements
 
-same-length-35 : tie.Need-same-length-35
-same-length-35 c = c.before.before.before.before.before.before.before.write-rows7.auto.1.1.1.1.1.1.1.1.1.1.1.1.1.1.1.1.1.1.0
+shape_of-out_large-in-Remove : tie.Need-shape_of-out_large-in-Remove
+shape_of-out_large-in-Remove c = c.write_rows-in-Remove.auto.out_large
 
-returns-7 : tie.Need-returns-7
-returns-7 c =
+returns-in-Remove : tie.Need-returns-in-Remove
+returns-in-Remove c =
     let o = told7 (lent7 c) in
     let s = S o.before.before in
-    rw (remove_kind (N s) s.args.op (C s) (X s) (Y s) (Z s) o.enum-told6.given.1) c.before.before.before.before.before.before.before.write-rows7.ensures
+    rw (remove_kind (N s) s.args.op (C s) (X s) (Y s) (Z s) o.in-Remove.is) c.write_rows-in-Remove.ensures
 
 pub write_rows_spec : {M : Type 1} → statement M
 write_rows_spec =
     tie.close
     (tie.spec
-    enum-known-op
-    write-rows-requires
-    enum_told
-    write-rows-requires-2
-    enum-told-2
-    write-rows-requires-3
-    enum-told-3
-    write-rows-requires-4
-    enum-told-4
-    write-rows-requires-5
-    enum-told-5
-    write-rows-requires-6
-    enum-told-6
-    write-rows-requires-7
-    same_length
-    same-length-2
-    same-length-3
-    same-length-4
-    same-length-5
-    returns
-    same-length-6
-    same-length-7
-    same-length-8
-    same-length-9
-    same-length-10
-    returns-2
-    same-length-11
-    same-length-12
-    same-length-13
-    same-length-14
-    same-length-15
-    returns-3
-    same-length-16
-    same-length-17
-    same-length-18
-    same-length-19
-    same-length-20
-    returns-4
-    same-length-21
-    same-length-22
-    same-length-23
-    same-length-24
-    same-length-25
-    returns-5
-    same-length-26
-    same-length-27
-    same-length-28
-    same-length-29
-    same-length-30
-    returns-6
-    same-length-31
-    same-length-32
-    same-length-33
-    same-length-34
-    same-length-35
-    returns-7)
+    enum_known-op
+    write_rows-requires
+    enum_told-1
+    write_rows-requires-in-Slice
+    enum_told-in-SliceBy
+    write_rows-requires-in-SliceBy
+    enum_told-in-Resize
+    write_rows-requires-in-Resize
+    enum_told-in-ResizeWith
+    write_rows-requires-in-ResizeWith
+    enum_told-in-Replace
+    write_rows-requires-in-Replace
+    enum_told-in-Remove
+    write_rows-requires-in-Remove
+    shape_of-out_offsets-in-Plain
+    shape_of-out_rows-in-Plain
+    shape_of-out_values-in-Plain
+    shape_of-out_elements-in-Plain
+    shape_of-out_large-in-Plain
+    returns-in-Plain
+    shape_of-out_offsets-in-Slice
+    shape_of-out_rows-in-Slice
+    shape_of-out_values-in-Slice
+    shape_of-out_elements-in-Slice
+    shape_of-out_large-in-Slice
+    returns-in-Slice
+    shape_of-out_offsets-in-SliceBy
+    shape_of-out_rows-in-SliceBy
+    shape_of-out_values-in-SliceBy
+    shape_of-out_elements-in-SliceBy
+    shape_of-out_large-in-SliceBy
+    returns-in-SliceBy
+    shape_of-out_offsets-in-Resize
+    shape_of-out_rows-in-Resize
+    shape_of-out_values-in-Resize
+    shape_of-out_elements-in-Resize
+    shape_of-out_large-in-Resize
+    returns-in-Resize
+    shape_of-out_offsets-in-ResizeWith
+    shape_of-out_rows-in-ResizeWith
+    shape_of-out_values-in-ResizeWith
+    shape_of-out_elements-in-ResizeWith
+    shape_of-out_large-in-ResizeWith
+    returns-in-ResizeWith
+    shape_of-out_offsets-in-Replace
+    shape_of-out_rows-in-Replace
+    shape_of-out_values-in-Replace
+    shape_of-out_elements-in-Replace
+    shape_of-out_large-in-Replace
+    returns-in-Replace
+    shape_of-out_offsets-in-Remove
+    shape_of-out_rows-in-Remove
+    shape_of-out_values-in-Remove
+    shape_of-out_elements-in-Remove
+    shape_of-out_large-in-Remove
+    returns-in-Remove)

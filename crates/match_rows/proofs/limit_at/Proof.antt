@@ -4,19 +4,25 @@ use Rattle.match_rows.specs.Limits.{limit_at}
 use Rattle.match_rows.proofs.limit_at.Statement.{statement}
 use Rattle.match_rows.proofs.limit_at.Tie as tie
 
-is-valid-requires : tie.Need-is-valid-requires
-is-valid-requires c κs = search
+is_valid-requires : tie.Need-is_valid-requires
+is_valid-requires c κs = search
+
+returns-then-not-is_valid : tie.Need-returns-then-not-is_valid
+unfolding limit_at
+returns-then-not-is_valid c = rw (sym c.is_valid.ensures ∙ not-true _ c.if-not-is_valid.true)
+
+taken_at-requires : tie.Need-taken_at-requires
+taken_at-requires c κs = let s = c.before.before.before.before in (λ e. s.requires.1.0, s.requires.1.1)
 
 returns : tie.Need-returns
 unfolding limit_at
-returns c = rw (sym c.before.is-valid.ensures ∙ not-true _ c.if1.true)
-
-taken-at-requires : tie.Need-taken-at-requires
-taken-at-requires c κs = let s = c.before.before.before.before in (λ e. s.requires.1.0, s.requires.1.1)
-
-returns-2 : tie.Need-returns-2
-unfolding limit_at
-returns-2 c = rw (sym c.before.before.is-valid.ensures ∙ not-false _ c.before.if1.false) c.taken_at.ensures
+returns c = rw (sym c.is_valid.ensures ∙ not-false _ c.if-not-is_valid.false) c.taken_at.ensures
 
 pub limit_at_spec : {M : Type 1} → statement M
-limit_at_spec = tie.close (tie.spec is-valid-requires returns taken-at-requires returns-2)
+limit_at_spec =
+    tie.close
+    (tie.spec
+    is_valid-requires
+    returns-then-not-is_valid
+    taken_at-requires
+    returns)

@@ -7,93 +7,93 @@ use Rattle.null_slots.proofs.NulledLaws.{NullingBack, turning_begun, turning_byt
 use Rattle.null_slots.proofs.put_eights_back.Statement.{statement}
 use Rattle.null_slots.proofs.put_eights_back.Tie as tie
 
-abbrev invariant-loop : tie.invariant-loop
-invariant-loop bits k s n out₀ at j₀ left₀ out j left = NullingBack bits k s n out₀ at out j left
+abbrev invariant-loop-left : tie.invariant-loop-left
+invariant-loop-left bits k s n out₀ at j₀ left₀ out j left = NullingBack bits k s n out₀ at out j left
 
-abbrev decreases-loop : tie.decreases-loop
-decreases-loop bits k s n out₀ at j₀ left₀ out j left = left
+abbrev decreases-loop-left : tie.decreases-loop-left
+decreases-loop-left bits k s n out₀ at j₀ left₀ out j left = left
 
 -- the places: where the loop's test is reached, in the loop, and past it where bits are left
-module _ (l : tie.At-loop invariant-loop decreases-loop) where
-  bytes : bytes_for (8 * l.loop.j + l.before.before.args.s + l.loop.left) ≤ length l.before.before.args.bits.now
-  bytes = turning_bytes l.loop.invariant l.before.before.requires.1.0
+module _ (l : tie.At-loop-left invariant-loop-left decreases-loop-left) where
+  bytes : bytes_for (8 * l.loop-left.j + l.args.s + l.loop-left.left) ≤ length l.args.bits.now
+  bytes = turning_bytes l.loop-left.invariant l.requires.1.0
 
-  room : l.before.before.args.at + l.loop.left ≤ length l.loop.out
-  room = turning_room l.loop.inv l.before.before.pre.1.1
+  room : l.args.at + l.loop-left.left ≤ length l.loop-left.out
+  room = turning_room l.loop-left.invariant l.requires.1.1
 
-abbrev I : tie.After-out invariant-loop decreases-loop → tie.In-loop invariant-loop decreases-loop
+abbrev I : tie.After-out-1 invariant-loop-left decreases-loop-left → tie.In-loop-left invariant-loop-left decreases-loop-left
 I c = c.before.before.before.before
 
-abbrev R : tie.After-out2 invariant-loop decreases-loop → tie.Else1 invariant-loop decreases-loop
+abbrev R : tie.After-out-2-1 invariant-loop-left decreases-loop-left → tie.Else-left-eq0 invariant-loop-left decreases-loop-left
 R c = c.before.before.before.before
 
-loop-holds : tie.Need-loop-init invariant-loop decreases-loop
-loop-holds c = turning_begun
+loop-left-init : tie.Need-loop-left-init invariant-loop-left decreases-loop-left
+loop-left-init c = turning_begun
 
-sub-left : tie.Need-overflow-sub-left invariant-loop decreases-loop
-sub-left c = omega (arith, c.loop-test.true)
+overflow_sub-left : tie.Need-overflow_sub-left invariant-loop-left decreases-loop-left
+overflow_sub-left c = omega (arith, c.loop-left-test.true)
 
-few-at-requires : tie.Need-few-at-requires invariant-loop decreases-loop
-few-at-requires c κs = let b = bytes c.before in (omega (arith, c.before.before.before.requires.0), (omega arith, (omega arith, omega (arith, c.loop-test.true))))
+few_at-requires : tie.Need-few_at-requires invariant-loop-left decreases-loop-left
+few_at-requires c κs = let b = bytes c.before in (omega (arith, c.requires.0), (omega arith, (omega arith, omega (arith, c.loop-left-test.true))))
 
-cast-put-few-back : tie.Need-overflow-cast-put-few-back invariant-loop decreases-loop
-cast-put-few-back c = omega (arith, c.few-at.ensures.1)
+overflow_cast-few_at : tie.Need-overflow_cast-few_at invariant-loop-left decreases-loop-left
+overflow_cast-few_at c = omega (arith, c.few_at.ensures.1)
 
-add-put-few-back : tie.Need-overflow-add-put-few-back invariant-loop decreases-loop
-add-put-few-back c = let i = c.before.before in let r = room i.before in omega (arith, i.loop-test.true)
+overflow_add-at : tie.Need-overflow_add-at invariant-loop-left decreases-loop-left
+overflow_add-at c = let i = c.before.before in let r = room i.before in omega (arith, i.loop-left-test.true)
 
-put-few-back-requires : tie.Need-put-few-back-requires invariant-loop decreases-loop
-put-few-back-requires c κs = let i = c.before.before in let r = room i.before in (omega arith, omega (arith, i.loop-test.true))
+put_few_back-requires : tie.Need-put_few_back-requires invariant-loop-left decreases-loop-left
+put_few_back-requires c κs = let i = c.before.before in let r = room i.before in (omega arith, omega (arith, i.loop-left-test.true))
 
-add-j : tie.Need-overflow-add-j invariant-loop decreases-loop
-add-j c = let i = I c in let b = bytes i.before in omega (arith, i.loop-test.taken)
+overflow_add-j : tie.Need-overflow_add-j invariant-loop-left decreases-loop-left
+overflow_add-j c = let i = I c in let b = bytes i.before in omega (arith, i.loop-left-test.true)
 
-loop-less : tie.Need-loop-smaller invariant-loop decreases-loop
-loop-less c = omega (arith, (I c).loop-test.true)
+loop-left-smaller : tie.Need-loop-left-smaller invariant-loop-left decreases-loop-left
+loop-left-smaller c = omega (arith, (I c).loop-test.true)
 
-loop-again : tie.Need-loop-preserved invariant-loop decreases-loop
-loop-again c = let i = I c in turning_more i.before.loop.inv 1 _ (omega (arith, i.loop-test.taken)) c.before.put-few-back.ensures c.before.before.before.few-at.ensures.0
+loop-left-preserved : tie.Need-loop-left-preserved invariant-loop-left decreases-loop-left
+loop-left-preserved c = let i = I c in turning_more i.loop-left.invariant 1 _ (omega (arith, i.loop-left-test.true)) c.put_few_back.ensures c.few_at.ensures.0
 
-same_length : tie.Need-same-length invariant-loop decreases-loop
-same_length c = c.before.before.loop.invariant.same
+shape_of-out-then-left-eq0 : tie.Need-shape_of-out-then-left-eq0 invariant-loop-left decreases-loop-left
+shape_of-out-then-left-eq0 c = c.loop-left.invariant.same
 
-returns : tie.Need-returns invariant-loop decreases-loop
-returns c = turning_none c.before.before.loop.invariant c.if1.true
+returns-then-left-eq0 : tie.Need-returns-then-left-eq0 invariant-loop-left decreases-loop-left
+returns-then-left-eq0 c = turning_none c.loop-left.invariant c.if-left-eq0.true
 
-few-at-requires-2 : tie.Need-few-at-requires-2 invariant-loop decreases-loop
-few-at-requires-2 c κs = (c.before.before.before.before.requires.0, (omega (arith, c.if1.false), (omega (arith, c.before.loop-test.false), bytes c.before.before)))
+few_at-requires-2 : tie.Need-few_at-requires-2 invariant-loop-left decreases-loop-left
+few_at-requires-2 c κs = (c.requires.0, (omega (arith, c.if-left-eq0.false), (omega (arith, c.loop-left-test.false), bytes c.before.before)))
 
-cast-put-few-back-2 : tie.Need-overflow-cast-put-few-back-2 invariant-loop decreases-loop
-cast-put-few-back-2 c = omega (arith, c.few-at2.type-inv)
+overflow_cast-few_at-2 : tie.Need-overflow_cast-few_at-2 invariant-loop-left decreases-loop-left
+overflow_cast-few_at-2 c = omega (arith, c.few_at-2.type_inv)
 
-put-few-back-requires-2 : tie.Need-put-few-back-requires-2 invariant-loop decreases-loop
-put-few-back-requires-2 c κs = let a = c.before.before.before in let r = room a.before in (omega (arith, a.loop-test.false), omega arith)
+put_few_back-requires-2 : tie.Need-put_few_back-requires-2 invariant-loop-left decreases-loop-left
+put_few_back-requires-2 c κs = let a = c.before.before.before in let r = room a.before in (omega (arith, a.loop-left-test.false), omega arith)
 
-same-length-2 : tie.Need-same-length-2 invariant-loop decreases-loop
-same-length-2 c = c.before.put-few-back2.auto.1.1.0 ∙ (R c).before.before.loop.invariant.same
+shape_of-out : tie.Need-shape_of-out invariant-loop-left decreases-loop-left
+shape_of-out c = c.put_few_back-2.auto.out ∙ (R c).before.before.loop.invariant.same
 
-returns-2 : tie.Need-returns-2 invariant-loop decreases-loop
-returns-2 c = turning_last (R c).before.before.loop.invariant _ c.before.put-few-back2.ensures c.before.before.before.few-at2.ensures.0
+returns : tie.Need-returns invariant-loop-left decreases-loop-left
+returns c = turning_last (R c).before.before.loop.invariant _ c.put_few_back-2.ensures c.few_at-2.ensures.0
 
 pub put_eights_back_spec : {M : Type 1} → statement M
 put_eights_back_spec =
     tie.close
     (tie.spec
-    invariant-loop
-    decreases-loop
-    loop-holds
-    sub-left
-    few-at-requires
-    cast-put-few-back
-    add-put-few-back
-    put-few-back-requires
-    add-j
-    loop-less
-    loop-again
-    same_length
-    returns
-    few-at-requires-2
-    cast-put-few-back-2
-    put-few-back-requires-2
-    same-length-2
-    returns-2)
+    invariant-loop-left
+    decreases-loop-left
+    loop-left-init
+    overflow_sub-left
+    few_at-requires
+    overflow_cast-few_at
+    overflow_add-at
+    put_few_back-requires
+    overflow_add-j
+    loop-left-smaller
+    loop-left-preserved
+    shape_of-out-then-left-eq0
+    returns-then-left-eq0
+    few_at-requires-2
+    overflow_cast-few_at-2
+    put_few_back-requires-2
+    shape_of-out
+    returns)

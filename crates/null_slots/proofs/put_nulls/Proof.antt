@@ -7,69 +7,69 @@ use Rattle.null_slots.proofs.NulledLaws.{Nulling, nulling_begun, nulling_bytes, 
 use Rattle.null_slots.proofs.put_nulls.Statement.{statement}
 use Rattle.null_slots.proofs.put_nulls.Tie as tie
 
-abbrev invariant-loop : tie.invariant-loop
-invariant-loop bits k s n out₀ at j₀ p₀ left₀ out j p left = Nulling bits k s n out₀ at out j p left
+abbrev invariant-loop-left : tie.invariant-loop-left
+invariant-loop-left bits k s n out₀ at j₀ p₀ left₀ out j p left = Nulling bits k s n out₀ at out j p left
 
-abbrev decreases-loop : tie.decreases-loop
-decreases-loop bits k s n out₀ at j₀ p₀ left₀ out j p left = left
+abbrev decreases-loop-left : tie.decreases-loop-left
+decreases-loop-left bits k s n out₀ at j₀ p₀ left₀ out j p left = left
 
 -- the places: where the loop's test is reached, in the loop, and at its end
-module _ (l : tie.At-loop invariant-loop decreases-loop) where
-  bytes : bytes_for (8 * l.loop.j + l.before.before.args.s + l.loop.left) ≤ length l.before.before.args.bits.now
-  bytes = nulling_bytes l.loop.invariant l.before.before.requires.1.0
+module _ (l : tie.At-loop-left invariant-loop-left decreases-loop-left) where
+  bytes : bytes_for (8 * l.loop-left.j + l.args.s + l.loop-left.left) ≤ length l.args.bits.now
+  bytes = nulling_bytes l.loop-left.invariant l.requires.1.0
 
-  room : l.loop.p + l.loop.left ≤ length l.loop.out
-  room = nulling_room l.loop.inv l.before.before.pre.1.1
+  room : l.loop-left.p + l.loop-left.left ≤ length l.loop-left.out
+  room = nulling_room l.loop-left.invariant l.requires.1.1
 
-abbrev I : tie.After-out invariant-loop decreases-loop → tie.In-loop invariant-loop decreases-loop
+abbrev I : tie.After-out-1 invariant-loop-left decreases-loop-left → tie.In-loop-left invariant-loop-left decreases-loop-left
 I c = c.before.before.before.before
 
-abbrev L : tie.After-out2 invariant-loop decreases-loop → tie.At-loop invariant-loop decreases-loop
+abbrev L : tie.After-out-2-1 invariant-loop-left decreases-loop-left → tie.At-loop-left invariant-loop-left decreases-loop-left
 L c = c.before.before.before.before
 
-loop-holds : tie.Need-loop-init invariant-loop decreases-loop
-loop-holds c = nulling_begun
+loop-left-init : tie.Need-loop-left-init invariant-loop-left decreases-loop-left
+loop-left-init c = nulling_begun
 
-word-from-requires : tie.Need-word-from-requires invariant-loop decreases-loop
-word-from-requires c κs = let b = bytes c.before in (omega (arith, c.before.before.before.requires.0), omega (arith, c.loop-test.true))
+word_from-requires : tie.Need-word_from-requires invariant-loop-left decreases-loop-left
+word_from-requires c κs = let b = bytes c.before in (omega (arith, c.requires.0), omega (arith, c.loop-left-test.true))
 
-put-few-requires : tie.Need-put-few-requires invariant-loop decreases-loop
-put-few-requires c κs = let i = c.before.before in let r = room i.before in (omega arith, omega (arith, i.loop-test.true))
+put_few-requires : tie.Need-put_few-requires invariant-loop-left decreases-loop-left
+put_few-requires c κs = let i = c.before.before in let r = room i.before in (omega arith, omega (arith, i.loop-left-test.true))
 
-add-j : tie.Need-overflow-add-j invariant-loop decreases-loop
-add-j c = let i = I c in let b = bytes i.before in omega (arith, i.loop-test.taken)
+overflow_add-j : tie.Need-overflow_add-j invariant-loop-left decreases-loop-left
+overflow_add-j c = let i = I c in let b = bytes i.before in omega (arith, i.loop-left-test.true)
 
-add-p : tie.Need-overflow-add-p invariant-loop decreases-loop
-add-p c = let i = I c in let r = room i.before in omega (arith, i.loop-test.taken)
+overflow_add-p : tie.Need-overflow_add-p invariant-loop-left decreases-loop-left
+overflow_add-p c = let i = I c in let r = room i.before in omega (arith, i.loop-left-test.true)
 
-loop-less : tie.Need-loop-smaller invariant-loop decreases-loop
-loop-less c = omega (arith, (I c).loop-test.true)
+loop-left-smaller : tie.Need-loop-left-smaller invariant-loop-left decreases-loop-left
+loop-left-smaller c = omega (arith, (I c).loop-test.true)
 
-loop-again : tie.Need-loop-preserved invariant-loop decreases-loop
-loop-again c = let i = I c in nulling_more i.before.loop.inv 8 _ i.loop-test.taken c.before.put-few.ensures c.before.before.before.word-from.ensures
+loop-left-preserved : tie.Need-loop-left-preserved invariant-loop-left decreases-loop-left
+loop-left-preserved c = let i = I c in nulling_more i.loop-left.invariant 8 _ i.loop-left-test.true c.put_few.ensures c.word_from.ensures
 
-put-eights-requires : tie.Need-put-eights-requires invariant-loop decreases-loop
-put-eights-requires c κs = let l = c.before.before in (l.before.before.requires.0, (bytes l, room l))
+put_eights-requires : tie.Need-put_eights-requires invariant-loop-left decreases-loop-left
+put_eights-requires c κs = let l = c.before.before in (l.requires.0, (bytes l, room l))
 
-same_length : tie.Need-same-length invariant-loop decreases-loop
-same_length c = c.before.put-eights.auto.1.1.1.1.0 ∙ (L c).loop.invariant.same
+shape_of-out : tie.Need-shape_of-out invariant-loop-left decreases-loop-left
+shape_of-out c = c.put_eights.auto.out ∙ (L c).loop.invariant.same
 
-returns : tie.Need-returns invariant-loop decreases-loop
-returns c = nulling_rest (L c).loop.invariant c.before.put-eights.ensures
+returns : tie.Need-returns invariant-loop-left decreases-loop-left
+returns c = nulling_rest (L c).loop.invariant c.put_eights.ensures
 
 pub put_nulls_spec : {M : Type 1} → statement M
 put_nulls_spec =
     tie.close
     (tie.spec
-    invariant-loop
-    decreases-loop
-    loop-holds
-    word-from-requires
-    put-few-requires
-    add-j
-    add-p
-    loop-less
-    loop-again
-    put-eights-requires
-    same_length
+    invariant-loop-left
+    decreases-loop-left
+    loop-left-init
+    word_from-requires
+    put_few-requires
+    overflow_add-j
+    overflow_add-p
+    loop-left-smaller
+    loop-left-preserved
+    put_eights-requires
+    shape_of-out
     returns)

@@ -7,69 +7,69 @@ use Rattle.null_slots.proofs.NulledLaws.{NullingBack, turning_begun, turning_byt
 use Rattle.null_slots.proofs.put_nulls_back.Statement.{statement}
 use Rattle.null_slots.proofs.put_nulls_back.Tie as tie
 
-abbrev invariant-loop : tie.invariant-loop
-invariant-loop bits k s n out₀ at j₀ left₀ out j left = NullingBack bits k s n out₀ at out j left
+abbrev invariant-loop-left : tie.invariant-loop-left
+invariant-loop-left bits k s n out₀ at j₀ left₀ out j left = NullingBack bits k s n out₀ at out j left
 
-abbrev decreases-loop : tie.decreases-loop
-decreases-loop bits k s n out₀ at j₀ left₀ out j left = left
+abbrev decreases-loop-left : tie.decreases-loop-left
+decreases-loop-left bits k s n out₀ at j₀ left₀ out j left = left
 
 -- the places: where the loop's test is reached, in the loop, and at its end
-module _ (l : tie.At-loop invariant-loop decreases-loop) where
-  bytes : bytes_for (8 * l.loop.j + l.before.before.args.s + l.loop.left) ≤ length l.before.before.args.bits.now
-  bytes = turning_bytes l.loop.invariant l.before.before.requires.1.0
+module _ (l : tie.At-loop-left invariant-loop-left decreases-loop-left) where
+  bytes : bytes_for (8 * l.loop-left.j + l.args.s + l.loop-left.left) ≤ length l.args.bits.now
+  bytes = turning_bytes l.loop-left.invariant l.requires.1.0
 
-  room : l.before.before.args.at + l.loop.left ≤ length l.loop.out
-  room = turning_room l.loop.inv l.before.before.pre.1.1
+  room : l.args.at + l.loop-left.left ≤ length l.loop-left.out
+  room = turning_room l.loop-left.invariant l.requires.1.1
 
-abbrev I : tie.After-out invariant-loop decreases-loop → tie.In-loop invariant-loop decreases-loop
+abbrev I : tie.After-out-1 invariant-loop-left decreases-loop-left → tie.In-loop-left invariant-loop-left decreases-loop-left
 I c = c.before.before.before.before
 
-abbrev L : tie.After-out2 invariant-loop decreases-loop → tie.At-loop invariant-loop decreases-loop
+abbrev L : tie.After-out-2-1 invariant-loop-left decreases-loop-left → tie.At-loop-left invariant-loop-left decreases-loop-left
 L c = c.before.before.before.before
 
-loop-holds : tie.Need-loop-init invariant-loop decreases-loop
-loop-holds c = turning_begun
+loop-left-init : tie.Need-loop-left-init invariant-loop-left decreases-loop-left
+loop-left-init c = turning_begun
 
-word-from-requires : tie.Need-word-from-requires invariant-loop decreases-loop
-word-from-requires c κs = let b = bytes c.before in (omega (arith, c.before.before.before.requires.0), omega (arith, c.loop-test.true))
+word_from-requires : tie.Need-word_from-requires invariant-loop-left decreases-loop-left
+word_from-requires c κs = let b = bytes c.before in (omega (arith, c.requires.0), omega (arith, c.loop-left-test.true))
 
-add-put-few-back : tie.Need-overflow-add-put-few-back invariant-loop decreases-loop
-add-put-few-back c = let i = c.before.before in let r = room i.before in omega (arith, i.loop-test.true)
+overflow_add-at : tie.Need-overflow_add-at invariant-loop-left decreases-loop-left
+overflow_add-at c = let i = c.before.before in let r = room i.before in omega (arith, i.loop-left-test.true)
 
-put-few-back-requires : tie.Need-put-few-back-requires invariant-loop decreases-loop
-put-few-back-requires c κs = let i = c.before.before in let r = room i.before in (omega arith, omega (arith, i.loop-test.true))
+put_few_back-requires : tie.Need-put_few_back-requires invariant-loop-left decreases-loop-left
+put_few_back-requires c κs = let i = c.before.before in let r = room i.before in (omega arith, omega (arith, i.loop-left-test.true))
 
-add-j : tie.Need-overflow-add-j invariant-loop decreases-loop
-add-j c = let i = I c in let b = bytes i.before in omega (arith, i.loop-test.taken)
+overflow_add-j : tie.Need-overflow_add-j invariant-loop-left decreases-loop-left
+overflow_add-j c = let i = I c in let b = bytes i.before in omega (arith, i.loop-left-test.true)
 
-loop-less : tie.Need-loop-smaller invariant-loop decreases-loop
-loop-less c = omega (arith, (I c).loop-test.true)
+loop-left-smaller : tie.Need-loop-left-smaller invariant-loop-left decreases-loop-left
+loop-left-smaller c = omega (arith, (I c).loop-test.true)
 
-loop-again : tie.Need-loop-preserved invariant-loop decreases-loop
-loop-again c = let i = I c in turning_more i.before.loop.inv 8 _ i.loop-test.taken c.before.put-few-back.ensures c.before.before.before.word-from.ensures
+loop-left-preserved : tie.Need-loop-left-preserved invariant-loop-left decreases-loop-left
+loop-left-preserved c = let i = I c in turning_more i.loop-left.invariant 8 _ i.loop-left-test.true c.put_few_back.ensures c.word_from.ensures
 
-put-eights-back-requires : tie.Need-put-eights-back-requires invariant-loop decreases-loop
-put-eights-back-requires c κs = let l = c.before.before in (l.before.before.requires.0, (bytes l, room l))
+put_eights_back-requires : tie.Need-put_eights_back-requires invariant-loop-left decreases-loop-left
+put_eights_back-requires c κs = let l = c.before.before in (l.requires.0, (bytes l, room l))
 
-same_length : tie.Need-same-length invariant-loop decreases-loop
-same_length c = c.before.put-eights-back.auto.1.1.1.1.0 ∙ (L c).loop.invariant.same
+shape_of-out : tie.Need-shape_of-out invariant-loop-left decreases-loop-left
+shape_of-out c = c.put_eights_back.auto.out ∙ (L c).loop.invariant.same
 
-returns : tie.Need-returns invariant-loop decreases-loop
-returns c = turning_rest (L c).loop.invariant c.before.put-eights-back.ensures
+returns : tie.Need-returns invariant-loop-left decreases-loop-left
+returns c = turning_rest (L c).loop.invariant c.put_eights_back.ensures
 
 pub put_nulls_back_spec : {M : Type 1} → statement M
 put_nulls_back_spec =
     tie.close
     (tie.spec
-    invariant-loop
-    decreases-loop
-    loop-holds
-    word-from-requires
-    add-put-few-back
-    put-few-back-requires
-    add-j
-    loop-less
-    loop-again
-    put-eights-back-requires
-    same_length
+    invariant-loop-left
+    decreases-loop-left
+    loop-left-init
+    word_from-requires
+    overflow_add-at
+    put_few_back-requires
+    overflow_add-j
+    loop-left-smaller
+    loop-left-preserved
+    put_eights_back-requires
+    shape_of-out
     returns)

@@ -8,57 +8,57 @@ use Rattle.nullable_runs.proofs.put_bits.Tie as tie
 
 -- ---- places: the start, and what stands before a short run
 
-abbrev start : tie.Then1 → tie.Start
+abbrev start : tie.Then-n-gt8 → tie.Start
 start t = t.before.before.before
 
-abbrev nulls : tie.After-push-copied → tie.After-put-nulls
+abbrev nulls : tie.After-push_copied → tie.After-put_nulls
 nulls p = p.before.before.before
 
-put-nulls-requires : tie.Need-put-nulls-requires
-put-nulls-requires c κs = let p = (start c.before).requires in (p.0, (p.1.0, p.1.1.0))
+put_nulls-requires : tie.Need-put_nulls-requires
+put_nulls-requires c κs = let p = (start c.before).requires in (p.0, (p.1.0, p.1.1.0))
 
-push-copied-requires : tie.Need-push-copied-requires
-push-copied-requires c κs = let p = (start c.before.before.before.before).requires in (p.0, (p.1.0, (p.1.1.1.0, p.1.1.1.1)))
+push_copied-requires : tie.Need-push_copied-requires
+push_copied-requires c κs = let p = (start c.before.before.before.before).requires in (p.0, (p.1.0, (p.1.1.1.0, p.1.1.1.1)))
 
-same_length : tie.Need-same-length
-same_length c = (nulls c.before.before).put-nulls.auto.1.1.1.1.0
+shape_of-out_values-then-n-gt8 : tie.Need-shape_of-out_values-then-n-gt8
+shape_of-out_values-then-n-gt8 c = (nulls c.before.before).put-nulls.auto.1.1.1.1.0
 
-same-length-2 : tie.Need-same-length-2
-same-length-2 c = c.before.before.push-copied.auto.1.1.1.1.0
+shape_of-out_elements-then-n-gt8 : tie.Need-shape_of-out_elements-then-n-gt8
+shape_of-out_elements-then-n-gt8 c = c.push_copied.auto.out
+
+returns-then-n-gt8 : tie.Need-returns-then-n-gt8
+returns-then-n-gt8 c = ((nulls c.before.before).put-nulls.ensures, c.push_copied.ensures)
+
+returns-then-n-eq0 : tie.Need-returns-then-n-eq0
+unfolding tab nulled push_bits
+returns-then-n-eq0 c = rw c.if-n-eq0.true (refl, refl)
+
+put_short-requires : tie.Need-put_short-requires
+put_short-requires c κs =
+    let e = c.before.before in
+    let p = e.requires in
+    (p.0, (omega (arith, e.if-n-eq0.false), (omega (arith, e.if-n-gt8.false), (p.1.0, (p.1.1.0, p.1.1.1.0)))))
+
+shape_of-out_values : tie.Need-shape_of-out_values
+shape_of-out_values c = c.put_short.auto.out_values
+
+shape_of-out_elements : tie.Need-shape_of-out_elements
+shape_of-out_elements c = c.put_short.auto.out_elements
 
 returns : tie.Need-returns
-returns c = ((nulls c.before.before).put-nulls.ensures, c.before.before.push-copied.ensures)
-
-returns-2 : tie.Need-returns-2
-unfolding tab nulled push_bits
-returns-2 c = rw c.if2.true (refl, refl)
-
-put-short-requires : tie.Need-put-short-requires
-put-short-requires c κs =
-    let e = c.before.before in
-    let p = e.before.before.before.before.requires in
-    (p.0, (omega (arith, e.if2.false), (omega (arith, e.before.if1.false), (p.1.0, (p.1.1.0, p.1.1.1.0)))))
-
-same-length-3 : tie.Need-same-length-3
-same-length-3 c = c.before.before.before.put-short.auto.1.1.1.1.0
-
-same-length-4 : tie.Need-same-length-4
-same-length-4 c = c.before.before.before.put-short.auto.1.1.1.1.1.0
-
-returns-3 : tie.Need-returns-3
-returns-3 c = c.before.before.before.put-short.ensures
+returns c = c.put_short.ensures
 
 pub put_bits_spec : {M : Type 1} → statement M
 put_bits_spec =
     tie.close
     (tie.spec
-    put-nulls-requires
-    push-copied-requires
-    same_length
-    same-length-2
-    returns
-    returns-2
-    put-short-requires
-    same-length-3
-    same-length-4
-    returns-3)
+    put_nulls-requires
+    push_copied-requires
+    shape_of-out_values-then-n-gt8
+    shape_of-out_elements-then-n-gt8
+    returns-then-n-gt8
+    returns-then-n-eq0
+    put_short-requires
+    shape_of-out_values
+    shape_of-out_elements
+    returns)

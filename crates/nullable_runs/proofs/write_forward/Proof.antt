@@ -16,57 +16,57 @@ use Rattle.nullable_runs.proofs.write_forward.Tie as tie
 
 -- ---- places: the start, the byte and the first bit of the run, and its values, from what comes after
 
-abbrev start-of-bits : tie.After-start-from → tie.Start
+abbrev start-of-bits : tie.After-start_from-first → tie.Start
 start-of-bits p = p.before.before.before.before
 
-abbrev values-of-bits : tie.After-put-bits → tie.After-copy-values
+abbrev values-of-bits : tie.After-put_bits → tie.After-copy_values
 values-of-bits p = p.before.before.before.before
 
-abbrev bits-of-values : tie.After-copy-values → tie.After-start-from
+abbrev bits-of-values : tie.After-copy_values → tie.After-start_from-first
 bits-of-values p = p.before.before
 
 module _ (s : tie.Start) where
   -- room for the values and the bits
-  many : (s.args.at + s.args.n ≤ length s.args.out-values.now) × (bytes_for (s.args.at + s.args.n) ≤ length s.args.out-elements.now)
+  many : (s.args.at + s.args.n ≤ length s.args.out_values.now) × (bytes_for (s.args.at + s.args.n) ≤ length s.args.out_elements.now)
   many =
       let l = length-tab (elem_at s.args.values.now (from s.args.estart s.args.elements.now)) s.args.a s.args.n in
       (omega (arith, s.requires.1.0.values), omega (arith, s.requires.1.0.elements))
 
 -- the byte and the bit are where the run starts
-stands : (b : tie.After-start-from) → let s = start-of-bits b in 8 * b.before.byte-from.result + b.start-from.result ≡ s.args.estart + s.args.a
-stands b = omega (arith, b.before.byte-from.ensures, b.start-from.ensures)
+stands : (b : tie.After-start_from-first) → let s = start-of-bits b in 8 * b.byte_from-byte.result + b.start_from-first.result ≡ s.args.estart + s.args.a
+stands b = omega (arith, b.byte_from-byte.ensures, b.start_from-first.ensures)
 
 -- the bitmap has the run's bits
-covered : (b : tie.After-start-from) → let s = start-of-bits b in bytes_for (8 * b.before.byte-from.result + b.start-from.result + s.args.n) ≤ length s.args.elements.now
+covered : (b : tie.After-start_from-first) → let s = start-of-bits b in bytes_for (8 * b.byte_from-byte.result + b.start_from-first.result + s.args.n) ≤ length s.args.elements.now
 covered b =
     let s = start-of-bits b in
-    let l = long (from s.args.estart s.args.elements.now) (length s.args.values.now) s.pre.0.bits (λ z. omega (arith, s.pre.1.1)) in
-    omega (arith, stands b, s.pre.0.inside)
+    let l = long (from s.args.estart s.args.elements.now) (length s.args.values.now) s.requires.0.bits (λ z. omega (arith, s.requires.1.1)) in
+    omega (arith, stands b, s.requires.0.inside)
 
-byte-from-requires : tie.Need-byte-from-requires
-byte-from-requires c κs = c.before.before.requires.0.bits.small
+byte_from-byte-requires : tie.Need-byte_from-byte-requires
+byte_from-byte-requires c κs = c.requires.0.bits.small
 
-start-from-requires : tie.Need-start-from-requires
-start-from-requires c κs = c.before.before.before.requires.0.bits.small
+start_from-first-requires : tie.Need-start_from-first-requires
+start_from-first-requires c κs = c.requires.0.bits.small
 
-copy-values-requires : tie.Need-copy-values-requires
-copy-values-requires c κs = let s = start-of-bits c.before in (s.pre.0.inside, (many s).0)
+copy_values-requires : tie.Need-copy_values-requires
+copy_values-requires c κs = let s = start-of-bits c.before in (s.requires.0.inside, (many s).0)
 
-put-bits-requires : tie.Need-put-bits-requires
-put-bits-requires c κs =
+put_bits-requires : tie.Need-put_bits-requires
+put_bits-requires c κs =
     let v = c.before.before.before in
     let b = bits-of-values v in
     let m = many (start-of-bits b) in
-    (omega (arith, b.start-from.ensures), (covered b, (omega (arith, m.0, v.copy-values.auto.1.1.1.0), (m.1, omega (arith, m.0, b.before.before)))))
+    (omega (arith, b.start_from-first.ensures), (covered b, (omega (arith, m.0, v.copy_values.auto.out), (m.1, omega (arith, m.0, b.before.before)))))
 
-add-result : tie.Need-overflow-add-result
-add-result c = let b = bits-of-values (values-of-bits c.before.before.before) in omega (arith, (many (start-of-bits b)).0, b.before.before)
+overflow_add-result : tie.Need-overflow_add-result
+overflow_add-result c = let b = bits-of-values (values-of-bits c.before.before.before) in omega (arith, (many (start-of-bits b)).0, b.before.before)
 
-same_length : tie.Need-same-length
-same_length c = let p = c.before.before.before in p.put-bits.auto.1.1.1.1.0 ∙ (values-of-bits p).copy-values.auto.1.1.1.0
+shape_of-out_values : tie.Need-shape_of-out_values
+shape_of-out_values c = let p = c.before.before.before in p.put_bits.auto.out_values ∙ (values-of-bits p).copy-values.auto.1.1.1.0
 
-same-length-2 : tie.Need-same-length-2
-same-length-2 c = c.before.before.before.put-bits.auto.1.1.1.1.1.0
+shape_of-out_elements : tie.Need-shape_of-out_elements
+shape_of-out_elements c = c.put_bits.auto.out_elements
 
 returns : tie.Need-returns
 returns c =
@@ -74,19 +74,19 @@ returns c =
     let v = values-of-bits p in
     let b = bits-of-values v in
     let s = start-of-bits b in
-    nullable_written s.args.values.now s.args.elements.now s.args.estart b.before.byte-from.result b.start-from.result s.args.a (λ z. omega (arith, s.pre.1.1)) (stands b) s.args.n s.args.at
-    (p.put-bits.ensures.0 ∙ ap (λ (r : List ℤ). nulled r s.args.at (tab (bit_at s.args.elements.now) (8 * b.before.byte-from.result + b.start-from.result) s.args.n)) v.copy-values.ensures)
-    p.put-bits.ensures.1
+    nullable_written s.args.values.now s.args.elements.now s.args.estart b.byte_from-byte.result b.start_from-first.result s.args.a (λ z. omega (arith, s.requires.1.1)) (stands b) s.args.n s.args.at
+    (p.put_bits.ensures.0 ∙ ap (λ (r : List ℤ). nulled r s.args.at (tab (bit_at s.args.elements.now) (8 * b.byte_from-byte.result + b.start_from-first.result) s.args.n)) v.copy_values.ensures)
+    p.put_bits.ensures.1
 
 pub write_forward_spec : {M : Type 1} → statement M
 write_forward_spec =
     tie.close
     (tie.spec
-    byte-from-requires
-    start-from-requires
-    copy-values-requires
-    put-bits-requires
-    add-result
-    same_length
-    same-length-2
+    byte_from-byte-requires
+    start_from-first-requires
+    copy_values-requires
+    put_bits-requires
+    overflow_add-result
+    shape_of-out_values
+    shape_of-out_elements
     returns)

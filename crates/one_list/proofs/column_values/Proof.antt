@@ -4,51 +4,51 @@ use Prim.Native.Nat.{◌+◌, ◌-◌}
 use Rattle.one_list.proofs.column_values.Statement.{statement}
 use Rattle.one_list.proofs.column_values.Tie as tie
 
-add-result : tie.Need-overflow-add-result
-add-result c = let h = rw c.if1.true at c.before.requires in omega arith
+overflow_add-result : tie.Need-overflow_add-result
+overflow_add-result c = let h = rw c.if-used.true at c.requires in omega arith
 
-mul-result : tie.Need-overflow-mul-result
-mul-result c = omega arith
+offset_bounds-args-a : tie.Need-offset_bounds-args-a
+offset_bounds-args-a c = omega arith
 
-sub-result : tie.Need-overflow-sub-result
-sub-result c = omega arith
+slice_bounds-result-count : tie.Need-slice_bounds-result-count
+slice_bounds-result-count c = omega arith
 
-part-result-start : tie.Need-slice-bounds-result-start
-part-result-start c = omega arith
+slice_bounds-result-start : tie.Need-slice_bounds-result-start
+slice_bounds-result-start c = omega arith
 
-part-result-end : tie.Need-slice-bounds-result-end
-part-result-end c = let h = rw c.if1.true at c.before.requires in omega arith
+slice_bounds-result-end : tie.Need-slice_bounds-result-end
+slice_bounds-result-end c = let h = rw c.if-used.true at c.requires in omega arith
+
+returns-then-used : tie.Need-returns-then-used
+returns-then-used c = let a = c.args in let e : a.a + a.n - a.a ≡ a.n = omega arith in rw (c.if-used.true, e)
+
+offset_bounds-args-a-2 : tie.Need-offset_bounds-args-a-2
+offset_bounds-args-a-2 c = omega arith
+
+slice_bounds-result-count-2 : tie.Need-slice_bounds-result-count-2
+slice_bounds-result-count-2 c = omega arith
+
+slice_bounds-result-start-2 : tie.Need-slice_bounds-result-start-2
+slice_bounds-result-start-2 c = omega arith
+
+slice_bounds-result-end-2 : tie.Need-slice_bounds-result-end-2
+slice_bounds-result-end-2 c = omega arith
 
 returns : tie.Need-returns
-returns c = let a = c.before.before.args in let e : a.a + a.n - a.a ≡ a.n = omega arith in rw (c.before.if1.true, e)
+returns c = let a = c.args in let e : a.a - a.a ≡ 0 = omega arith in rw (c.if-used.false, e)
 
-mul-result-2 : tie.Need-overflow-mul-result-2
-mul-result-2 c = omega arith
-
-sub-result-2 : tie.Need-overflow-sub-result-2
-sub-result-2 c = omega arith
-
-part-result-start-2 : tie.Need-slice-bounds-result-start-2
-part-result-start-2 c = omega arith
-
-part-result-end-2 : tie.Need-slice-bounds-result-end-2
-part-result-end-2 c = omega arith
-
-returns-2 : tie.Need-returns-2
-returns-2 c = let a = c.before.before.args in let e : a.a - a.a ≡ 0 = omega arith in rw (c.before.if1.false, e)
-
-pub column-values_spec : {M : Type 1} → statement M
-column-values_spec =
+pub column_values_spec : {M : Type 1} → statement M
+column_values_spec =
     tie.close
     (tie.spec
-    add-result
-    mul-result
-    sub-result
-    part-result-start
-    part-result-end
-    returns
-    mul-result-2
-    sub-result-2
-    part-result-start-2
-    part-result-end-2
-    returns-2)
+    overflow_add-result
+    offset_bounds-args-a
+    slice_bounds-result-count
+    slice_bounds-result-start
+    slice_bounds-result-end
+    returns-then-used
+    offset_bounds-args-a-2
+    slice_bounds-result-count-2
+    slice_bounds-result-start-2
+    slice_bounds-result-end-2
+    returns)

@@ -11,42 +11,48 @@ use Rattle.recipe_bytes.proofs.get_numbers.Tie as tie
 
 -- ---- how many are taken, of the bytes at the start
 
-module _ (t : tie.After-numbers-taken) where
+module _ (t : tie.After-numbers_taken-n) where
   abbrev S : tie.Start
   S = t.before.before.before
 
   abbrev n : ℕ
-  n = t.numbers-taken.result
+  n = t.numbers_taken-n.result
 
   some : (n ≤ length S.args.numbers.now / 4) × (n ≤ most_numbers)
-  some = few S.args.numbers.now n t.numbers-taken.ensures
+  some = few S.args.numbers.now n t.numbers_taken-n.ensures
 
   whole : length (take (n * 4) S.args.numbers.now) ≡ n * 4
-  whole = front_length S.args.numbers.now n t.numbers-taken.ensures
+  whole = front_length S.args.numbers.now n t.numbers_taken-n.ensures
 
 -- ---- needs
 
-numbers-taken-requires : tie.Need-numbers-taken-requires
-numbers-taken-requires c κs = tt
+numbers_taken-n-requires : tie.Need-numbers_taken-n-requires
+numbers_taken-n-requires c κs = tt
 
-mul-fill-u32 : tie.Need-overflow-mul-fill-u32
-mul-fill-u32 c = omega (arith, (some c).1)
+overflow_mul-n : tie.Need-overflow_mul-n
+overflow_mul-n c = omega (arith, (some c).1)
 
-slice-aggregate-fill-u32 : tie.Need-slice-aggregate-fill-u32
-slice-aggregate-fill-u32 c = sym (whole c.before)
+slice_bounds-fill_u32-end : tie.Need-slice_bounds-fill_u32-end
+slice_bounds-fill_u32-end c = sym (whole c.before)
 
-fill-u32-requires : tie.Need-fill-u32-requires
-fill-u32-requires c κs = let t = c.before.before in let e = whole t in omega (arith, e, (some t).1, (S t).requires)
+fill_u32-requires : tie.Need-fill_u32-requires
+fill_u32-requires c κs = let t = c.before.before in let e = whole t in omega (arith, e, (some t).1, (S t).requires)
 
-same_length : tie.Need-same-length
-same_length c = search rules
+shape_of-ns : tie.Need-shape_of-ns
+shape_of-ns c = search rules
 
 returns : tie.Need-returns
 returns c =
     let t = c.before.before.before.before.before in
-    fronts (S t).args.numbers.now (n t) t.numbers-taken.ensures _ c.before.before.fill-u32.ensures
+    fronts (S t).args.numbers.now (n t) t.numbers_taken-n.ensures _ c.fill_u32.ensures
 
 pub get_numbers_spec : {M : Type 1} → statement M
 get_numbers_spec =
     tie.close
-    (tie.spec numbers-taken-requires mul-fill-u32 slice-aggregate-fill-u32 fill-u32-requires same_length returns)
+    (tie.spec
+    numbers_taken-n-requires
+    overflow_mul-n
+    slice_bounds-fill_u32-end
+    fill_u32-requires
+    shape_of-ns
+    returns)

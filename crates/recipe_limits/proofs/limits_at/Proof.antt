@@ -18,101 +18,101 @@ use Rattle.recipe_limits.proofs.limits_at.Tie as tie
 
 -- ---- places: the start; what the refusal, the first list's rows and the number of rows came after
 
-abbrev S : tie.After-refusal → tie.Start
+abbrev S : tie.After-refusal-k → tie.Start
 S c = let k = c.before.before.before in k.before.before.before.before
 
-abbrev counted : tie.After-largest-offset → tie.After-row-count
+abbrev counted : tie.After-largest_offset-most → tie.After-row_count-n
 counted c = c.before
 
-abbrev first : tie.After-row-count → tie.After-measure-rows
+abbrev first : tie.After-row_count-n → tie.After-measure_rows-came
 first c = c.before.before.before
 
-abbrev unrefused : tie.After-row-count → tie.Else1
+abbrev unrefused : tie.After-row_count-n → tie.Else-k-ne0
 unrefused c = (first c).before
 
 -- ---- columns
 
 abbrev C : tie.Start → Column
-C s = let a = s.args in column (used a.width a.offsets.now a.large.now) (from a.rows_start a.rows.now) a.values.now (from a.elements-start a.elements.now)
+C s = let a = s.args in column (used a.width a.offsets.now a.large.now) (from a.rows_start a.rows.now) a.values.now (from a.elements_start a.elements.now)
 
 abbrev D : tie.Start → Column
-D s = let a = s.args in column (used a.width a.second-offsets.now a.second-large.now) (from a.second-rows-start a.second-rows.now) a.second-values.now (from a.second-elements-start a.second-elements.now)
+D s = let a = s.args in column (used a.width a.second_offsets.now a.second_large.now) (from a.second_rows_start a.second_rows.now) a.second_values.now (from a.second_elements_start a.second_elements.now)
 
 abbrev A : tie.Start → Arguments
-A s = arguments s.args.arguments.now (from s.args.argument-start s.args.argument-bits.now)
+A s = arguments s.args.arguments.now (from s.args.argument_start s.args.argument_bits.now)
 
 -- ---- a recipe that nothing refuses
 
-none-refused : (e : tie.Else1) → let s = S e.before in recipe_refusal (recipe s.args.numbers.now s.args.columns) (C s) (D s) (A s) ≡ 0
-none-refused e = sym e.before.refusal.ensures ∙ e.if1.false
+none-refused : (e : tie.Else-k-ne0) → let s = S e.before in recipe_refusal (recipe s.args.numbers.now s.args.columns) (C s) (D s) (A s) ≡ 0
+none-refused e = sym e.refusal-k.ensures ∙ e.if-k-ne0.false
 
-passes : (e : tie.Else1) → let s = S e.before in Passed s.args.numbers.now s.args.columns (C s) (D s) (A s)
+passes : (e : tie.Else-k-ne0) → let s = S e.before in Passed s.args.numbers.now s.args.columns (C s) (D s) (A s)
 passes e = let s = S e.before in passed s.args.numbers.now s.args.columns (C s) (D s) (A s) (none-refused e)
 
-reads : (e : tie.Else1) → let s = S e.before in Readable (C s) × Readable (D s)
+reads : (e : tie.Else-k-ne0) → let s = S e.before in Readable (C s) × Readable (D s)
 reads e = let s = S e.before in let b = both_formed (C s) (D s) (passes e).lists in (readable (C s) b.0, readable (D s) b.1)
 
-covers : (e : tie.Else1) → let s = S e.before in Covers (A s).bits (length (A s).values)
+covers : (e : tie.Else-k-ne0) → let s = S e.before in Covers (A s).bits (length (A s).values)
 unfolding refusal2ᵃ
 covers e = record { small = (passes e).small; long = (passes e).long }
 
 -- ---- needs
 
-refusal-requires : tie.Need-refusal-requires
-refusal-requires c κs = tt
+refusal-k-requires : tie.Need-refusal-k-requires
+refusal-k-requires c κs = tt
 
-returns : tie.Need-returns
+returns-then-k-ne0 : tie.Need-returns-then-k-ne0
 unfolding asked_recipe
-returns c = let s = S c.before in let a = s.args in limits-refused (limits_at a.width) a.numbers.now a.columns (C s) (D s) (A s) _ c.before.refusal.ensures c.if1.true
+returns-then-k-ne0 c = let s = S c.before in let a = s.args in limits-refused (limits_at a.width) a.numbers.now a.columns (C s) (D s) (A s) _ c.refusal-k.ensures c.if-k-ne0.true
 
-measure-rows-requires : tie.Need-measure-rows-requires
-measure-rows-requires c κs = (reads c).0
+measure_rows-came-requires : tie.Need-measure_rows-came-requires
+measure_rows-came-requires c κs = (reads c).0
 
-returns-2 : tie.Need-returns-2
+returns-then-steps-eq0 : tie.Need-returns-then-steps-eq0
 unfolding asked_recipe
-returns-2 c =
+returns-then-steps-eq0 c =
     let m = c.before in
     let s = S m.before.before in
     let a = s.args in
-    limits_copy (limits_at a.width) a.numbers.now a.columns (C s) (D s) (A s) (none-refused m.before) _ m.measure-rows.ensures.0 m.measure-rows.ensures.1 c.if2.true
+    limits_copy (limits_at a.width) a.numbers.now a.columns (C s) (D s) (A s) (none-refused m.before) _ m.measure_rows-came.ensures.0 m.measure_rows-came.ensures.1 c.if-steps-eq0.true
 
-measure-rows-requires-2 : tie.Need-measure-rows-requires-2
-measure-rows-requires-2 c κs = (reads c.before.before).1
+measure_rows-second-requires : tie.Need-measure_rows-second-requires
+measure_rows-second-requires c κs = (reads c.before.before).1
 
-row-count-requires : tie.Need-row-count-requires
-row-count-requires c κs = tt
+row_count-n-requires : tie.Need-row_count-n-requires
+row_count-n-requires c κs = tt
 
-largest-offset-requires : tie.Need-largest-offset-requires
-largest-offset-requires c κs = tt
+largest_offset-most-requires : tie.Need-largest_offset-most-requires
+largest_offset-most-requires c κs = tt
 
-steps-limits-requires : tie.Need-steps-limits-requires
-steps-limits-requires c κs =
+steps_limits-t-requires : tie.Need-steps_limits-t-requires
+steps_limits-t-requires c κs =
     let r = counted c in
     let e = unrefused r in
     let s = S e.before in
     let a = s.args in
-    (all_steps a.numbers.now a.columns r.row_count.result (length a.arguments.now) (passes e).formed ((passes e).many ∙ ap (λ (n : ℕ). a.columns * n) (sym r.row_count.ensures)) r.before.before.if2.left, (rw r.row_count.ensures (reads e).0.rows, (covers e, rw c.largest-offset.ensures (first r).measure-rows.ensures.1)))
+    (all_steps a.numbers.now a.columns r.row_count-n.result (length a.arguments.now) (passes e).formed ((passes e).many ∙ ap (λ (n : ℕ). a.columns * n) (sym r.row_count-n.ensures)) r.if-steps-eq0.false, (rw r.row_count-n.ensures (reads e).0.rows, (covers e, rw c.largest_offset-most.ensures (first r).measure-rows.ensures.1)))
 
-returns-3 : tie.Need-returns-3
+returns : tie.Need-returns
 unfolding asked_recipe
-returns-3 c =
+returns c =
     let r = counted c.before in
     let e = unrefused r in
     let s = S e.before in
     let a = s.args in
     let m = (first r).measure-rows in
-    limits_steps (limits_at a.width) a.numbers.now a.columns (C s) (D s) (A s) (none-refused e) _ m.ensures.0 m.ensures.1 r.row_count.result _ (limits_in c.steps-limits.result) r.row_count.ensures r.before.measure-rows2.ensures.0 r.before.before.if2.left (rw c.before.largest-offset.ensures at c.steps-limits.ensures)
+    limits_steps (limits_at a.width) a.numbers.now a.columns (C s) (D s) (A s) (none-refused e) _ m.ensures.0 m.ensures.1 r.row_count-n.result _ (limits_in c.steps_limits-t.result) r.row_count-n.ensures r.measure_rows-second.ensures.0 r.if-steps-eq0.false (rw c.largest_offset-most.ensures at c.steps_limits-t.ensures)
 
-pub limits-at_spec : {M : Type 1} → statement M
-limits-at_spec =
+pub limits_at_spec : {M : Type 1} → statement M
+limits_at_spec =
     tie.close
     (tie.spec
-    refusal-requires
-    returns
-    measure-rows-requires
-    returns-2
-    measure-rows-requires-2
-    row-count-requires
-    largest-offset-requires
-    steps-limits-requires
-    returns-3)
+    refusal-k-requires
+    returns-then-k-ne0
+    measure_rows-came-requires
+    returns-then-steps-eq0
+    measure_rows-second-requires
+    row_count-n-requires
+    largest_offset-most-requires
+    steps_limits-t-requires
+    returns)

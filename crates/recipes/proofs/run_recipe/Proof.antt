@@ -18,16 +18,16 @@ use Rattle.recipes.proofs.run_recipe.Tie as tie
 
 -- ---- places: tray two cleared, tray one cleared, the call, the rows counted, the start
 
-abbrev two : tie.After-settle → tie.After-clear2
+abbrev two : tie.After-settle → tie.After-clear-2
 two c = c.before.before.before.before.before.before.before
 
 abbrev one : tie.After-settle → tie.After-clear
 one c = (two c).before.before.before.before.before.before.before.before.before.before.before
 
-abbrev tried : tie.After-settle → tie.After-attempt
+abbrev tried : tie.After-settle → tie.After-attempt-answer
 tried c = (one c).before.before.before.before.before.before.before.before.before.before.before.before.before.before.before.before.before.before.before.before.before.before.before.before.before.before
 
-abbrev counted : tie.After-settle → tie.After-row-count
+abbrev counted : tie.After-settle → tie.After-row_count
 counted c = (tried c).before.before.before.before.before.before.before.before.before.before.before.before.before.before.before.before
 
 abbrev S : tie.After-settle → tie.Start
@@ -36,22 +36,22 @@ S c = (counted c).before.before.before.before.before.before.before.before.before
 -- ---- columns, and the lengths of the trays and the output
 
 abbrev C : tie.Start → Column
-C s = let a = s.args in column a.offsets.now (from a.rows_start a.rows.now) a.values.now (from a.elements-start a.elements.now)
+C s = let a = s.args in column a.offsets.now (from a.rows_start a.rows.now) a.values.now (from a.elements_start a.elements.now)
 
 abbrev D : tie.Start → Column
-D s = let a = s.args in column a.second-offsets.now (from a.second-rows-start a.second-rows.now) a.second-values.now (from a.second-elements-start a.second-elements.now)
+D s = let a = s.args in column a.second_offsets.now (from a.second_rows_start a.second_rows.now) a.second_values.now (from a.second_elements_start a.second_elements.now)
 
 abbrev A : tie.Start → Arguments
-A s = arguments s.args.arguments.now (from s.args.argument-start s.args.argument-bits.now)
+A s = arguments s.args.arguments.now (from s.args.argument_start s.args.argument_bits.now)
 
 abbrev One : tie.Start → Room
-One s = let a = s.args in room (length a.one-offsets.now) (length a.one-rows.now) (length a.one-values.now) (length a.one-elements.now)
+One s = let a = s.args in room (length a.one_offsets.now) (length a.one_rows.now) (length a.one_values.now) (length a.one_elements.now)
 
 abbrev Two : tie.Start → Room
-Two s = let a = s.args in room (length a.two-offsets.now) (length a.two-rows.now) (length a.two-values.now) (length a.two-elements.now)
+Two s = let a = s.args in room (length a.two_offsets.now) (length a.two_rows.now) (length a.two_values.now) (length a.two_elements.now)
 
 abbrev Out : tie.Start → Room
-Out s = let a = s.args in room (length a.out-offsets.now) (length a.out-rows.now) (length a.out-values.now) (length a.out-elements.now)
+Out s = let a = s.args in room (length a.out_offsets.now) (length a.out_rows.now) (length a.out_values.now) (length a.out_elements.now)
 
 -- the call for all rows is the run
 whole : (c : tie.After-settle) → let s = S c in let p = recipe s.args.numbers.now s.args.columns in window_outcome narrow p 0 (counted c).row_count.result (C s) (D s) (A s) (One s) (Two s) (Out s) ≡ recipe_outcome narrow p (C s) (D s) (A s) (One s) (Two s) (Out s)
@@ -59,20 +59,20 @@ whole c = let s = S c in whole_call narrow (recipe s.args.numbers.now s.args.col
 
 -- ---- needs
 
-slice-aggregate-attempt : tie.Need-slice-aggregate-attempt
-slice-aggregate-attempt c = refl
+slice_bounds-attempt-end : tie.Need-slice_bounds-attempt-end
+slice_bounds-attempt-end c = refl
 
-slice-aggregate-attempt-2 : tie.Need-slice-aggregate-attempt-2
-slice-aggregate-attempt-2 c = refl
+slice_bounds-attempt-end-2 : tie.Need-slice_bounds-attempt-end-2
+slice_bounds-attempt-end-2 c = refl
 
-slice-aggregate-attempt-3 : tie.Need-slice-aggregate-attempt-3
-slice-aggregate-attempt-3 c = refl
+slice_bounds-attempt-end-3 : tie.Need-slice_bounds-attempt-end-3
+slice_bounds-attempt-end-3 c = refl
 
-row-count-requires : tie.Need-row-count-requires
-row-count-requires c κs = tt
+row_count-requires : tie.Need-row_count-requires
+row_count-requires c κs = tt
 
-attempt-requires : tie.Need-attempt-requires
-attempt-requires c κs = tt
+attempt-answer-requires : tie.Need-attempt-answer-requires
+attempt-answer-requires c κs = tt
 
 clear-requires : tie.Need-clear-requires
 clear-requires c κs = tt
@@ -83,46 +83,46 @@ clear-requires-2 c κs = tt
 settle-requires : tie.Need-settle-requires
 settle-requires c κs = tt
 
-same_length : tie.Need-same-length
-same_length c = (one c).clear.auto.0 ∙ (tried c).attempt.auto.1.1.1.1.1.1.1.1.1.1.1.1.1.1.1.1.1.1.1.1.0
+shape_of-one_offsets : tie.Need-shape_of-one_offsets
+shape_of-one_offsets c = (one c).clear.auto.0 ∙ (tried c).attempt.auto.1.1.1.1.1.1.1.1.1.1.1.1.1.1.1.1.1.1.1.1.0
 
-same-length-2 : tie.Need-same-length-2
-same-length-2 c = (one c).clear.auto.1.0 ∙ (tried c).attempt.auto.1.1.1.1.1.1.1.1.1.1.1.1.1.1.1.1.1.1.1.1.1.0
+shape_of-one_rows : tie.Need-shape_of-one_rows
+shape_of-one_rows c = (one c).clear.auto.1.0 ∙ (tried c).attempt.auto.1.1.1.1.1.1.1.1.1.1.1.1.1.1.1.1.1.1.1.1.1.0
 
-same-length-3 : tie.Need-same-length-3
-same-length-3 c = (one c).clear.auto.1.1.0 ∙ (tried c).attempt.auto.1.1.1.1.1.1.1.1.1.1.1.1.1.1.1.1.1.1.1.1.1.1.0
+shape_of-one_values : tie.Need-shape_of-one_values
+shape_of-one_values c = (one c).clear.auto.1.1.0 ∙ (tried c).attempt.auto.1.1.1.1.1.1.1.1.1.1.1.1.1.1.1.1.1.1.1.1.1.1.0
 
-same-length-4 : tie.Need-same-length-4
-same-length-4 c = (one c).clear.auto.1.1.1.0 ∙ (tried c).attempt.auto.1.1.1.1.1.1.1.1.1.1.1.1.1.1.1.1.1.1.1.1.1.1.1.0
+shape_of-one_elements : tie.Need-shape_of-one_elements
+shape_of-one_elements c = (one c).clear.auto.1.1.1.0 ∙ (tried c).attempt.auto.1.1.1.1.1.1.1.1.1.1.1.1.1.1.1.1.1.1.1.1.1.1.1.0
 
-same-length-5 : tie.Need-same-length-5
-same-length-5 c = (two c).clear2.auto.0 ∙ (tried c).attempt.auto.1.1.1.1.1.1.1.1.1.1.1.1.1.1.1.1.1.1.1.1.1.1.1.1.0
+shape_of-two_offsets : tie.Need-shape_of-two_offsets
+shape_of-two_offsets c = (two c).clear2.auto.0 ∙ (tried c).attempt.auto.1.1.1.1.1.1.1.1.1.1.1.1.1.1.1.1.1.1.1.1.1.1.1.1.0
 
-same-length-6 : tie.Need-same-length-6
-same-length-6 c = (two c).clear2.auto.1.0 ∙ (tried c).attempt.auto.1.1.1.1.1.1.1.1.1.1.1.1.1.1.1.1.1.1.1.1.1.1.1.1.1.0
+shape_of-two_rows : tie.Need-shape_of-two_rows
+shape_of-two_rows c = (two c).clear2.auto.1.0 ∙ (tried c).attempt.auto.1.1.1.1.1.1.1.1.1.1.1.1.1.1.1.1.1.1.1.1.1.1.1.1.1.0
 
-same-length-7 : tie.Need-same-length-7
-same-length-7 c = (two c).clear2.auto.1.1.0 ∙ (tried c).attempt.auto.1.1.1.1.1.1.1.1.1.1.1.1.1.1.1.1.1.1.1.1.1.1.1.1.1.1.0
+shape_of-two_values : tie.Need-shape_of-two_values
+shape_of-two_values c = (two c).clear2.auto.1.1.0 ∙ (tried c).attempt.auto.1.1.1.1.1.1.1.1.1.1.1.1.1.1.1.1.1.1.1.1.1.1.1.1.1.1.0
 
-same-length-8 : tie.Need-same-length-8
-same-length-8 c = (two c).clear2.auto.1.1.1.0 ∙ (tried c).attempt.auto.1.1.1.1.1.1.1.1.1.1.1.1.1.1.1.1.1.1.1.1.1.1.1.1.1.1.1.0
+shape_of-two_elements : tie.Need-shape_of-two_elements
+shape_of-two_elements c = (two c).clear2.auto.1.1.1.0 ∙ (tried c).attempt.auto.1.1.1.1.1.1.1.1.1.1.1.1.1.1.1.1.1.1.1.1.1.1.1.1.1.1.1.0
 
-same-length-9 : tie.Need-same-length-9
-same-length-9 c = (tried c).attempt.auto.1.1.1.1.1.1.1.1.1.1.1.1.1.1.1.1.1.1.1.1.1.1.1.1.1.1.1.1.0
+shape_of-out_offsets : tie.Need-shape_of-out_offsets
+shape_of-out_offsets c = (tried c).attempt.auto.1.1.1.1.1.1.1.1.1.1.1.1.1.1.1.1.1.1.1.1.1.1.1.1.1.1.1.1.0
 
-same-length-10 : tie.Need-same-length-10
-same-length-10 c = (tried c).attempt.auto.1.1.1.1.1.1.1.1.1.1.1.1.1.1.1.1.1.1.1.1.1.1.1.1.1.1.1.1.1.0
+shape_of-out_rows : tie.Need-shape_of-out_rows
+shape_of-out_rows c = (tried c).attempt.auto.1.1.1.1.1.1.1.1.1.1.1.1.1.1.1.1.1.1.1.1.1.1.1.1.1.1.1.1.1.0
 
-same-length-11 : tie.Need-same-length-11
-same-length-11 c = (tried c).attempt.auto.1.1.1.1.1.1.1.1.1.1.1.1.1.1.1.1.1.1.1.1.1.1.1.1.1.1.1.1.1.1.0
+shape_of-out_values : tie.Need-shape_of-out_values
+shape_of-out_values c = (tried c).attempt.auto.1.1.1.1.1.1.1.1.1.1.1.1.1.1.1.1.1.1.1.1.1.1.1.1.1.1.1.1.1.1.0
 
-same-length-12 : tie.Need-same-length-12
-same-length-12 c = (tried c).attempt.auto.1.1.1.1.1.1.1.1.1.1.1.1.1.1.1.1.1.1.1.1.1.1.1.1.1.1.1.1.1.1.1.0
+shape_of-out_elements : tie.Need-shape_of-out_elements
+shape_of-out_elements c = (tried c).attempt.auto.1.1.1.1.1.1.1.1.1.1.1.1.1.1.1.1.1.1.1.1.1.1.1.1.1.1.1.1.1.1.1.0
 
 returns : tie.Need-returns
 returns c =
     let t = tried c in (
-      rw (c.settle.ensures.0, ← (whole c)) t.attempt.ensures,
+      rw (c.settle.ensures.0, ← (whole c)) t.attempt-answer.ensures,
       (
         record {
           offsets = (one c).clear.ensures.0 ∙ ap (λ (n : ℕ). replicate n (pos 0)) (tried c).attempt.auto.1.1.1.1.1.1.1.1.1.1.1.1.1.1.1.1.1.1.1.1.0;
@@ -137,7 +137,7 @@ returns c =
             values = (two c).clear2.ensures.1.1.0 ∙ ap (λ (n : ℕ). replicate n (pos 0)) (tried c).attempt.auto.1.1.1.1.1.1.1.1.1.1.1.1.1.1.1.1.1.1.1.1.1.1.1.1.1.1.0;
             elements = (two c).clear2.ensures.1.1.1 ∙ ap (λ (n : ℕ). replicate n 0) (tried c).attempt.auto.1.1.1.1.1.1.1.1.1.1.1.1.1.1.1.1.1.1.1.1.1.1.1.1.1.1.1.0;
           },
-          c.settle.ensures.1 ∙ rw (← (whole c)) (tallied_is _ _ _ _ t.attempt.ensures.answer),
+          c.settle.ensures.1 ∙ rw (← (whole c)) (tallied_is _ _ _ _ t.attempt-answer.ensures.answer),
         ),
       ),
     )
@@ -146,24 +146,24 @@ pub run_recipe_spec : {M : Type 1} → statement M
 run_recipe_spec =
     tie.close
     (tie.spec
-    row-count-requires
-    slice-aggregate-attempt
-    slice-aggregate-attempt-2
-    slice-aggregate-attempt-3
-    attempt-requires
+    row_count-requires
+    slice_bounds-attempt-end
+    slice_bounds-attempt-end-2
+    slice_bounds-attempt-end-3
+    attempt-answer-requires
     clear-requires
     clear-requires-2
     settle-requires
-    same_length
-    same-length-2
-    same-length-3
-    same-length-4
-    same-length-5
-    same-length-6
-    same-length-7
-    same-length-8
-    same-length-9
-    same-length-10
-    same-length-11
-    same-length-12
+    shape_of-one_offsets
+    shape_of-one_rows
+    shape_of-one_values
+    shape_of-one_elements
+    shape_of-two_offsets
+    shape_of-two_rows
+    shape_of-two_values
+    shape_of-two_elements
+    shape_of-out_offsets
+    shape_of-out_rows
+    shape_of-out_values
+    shape_of-out_elements
     returns)

@@ -7,107 +7,107 @@ use borrow.Author.Rules.{rules}
 use Rattle.repeat_bytes.proofs.put_repeat.Statement.{statement}
 use Rattle.repeat_bytes.proofs.put_repeat.Tie as tie
 
-enum-known-answer : tie.Need-enum-known-answer
-enum-known-answer c = search rules
+enum_known-answer : tie.Need-enum_known-answer
+enum_known-answer c = search rules
 
-cast-result : tie.Need-overflow-cast-result
-cast-result c = search rules
+overflow_cast-result : tie.Need-overflow_cast-result
+overflow_cast-result c = search rules
 
-enum-known-answer-2 : tie.Need-enum-known-answer-2
-enum-known-answer-2 c = search rules
+enum_known-answer-in-Counts-1 : tie.Need-enum_known-answer-in-Counts-1
+enum_known-answer-in-Counts-1 c = search rules
 
-add-n : tie.Need-overflow-add-n
-add-n c =
-    let k = counted-bytes c.before.answer2.given.1 c.before.before.before.before.before.before.before.requires in
+overflow_add-n : tie.Need-overflow_add-n
+overflow_add-n c =
+    let k = counted-bytes c.in-Counts.is c.requires in
     omega (arith, k.0)
 
-add-m : tie.Need-overflow-add-m
-add-m c =
-    let k = counted-bytes c.before.answer2.given.1 c.before.before.before.before.before.before.before.requires in
+overflow_add-m : tie.Need-overflow_add-m
+overflow_add-m c =
+    let k = counted-bytes c.in-Counts.is c.requires in
     omega (arith, k.1)
 
-slice-aggregate-encode-i32 : tie.Need-slice-aggregate-encode-i32
-slice-aggregate-encode-i32 c =
-    let a = c.before.before in
-    sym (length-take-le _ _ (counted a.answer2.given.1 a.before.before.before.before.before.before.requires).0)
+slice_bounds-encode_i32-end : tie.Need-slice_bounds-encode_i32-end
+slice_bounds-encode_i32-end c =
+    let a = c in
+    sym (length-take-le _ _ (counted a.answer-in-Counts-1.given.1 a.requires).0)
 
-encode-i32-requires : tie.Need-encode-i32-requires
-encode-i32-requires c κs =
-    let a = c.before.before.before in
+encode_i32-requires : tie.Need-encode_i32-requires
+encode_i32-requires c κs =
+    let a = c.before in
     let s = a.before.before.before.before.before.before in
-    let k = counted a.answer2.given.1 s.requires in
-    rw (length-take-le _ _ k.0) (counted-bytes a.answer2.given.1 s.requires).0
+    let k = counted a.answer-in-Counts-1.given.1 s.requires in
+    rw (length-take-le _ _ k.0) (counted-bytes a.answer-in-Counts-1.given.1 s.requires).0
 
-slice-aggregate-encode-i32-2 : tie.Need-slice-aggregate-encode-i32-2
-slice-aggregate-encode-i32-2 c =
-    let a = c.before.before.before.before.before.before.before in
-    sym (length-take-le _ _ (counted a.answer2.given.1 a.before.before.before.before.before.before.requires).1)
+slice_bounds-encode_i32-end-in-Counts : tie.Need-slice_bounds-encode_i32-end-in-Counts
+slice_bounds-encode_i32-end-in-Counts c =
+    let a = c.before.before.before.before.before in
+    sym (length-take-le _ _ (counted a.answer-in-Counts-1.given.1 a.requires).1)
 
-encode-i32-requires-2 : tie.Need-encode-i32-requires-2
-encode-i32-requires-2 c κs =
-    let a = c.before.before.before.before.before.before.before.before in
+encode_i32-requires-in-Counts : tie.Need-encode_i32-requires-in-Counts
+encode_i32-requires-in-Counts c κs =
+    let a = c.before.before.before.before.before.before in
     let s = a.before.before.before.before.before.before in
-    let k = counted a.answer2.given.1 s.requires in
-    rw (length-take-le _ _ k.1) (counted-bytes a.answer2.given.1 s.requires).1
+    let k = counted a.answer-in-Counts-1.given.1 s.requires in
+    rw (length-take-le _ _ k.1) (counted-bytes a.answer-in-Counts-1.given.1 s.requires).1
 
-slice-aggregate-encode-i64 : tie.Need-slice-aggregate-encode-i64
-slice-aggregate-encode-i64 c =
-    let a = c.before.before.before.before.before.before.before.before.before.before.before.before in
-    sym (length-take-le _ _ (counted a.answer2.given.1 a.before.before.before.before.before.before.requires).2)
+slice_bounds-encode_i64-end : tie.Need-slice_bounds-encode_i64-end
+slice_bounds-encode_i64-end c =
+    let a = c.before.before.before.before.before.before.before.before.before.before in
+    sym (length-take-le _ _ (counted a.answer-in-Counts-1.given.1 a.requires).2)
 
-encode-i64-requires : tie.Need-encode-i64-requires
-encode-i64-requires c κs =
-    let a = c.before.before.before.before.before.before.before.before.before.before.before.before.before in
-    let s = a.before.before.before.before.before.before in
-    let k = counted a.answer2.given.1 s.requires in
-    rw (length-take-le _ _ k.2) (counted-bytes a.answer2.given.1 s.requires).2
+encode_i64-requires : tie.Need-encode_i64-requires
+encode_i64-requires c κs =
+    let a = c.before.before.before.before.before.before.before.before.before.before.before in
+    let s = a.before.before.before.before.before in
+    let k = counted a.answer-in-Counts-1.given.1 s.requires in
+    rw (length-take-le _ _ k.2) (counted-bytes a.answer-in-Counts-1.given.1 s.requires).2
 
-put-repeat-counts-requires : tie.Need-put-repeat-counts-requires
-put-repeat-counts-requires c κs = search rules
+put_repeat_counts-requires : tie.Need-put_repeat_counts-requires
+put_repeat_counts-requires c κs = search rules
 
-returns : tie.Need-returns
-returns c = sent_refused _ c.before.answer.given.1
+returns-in-Refused : tie.Need-returns-in-Refused
+returns-in-Refused c = sent_refused _ c.in-Refused.is
 
-same_length : tie.Need-same-length
-same_length c = search rules
+shape_of-out_offsets : tie.Need-shape_of-out_offsets
+shape_of-out_offsets c = search rules
 
-same-length-2 : tie.Need-same-length-2
-same-length-2 c = search rules
+shape_of-inner_offsets : tie.Need-shape_of-inner_offsets
+shape_of-inner_offsets c = search rules
 
-same-length-3 : tie.Need-same-length-3
-same-length-3 c = search rules
+shape_of-out_values : tie.Need-shape_of-out_values
+shape_of-out_values c = search rules
 
-same-length-4 : tie.Need-same-length-4
-same-length-4 c = search rules
+shape_of-counts : tie.Need-shape_of-counts
+shape_of-counts c = search rules
 
-returns-2 : tie.Need-returns-2
-returns-2 c =
+returns-in-Counts : tie.Need-returns-in-Counts
+returns-in-Counts c =
     let n = c.before.before in
     let v = c.before.before.before.before.before.before in
     let i = c.before.before.before.before.before.before.before.before.before.before.before in
     let o = c.before.before.before.before.before.before.before.before.before.before.before.before.before.before.before.before in
-    let a = c.before.before.before.before.before.before.before.before.before.before.before.before.before.before.before.before.before.before.before.before in
-    sent_made a.answer2.given.1 o.encode-i32.ensures i.encode-i322.ensures v.encode-i64.ensures n.put-repeat-counts.ensures
+    let a = c.before.before.before.before.before.before.before.before.before.before.before.before.before.before.before.before.before.before in
+    sent_made a.answer-in-Counts-1.given.1 o.encode_i32.ensures i.encode_i32-in-Counts.ensures v.encode_i64.ensures n.put_repeat_counts.ensures
 
 pub put_repeat_spec : {M : Type 1} → statement M
 put_repeat_spec =
     tie.close
     (tie.spec
-    enum-known-answer
-    cast-result
-    enum-known-answer-2
-    add-n
-    add-m
-    slice-aggregate-encode-i32
-    encode-i32-requires
-    slice-aggregate-encode-i32-2
-    encode-i32-requires-2
-    slice-aggregate-encode-i64
-    encode-i64-requires
-    put-repeat-counts-requires
-    returns
-    same_length
-    same-length-2
-    same-length-3
-    same-length-4
-    returns-2)
+    enum_known-answer
+    overflow_cast-result
+    enum_known-answer-in-Counts-1
+    overflow_add-n
+    overflow_add-m
+    slice_bounds-encode_i32-end
+    encode_i32-requires
+    slice_bounds-encode_i32-end-in-Counts
+    encode_i32-requires-in-Counts
+    slice_bounds-encode_i64-end
+    encode_i64-requires
+    put_repeat_counts-requires
+    returns-in-Refused
+    shape_of-out_offsets
+    shape_of-inner_offsets
+    shape_of-out_values
+    shape_of-counts
+    returns-in-Counts)

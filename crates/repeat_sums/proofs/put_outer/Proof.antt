@@ -3,39 +3,39 @@ use borrow.Author.Rules.{rules}
 use Rattle.repeat_sums.proofs.put_outer.Statement.{statement}
 use Rattle.repeat_sums.proofs.put_outer.Tie as tie
 
-is-valid-requires : tie.Need-is-valid-requires
-is-valid-requires c κs = search
+is_valid-valid-requires : tie.Need-is_valid-valid-requires
+is_valid-valid-requires c κs = search
 
-push-bit-requires : tie.Need-push-bit-requires
-push-bit-requires c κs = search
+push_bit-requires : tie.Need-push_bit-requires
+push_bit-requires c κs = search
 
-add-next : tie.Need-overflow-add-next
-add-next c = search rules
+overflow_add-next : tie.Need-overflow_add-next
+overflow_add-next c = search rules
 
-put-offset-requires : tie.Need-put-offset-requires
-put-offset-requires c κs = let s = c.before.before.before.before.before.before.before.before.before in (omega (arith, s.requires.1.1.1.0), s.requires.1.1.0)
+put_offset-requires : tie.Need-put_offset-requires
+put_offset-requires c κs = let s = c.before.before.before.before.before.before.before.before.before in (omega (arith, s.requires.1.1.1.0), s.requires.1.1.0)
 
-same_length : tie.Need-same-length
-same_length c = search
+shape_of-out_offsets : tie.Need-shape_of-out_offsets
+shape_of-out_offsets c = search
 
-same-length-2 : tie.Need-same-length-2
-same-length-2 c = search
+shape_of-out_rows : tie.Need-shape_of-out_rows
+shape_of-out_rows c = search
 
-same-length-3 : tie.Need-same-length-3
-same-length-3 c = search
+shape_of-out_large : tie.Need-shape_of-out_large
+shape_of-out_large c = search
 
 returns : tie.Need-returns
-returns c = (c.before.before.put-offset.ensures, rw (← c.before.before.before.before.before.before.before.before.before.is-valid.ensures) c.before.before.before.before.before.before.before.push-bit.ensures)
+returns c = (c.put_offset.ensures, rw (← c.is_valid-valid.ensures) c.push_bit.ensures)
 
 pub put_outer_spec : {M : Type 1} → statement M
 put_outer_spec =
     tie.close
     (tie.spec
-    is-valid-requires
-    push-bit-requires
-    add-next
-    put-offset-requires
-    same_length
-    same-length-2
-    same-length-3
+    is_valid-valid-requires
+    push_bit-requires
+    overflow_add-next
+    put_offset-requires
+    shape_of-out_offsets
+    shape_of-out_rows
+    shape_of-out_large
     returns)

@@ -12,165 +12,168 @@ use Rattle.repeat_sums.proofs.SumLaws.{Summing, sums_begun, sums-many, sums_larg
 use Rattle.repeat_sums.proofs.sum_repeats.Statement.{statement}
 use Rattle.repeat_sums.proofs.sum_repeats.Tie as tie
 
-abbrev invariant-loop : tie.invariant-loop
-invariant-loop offsets rows rstart counts count-bits cstart width large n list-limit value-limit lists₀ values₀ r₀ left₀ lists values r left =
+abbrev invariant-loop-left : tie.invariant-loop-left
+invariant-loop-left offsets rows rstart counts count-bits cstart width large n list-limit value-limit lists₀ values₀ r₀ left₀ lists values r left =
     Summing (limits_at width) (times_at counts (from cstart count-bits)) (repeated_at (used width offsets large) (from rstart rows) counts (from cstart count-bits)) n lists values r left
 
-abbrev decreases-loop : tie.decreases-loop
-decreases-loop offsets rows rstart counts count-bits cstart width large n list-limit value-limit lists₀ values₀ r₀ left₀ lists values r left = left
+abbrev decreases-loop-left : tie.decreases-loop-left
+decreases-loop-left offsets rows rstart counts count-bits cstart width large n list-limit value-limit lists₀ values₀ r₀ left₀ lists values r left = left
 
 -- ---- places: the start, from the loop; the loop, from a row's length
 
-abbrev S : tie.At-loop invariant-loop decreases-loop → tie.Start invariant-loop decreases-loop
+abbrev S : tie.At-loop-left invariant-loop-left decreases-loop-left → tie.Start invariant-loop-left decreases-loop-left
 S l = l.before.before.before.before.before.before
 
-abbrev loop-of : tie.After-row-len invariant-loop decreases-loop → tie.At-loop invariant-loop decreases-loop
+abbrev loop-of : tie.After-row_len-len invariant-loop-left decreases-loop-left → tie.At-loop-left invariant-loop-left decreases-loop-left
 loop-of w = w.before.before.before.before.before.before
 
 -- ---- the limits, the rows, and what is summed of each
 
-abbrev L : tie.At-loop invariant-loop decreases-loop → Limits
+abbrev L : tie.At-loop-left invariant-loop-left decreases-loop-left → Limits
 L l = limits_at (S l).args.width
 
-fit : (l : tie.At-loop invariant-loop decreases-loop) → LimitsFit (L l)
+fit : (l : tie.At-loop-left invariant-loop-left decreases-loop-left) → LimitsFit (L l)
 fit l = limits-fit (S l).args.width
 
-abbrev count : tie.At-loop invariant-loop decreases-loop → ℕ
-count l = l.before.before.before.row_count.result
+abbrev count : tie.At-loop-left invariant-loop-left decreases-loop-left → ℕ
+count l = l.row_count-n.result
 
-rows_are : (l : tie.At-loop invariant-loop decreases-loop) → let a = (S l).args in count l ≡ row_count (used a.width a.offsets.now a.large.now)
-rows_are l = l.before.before.before.row_count.ensures
+rows_are : (l : tie.At-loop-left invariant-loop-left decreases-loop-left) → let a = (S l).args in count l ≡ row_count (used a.width a.offsets.now a.large.now)
+rows_are l = l.row_count-n.ensures
 
-most_are : (l : tie.At-loop invariant-loop decreases-loop) → l.before.before.most-lists.result ≡ (L l).outer
-most_are l = l.before.before.most-lists.ensures
+most_are : (l : tie.At-loop-left invariant-loop-left decreases-loop-left) → l.most_lists-list_limit.result ≡ (L l).outer
+most_are l = l.most_lists-list_limit.ensures
 
-most-repeated : (l : tie.At-loop invariant-loop decreases-loop) → l.before.most_values.result ≡ (L l).repeated
-most-repeated l = l.before.most_values.ensures
+most-repeated : (l : tie.At-loop-left invariant-loop-left decreases-loop-left) → l.most_values-value_limit.result ≡ (L l).repeated
+most-repeated l = l.most_values-value_limit.ensures
 
-abbrev T : tie.At-loop invariant-loop decreases-loop → ℕ → ℕ
+abbrev T : tie.At-loop-left invariant-loop-left decreases-loop-left → ℕ → ℕ
 T l = let a = (S l).args in times_at a.counts.now (from a.cstart a.count-bits.now)
 
-abbrev U : tie.At-loop invariant-loop decreases-loop → ℕ → ℕ
+abbrev U : tie.At-loop-left invariant-loop-left decreases-loop-left → ℕ → ℕ
 U l = let a = (S l).args in repeated_at (used a.width a.offsets.now a.large.now) (from a.rstart a.rows.now) a.counts.now (from a.cstart a.count-bits.now)
 
 -- what a turn repeats
-abbrev made : tie.After-row-len invariant-loop decreases-loop → ℕ
-made w = w.before.before.before.before.repeat-count.result * w.row_len.result
+abbrev made : tie.After-row_len-len invariant-loop-left decreases-loop-left → ℕ
+made w = w.repeat_count-times.result * w.row_len-len.result
 
-repeats : (w : tie.After-row-len invariant-loop decreases-loop) → made w ≡ U (loop-of w) (loop-of w).loop.r
-repeats w = repeated_is _ _ _ _ (loop-of w).loop.r _ _ _ _ w.before.before.before.before.repeat-count.ensures w.row_len.ensures w.before.before.offset_at.ensures.0 w.before.offset-at2.ensures.0
+repeats : (w : tie.After-row_len-len invariant-loop-left decreases-loop-left) → made w ≡ U (loop-of w) (loop-of w).loop.r
+repeats w = repeated_is _ _ _ _ (loop-of w).loop.r _ _ _ _ w.repeat_count-times.ensures w.row_len-len.ensures w.offset_at-a.ensures.0 w.offset_at-b.ensures.0
 
 -- it is within the room that is left, so that it does not wrap
-within : (e : tie.Else2 invariant-loop decreases-loop) → let w = e.before.before in made w ≤ (L (loop-of w)).repeated - (loop-of w).loop.values
+within : (e : tie.Else-is_product_over invariant-loop-left decreases-loop-left) → let w = e.before.before in made w ≤ (L (loop-of w)).repeated - (loop-of w).loop.values
 within e =
     let w = e.before.before in
-    rw (← most-repeated (loop-of w)) (ltb-false _ (made w) (sym e.before.is-product-over.ensures ∙ e.if2.false))
+    rw (← most-repeated (loop-of w)) (ltb-false _ (made w) (sym e.is_product_over.ensures ∙ e.if-is_product_over.false))
 
 -- the sums after one more row
-more : (e : tie.Else2 invariant-loop decreases-loop) → let w = e.before.before in let l = loop-of w in
-    Summing (L l) (T l) (U l) (count l) (l.loop.lists + w.before.before.before.before.repeat-count.result) (l.loop.values + made w) (l.loop.r + 1) (l.loop.left - 1)
+more : (e : tie.Else-is_product_over invariant-loop-left decreases-loop-left) → let w = e.before.before in let l = loop-of w in
+    Summing (L l) (T l) (U l) (count l) (l.loop-left.lists + w.repeat_count-times.result) (l.loop-left.values + made w) (l.loop-left.r + 1) (l.loop-left.left - 1)
 more e =
     let w = e.before.before in
     let l = loop-of w in
-    sums-more (L l) (T l) (U l) (count l) l.loop.inv _ w.before.before.before.before.before.loop-test.true w.before.before.before.before.repeat-count.ensures _ (repeats w) (omega (arith, w.before.before.before.if1.false, most_are l)) (within e)
+    sums-more (L l) (T l) (U l) (count l) l.loop-left.invariant _ w.loop-left-test.true w.repeat_count-times.ensures _ (repeats w) (omega (arith, w.if-list_limit-lists.false, most_are l)) (within e)
 
-row-count-requires : tie.Need-row-count-requires invariant-loop decreases-loop
-row-count-requires c κs = search
+row_count-n-requires : tie.Need-row_count-n-requires invariant-loop-left decreases-loop-left
+row_count-n-requires c κs = search
 
-most-lists-requires : tie.Need-most-lists-requires invariant-loop decreases-loop
-most-lists-requires c κs = search
+most_lists-list_limit-requires : tie.Need-most_lists-list_limit-requires invariant-loop-left decreases-loop-left
+most_lists-list_limit-requires c κs = search
 
-most-values-requires : tie.Need-most-values-requires invariant-loop decreases-loop
-most-values-requires c κs = search
+most_values-value_limit-requires : tie.Need-most_values-value_limit-requires invariant-loop-left decreases-loop-left
+most_values-value_limit-requires c κs = search
 
-loop-holds : tie.Need-loop-init invariant-loop decreases-loop
-loop-holds c = sums_begun _ _ _ _
+loop-left-init : tie.Need-loop-left-init invariant-loop-left decreases-loop-left
+loop-left-init c = sums_begun _ _ _ _
 
-repeat-count-requires : tie.Need-repeat-count-requires invariant-loop decreases-loop
-repeat-count-requires c κs = let l = c.before in (by_count (rows_are l) (S l).requires.1.1.0, ((S l).requires.1.1.1 ∙ sym (rows_are l), omega (arith, l.loop.invariant.rows)))
+repeat_count-times-requires : tie.Need-repeat_count-times-requires invariant-loop-left decreases-loop-left
+repeat_count-times-requires c κs = let l = c.before in (by_count (rows_are l) (S l).requires.1.1.0, ((S l).requires.1.1.1 ∙ sym (rows_are l), omega (arith, l.loop-left.invariant.rows)))
 
-sub-if1 : tie.Need-overflow-sub-if1 invariant-loop decreases-loop
-sub-if1 c = let l = c.before.before in omega (arith, l.loop.invariant.few, most_are l)
+overflow_sub-list_limit : tie.Need-overflow_sub-list_limit invariant-loop-left decreases-loop-left
+overflow_sub-list_limit c = let l = c.before.before in omega (arith, l.loop-left.invariant.few, most_are l)
 
-returns : tie.Need-returns invariant-loop decreases-loop
+returns-then-list_limit-lists : tie.Need-returns-then-list_limit-lists invariant-loop-left decreases-loop-left
 unfolding sums_of
-returns c = let l = c.before.before.before in rw (← rows_are l) (sums-many (L l) (T l) (U l) (count l) l.loop.invariant _ c.before.before.loop-test.true c.before.repeat-count.ensures (rw (← most_are l) c.if1.true))
+returns-then-list_limit-lists c = let l = c.before.before.before in rw (← rows_are l) (sums-many (L l) (T l) (U l) (count l) l.loop-left.invariant _ c.loop-left-test.true c.repeat_count-times.ensures (rw (← most_are l) c.if-list_limit-lists.true))
 
-offset-at-requires : tie.Need-offset-at-requires invariant-loop decreases-loop
-offset-at-requires c κs = let l = c.before.before.before in omega (arith, l.loop.invariant.rows, c.before.before.loop-test.true, rows_are l)
+offset_at-a-requires : tie.Need-offset_at-a-requires invariant-loop-left decreases-loop-left
+offset_at-a-requires c κs = let l = c.before.before.before in omega (arith, l.loop-left.invariant.rows, c.loop-left-test.true, rows_are l)
 
-add-offset-at : tie.Need-overflow-add-offset-at invariant-loop decreases-loop
-add-offset-at c = let l = c.before.before.before.before in omega (arith, l.loop.invariant.rows, c.before.before.before.loop-test.true)
+overflow_add-r : tie.Need-overflow_add-r invariant-loop-left decreases-loop-left
+overflow_add-r c = let l = c.before.before.before.before in omega (arith, l.loop-left.invariant.rows, c.loop-left-test.true)
 
-offset-at-requires-2 : tie.Need-offset-at-requires-2 invariant-loop decreases-loop
-offset-at-requires-2 c κs = let l = c.before.before.before.before in omega (arith, l.loop.invariant.rows, c.before.before.before.loop-test.true, rows_are l)
+offset_at-b-requires : tie.Need-offset_at-b-requires invariant-loop-left decreases-loop-left
+offset_at-b-requires c κs = let l = c.before.before.before.before in omega (arith, l.loop-left.invariant.rows, c.loop-left-test.true, rows_are l)
 
-row-len-requires : tie.Need-row-len-requires invariant-loop decreases-loop
-row-len-requires c κs = let l = c.before.before.before.before.before in (by_count (rows_are l) (S l).requires.1.0, (omega (arith, l.loop.invariant.rows, c.before.before.before.before.loop-test.true), rw (c.before.offset_at.ensures.0, c.offset-at2.ensures.0) ((S l).requires.0.step l.loop.r (omega (arith, l.loop.invariant.rows, c.before.before.before.before.loop-test.true, rows_are l)))))
+row_len-len-requires : tie.Need-row_len-len-requires invariant-loop-left decreases-loop-left
+row_len-len-requires c κs = let l = c.before.before.before.before.before in (by_count (rows_are l) (S l).requires.1.0, (omega (arith, l.loop-left.invariant.rows, c.loop-left-test.true), rw (c.offset_at-a.ensures.0, c.offset_at-b.ensures.0) ((S l).requires.0.step l.loop-left.r (omega (arith, l.loop-left.invariant.rows, c.loop-left-test.true, rows_are l)))))
 
-sub-room : tie.Need-overflow-sub-room invariant-loop decreases-loop
-sub-room c = let l = loop-of c in omega (arith, l.loop.inv.small, most-repeated l)
+overflow_sub-room : tie.Need-overflow_sub-room invariant-loop-left decreases-loop-left
+overflow_sub-room c = let l = loop-of c in omega (arith, l.loop-left.invariant.small, most-repeated l)
 
-is-product-over-requires : tie.Need-is-product-over-requires invariant-loop decreases-loop
-is-product-over-requires c κs = search
+is_product_over-requires : tie.Need-is_product_over-requires invariant-loop-left decreases-loop-left
+is_product_over-requires c κs = search
 
-returns-2 : tie.Need-returns-2 invariant-loop decreases-loop
+returns-then-is_product_over : tie.Need-returns-then-is_product_over invariant-loop-left decreases-loop-left
 unfolding sums_of
-returns-2 c =
+returns-then-is_product_over c =
     let w = c.before.before in
     let l = loop-of w in
-    rw (← rows_are l) (sums_large (L l) (T l) (U l) (count l) l.loop.inv _ w.before.before.before.before.before.loop-test.true w.before.before.before.before.repeat-count.ensures _ (repeats w) (rw (← most-repeated l) (ltb-true _ (made w) (sym c.before.is-product-over.ensures ∙ c.if2.true))))
+    rw (← rows_are l) (sums_large (L l) (T l) (U l) (count l) l.loop-left.invariant _ w.loop-left-test.true w.repeat_count-times.ensures _ (repeats w) (rw (← most-repeated l) (ltb-true _ (made w) (sym c.is_product_over.ensures ∙ c.if-is_product_over.true))))
 
-mul-repeated : tie.Need-overflow-mul-repeated invariant-loop decreases-loop
-mul-repeated c = let l = loop-of c.before.before in record { fits = omega (arith, within c, (fit l).offset, (fit l).repeated) }
+overflow_mul-repeated : tie.Need-overflow_mul-repeated invariant-loop-left decreases-loop-left
+overflow_mul-repeated c = let l = loop-of c.before.before in record { fits = omega (arith, within c, (fit l).offset, (fit l).repeated) }
 
-add-lists : tie.Need-overflow-add-lists invariant-loop decreases-loop
-add-lists c = let l = loop-of c.before.before in omega (arith, (more c).few, (fit l).offset, (fit l).outer)
+overflow_add-lists : tie.Need-overflow_add-lists invariant-loop-left decreases-loop-left
+overflow_add-lists c = let l = loop-of c.before.before in omega (arith, (more c).few, (fit l).offset, (fit l).outer)
 
-add-values : tie.Need-overflow-add-values invariant-loop decreases-loop
-add-values c = let l = loop-of c.before.before in omega (arith, (more c).small, (fit l).offset, (fit l).repeated)
+overflow_add-values : tie.Need-overflow_add-values invariant-loop-left decreases-loop-left
+overflow_add-values c = let l = loop-of c.before.before in omega (arith, (more c).small, (fit l).offset, (fit l).repeated)
 
-add_r : tie.Need-overflow-add-r invariant-loop decreases-loop
-add_r c = omega (arith, (more c).rows, (loop-of c.before.before).loop.inv.rows)
+overflow_add-r : tie.Need-overflow_add-r invariant-loop-left decreases-loop-left
+overflow_add-r c = omega (arith, (more c).rows, (loop-of c.before.before).loop.inv.rows)
 
-sub-left : tie.Need-overflow-sub-left invariant-loop decreases-loop
-sub-left c = omega (arith, c.before.before.before.before.before.before.before.loop-test.true)
+overflow_sub-left : tie.Need-overflow_sub-left invariant-loop-left decreases-loop-left
+overflow_sub-left c = omega (arith, c.loop-left-test.true)
 
-loop-less : tie.Need-loop-smaller invariant-loop decreases-loop
-loop-less c = omega (arith, c.before.before.before.before.before.before.before.loop-test.true)
+loop-left-smaller : tie.Need-loop-left-smaller invariant-loop-left decreases-loop-left
+loop-left-smaller c = omega (arith, c.loop-left-test.true)
 
-loop-again : tie.Need-loop-preserved invariant-loop decreases-loop
-loop-again c = more c
+loop-left-preserved : tie.Need-loop-left-preserved invariant-loop-left decreases-loop-left
+loop-left-preserved c = more c
 
-returns-3 : tie.Need-returns-3 invariant-loop decreases-loop
+returns : tie.Need-returns invariant-loop-left decreases-loop-left
 unfolding sums_of
-returns-3 c = let l = c.before in rw (← rows_are l) (sums_done (L l) (T l) (U l) (count l) l.loop.invariant c.loop-test.false)
+returns c = let l = c.before in rw (← rows_are l) (sums_done (L l) (T l) (U l) (count l) l.loop-left.invariant c.loop-left-test.false)
+
+overflow_add-r-in-loop-left : tie.Need-overflow_add-r-in-loop-left invariant-loop-left decreases-loop-left
+overflow_add-r-in-loop-left c = search rules
 
 pub sum_repeats_spec : {M : Type 1} → statement M
 sum_repeats_spec =
     tie.close
     (tie.spec
-    invariant-loop
-    decreases-loop
-    row-count-requires
-    most-lists-requires
-    most-values-requires
-    loop-holds
-    repeat-count-requires
-    sub-if1
-    returns
-    offset-at-requires
-    add-offset-at
-    offset-at-requires-2
-    row-len-requires
-    sub-room
-    is-product-over-requires
-    returns-2
-    mul-repeated
-    add-lists
-    add-values
-    add_r
-    sub-left
-    loop-less
-    loop-again
-    returns-3)
+    invariant-loop-left
+    decreases-loop-left
+    row_count-n-requires
+    most_lists-list_limit-requires
+    most_values-value_limit-requires
+    loop-left-init
+    repeat_count-times-requires
+    overflow_sub-list_limit
+    returns-then-list_limit-lists
+    offset_at-a-requires
+    overflow_add-r
+    offset_at-b-requires
+    row_len-len-requires
+    overflow_sub-room
+    is_product_over-requires
+    returns-then-is_product_over
+    overflow_mul-repeated
+    overflow_add-lists
+    overflow_add-values
+    overflow_add-r-in-loop-left
+    overflow_sub-left
+    loop-left-smaller
+    loop-left-preserved
+    returns)

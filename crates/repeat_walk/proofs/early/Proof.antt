@@ -19,78 +19,78 @@ abbrev C : tie.Start → Column
 C s = let a = s.args in column (used a.width a.offsets.now a.large.now) (from a.rstart a.rows.now) a.values.now (from a.estart a.elements.now)
 
 abbrev A : tie.Start → Arguments
-A s = let a = s.args in arguments a.counts.now (from a.cstart a.count-bits.now)
+A s = let a = s.args in arguments a.counts.now (from a.cstart a.count_bits.now)
 
 -- ---- places: the list tested, the counts' bits tested; and the start
 
-abbrev S : tie.After-list-refusal → tie.Start
+abbrev S : tie.After-list_refusal-k → tie.Start
 S f = f.before.before.before.before.before
 
-abbrev list_of : tie.Else3 → tie.After-list-refusal
+abbrev list_of : tie.Else-is_short → tie.After-list_refusal-k
 list_of e = e.before.before.before
 
 -- the counts' starting bit is not over 7
-in_byte : (f : tie.After-list-refusal) → (S f).args.cstart ≤ 7
+in_byte : (f : tie.After-list_refusal-k) → (S f).args.cstart ≤ 7
 in_byte f = omega (arith, f.before)
 
-in_byteᵇ : (f : tie.After-list-refusal) → ltb 7 (S f).args.cstart ≡ false
+in_byteᵇ : (f : tie.After-list_refusal-k) → ltb 7 (S f).args.cstart ≡ false
 in_byteᵇ f = le-ltb 7 (S f).args.cstart (in_byte f)
 
 -- their bitmap is long enough
-long : (e : tie.Else3) → let a = A (S (list_of e)) in short_bits a.bits (length a.values) ≡ false
-long e = sym e.before.is-short.ensures ∙ e.if3.false
+long : (e : tie.Else-is_short) → let a = A (S (list_of e)) in short_bits a.bits (length a.values) ≡ false
+long e = sym e.is_short.ensures ∙ e.if-is_short.false
 
 -- and there is one for each row
-counted : (e : tie.Else4) → let s = S (list_of e.before.before) in length (A s).values ≡ row_count (C s).offsets
-counted e = e.if4.false ∙ e.before.row_count.ensures
+counted : (e : tie.Else-counts-row_count) → let s = S (list_of e.before.before) in length (A s).values ≡ row_count (C s).offsets
+counted e = e.if-counts-row_count.false ∙ e.row_count.ensures
 
 -- ---- needs
 
-returns : tie.Need-returns
-returns c =
+returns-then-cstart-gt7 : tie.Need-returns-then-cstart-gt7
+returns-then-cstart-gt7 c =
     let s = c.before.before.before.before in
     (early_starts (C s) (A s) (lt-ltb 7 s.args.cstart (omega arith)), λ h. let n : ⊥ = omega (arith, h) in absurd n)
 
-list-refusal-requires : tie.Need-list-refusal-requires
-list-refusal-requires c κs = search
+list_refusal-k-requires : tie.Need-list_refusal-k-requires
+list_refusal-k-requires c κs = search
 
-returns-2 : tie.Need-returns-2
-returns-2 c =
+returns-then-k-ne0 : tie.Need-returns-then-k-ne0
+returns-then-k-ne0 c =
     let f = c.before in
     let s = S f in
-    (early_list (C s) (A s) (in_byteᵇ f) _ f.list-refusal.ensures c.if2.true, λ h. absurd (c.if2.true h))
+    (early_list (C s) (A s) (in_byteᵇ f) _ f.list_refusal-k.ensures c.if-k-ne0.true, λ h. absurd (c.if-k-ne0.true h))
 
-is-short-requires : tie.Need-is-short-requires
-is-short-requires c κs = omega (arith, in_byte c.before)
+is_short-requires : tie.Need-is_short-requires
+is_short-requires c κs = omega (arith, in_byte c.before)
 
-returns-3 : tie.Need-returns-3
-returns-3 c =
+returns-then-is_short : tie.Need-returns-then-is_short
+returns-then-is_short c =
     let f = c.before.before.before in
     let s = S f in (
-      early_two (C s) (A s) (in_byteᵇ f) _ f.list-refusal.ensures c.before.before.if2.false (sym c.before.is-short.ensures ∙ c.if3.true),
+      early_two (C s) (A s) (in_byteᵇ f) _ f.list_refusal-k.ensures c.if-k-ne0.false (sym c.is_short.ensures ∙ c.if-is_short.true),
       λ h. let n : ⊥ = omega (arith, h) in absurd n,
     )
 
-row-count-requires : tie.Need-row-count-requires
-row-count-requires c κs = search
+row_count-requires : tie.Need-row_count-requires
+row_count-requires c κs = search
 
-returns-4 : tie.Need-returns-4
-returns-4 c =
+returns-then-counts-row_count : tie.Need-returns-then-counts-row_count
+returns-then-counts-row_count c =
     let e = c.before.before in
     let f = list_of e in
     let s = S f in (
-      early_three (C s) (A s) (in_byteᵇ f) _ f.list-refusal.ensures e.before.before.if2.false (long e) (λ z. c.if4.true (z ∙ sym c.before.row_count.ensures)),
+      early_three (C s) (A s) (in_byteᵇ f) _ f.list_refusal-k.ensures e.if-k-ne0.false (long e) (λ z. c.if-counts-row_count.true (z ∙ sym c.row_count.ensures)),
       λ h. let n : ⊥ = omega (arith, h) in absurd n,
     )
 
-returns-5 : tie.Need-returns-5
-returns-5 c =
+returns : tie.Need-returns
+returns c =
     let e = c.before.before in
     let f = list_of e in
     let s = S f in (
-      early_none (C s) (A s) (in_byteᵇ f) _ f.list-refusal.ensures e.before.before.if2.false (long e) (counted c),
+      early_none (C s) (A s) (in_byteᵇ f) _ f.list_refusal-k.ensures e.if-k-ne0.false (long e) (counted c),
       λ h. record {
-        list = readable (C s) (sym f.list-refusal.ensures ∙ e.before.before.if2.false);
+        list = readable (C s) (sym f.list_refusal-k.ensures ∙ e.if-k-ne0.false);
         bits = by_count (sym (counted c)) (record { small = omega (arith, in_byte f); long = long e });
         equal = counted c;
       },
@@ -100,11 +100,11 @@ pub early_spec : {M : Type 1} → statement M
 early_spec =
     tie.close
     (tie.spec
-    returns
-    list-refusal-requires
-    returns-2
-    is-short-requires
-    returns-3
-    row-count-requires
-    returns-4
-    returns-5)
+    returns-then-cstart-gt7
+    list_refusal-k-requires
+    returns-then-k-ne0
+    is_short-requires
+    returns-then-is_short
+    row_count-requires
+    returns-then-counts-row_count
+    returns)

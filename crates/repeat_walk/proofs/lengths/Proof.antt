@@ -21,68 +21,68 @@ abbrev M : tie.Start → Limits
 M s = limits_at s.args.width
 
 abbrev A : tie.Start → Arguments
-A s = let a = s.args in arguments a.counts.now (from a.cstart a.count-bits.now)
+A s = let a = s.args in arguments a.counts.now (from a.cstart a.count_bits.now)
 
-abbrev S : tie.After-early → tie.Start
+abbrev S : tie.After-early-k → tie.Start
 S e = e.before.before.before.before
 
 -- the early refusals have passed
-begun : (e : tie.Else1) → let s = S e.before in Begun (C s) (A s)
-begun e = e.before.early.ensures.1 e.if1.false
+begun : (e : tie.Else-k-ne0) → let s = S e.before in Begun (C s) (A s)
+begun e = e.early-k.ensures.1 e.if-k-ne0.false
 
-early-requires : tie.Need-early-requires
-early-requires c κs = search
+early-k-requires : tie.Need-early-k-requires
+early-k-requires c κs = search
 
-returns : tie.Need-returns
+returns-then-k-ne0 : tie.Need-returns-then-k-ne0
 unfolding asked_repeat
-returns c = let s = S c.before in lengths_early (M s) (C s) (A s) _ c.before.early.ensures.0 c.if1.true
+returns-then-k-ne0 c = let s = S c.before in lengths_early (M s) (C s) (A s) _ c.early-k.ensures.0 c.if-k-ne0.true
 
-sum-repeats-requires : tie.Need-sum-repeats-requires
-sum-repeats-requires c κs = let b = begun c in (rising (C (S c.before)) b.list, (b.list.rows, (b.bits, b.equal)))
+sum_repeats-requires : tie.Need-sum_repeats-requires
+sum_repeats-requires c κs = let b = begun c in (rising (C (S c.before)) b.list, (b.list.rows, (b.bits, b.equal)))
 
-enum_told : tie.Need-enum-told
-enum_told c = search
+enum_told-1 : tie.Need-enum_told-1
+enum_told-1 c = search
 
-enum-known-lists : tie.Need-enum-known-lists
-enum-known-lists c = search
+enum_known-lists : tie.Need-enum_known-lists
+enum_known-lists c = search
 
-row-count-requires : tie.Need-row-count-requires
-row-count-requires c κs = search
+row_count-requires : tie.Need-row_count-requires
+row_count-requires c κs = search
 
-lengths-for-requires : tie.Need-lengths-for-requires
-lengths-for-requires c κs =
-    let f = c.before.before in
-    let s = S f.before.before.before.before in
-    let m = sums_are (M s) (C s) (A s) _ _ (sym f.lists.given.1 ∙ f.before.before.sum-repeats.ensures) in
+lengths_for-requires : tie.Need-lengths_for-requires
+lengths_for-requires c κs =
+    let f = c.before in
+    let s = S f.before.before.before in
+    let m = sums_are (M s) (C s) (A s) _ _ (sym f.in-Of.is ∙ f.sum_repeats.ensures) in
     let a = s.args in
     let n = used-below 18446744073709551616 a.width a.offsets.now a.large.now (omega (arith, s.good.0)) (omega (arith, s.good.1.1.1.1.1.1.1.1.1.1.0)) in
     (omega (arith, n, c.row_count.ensures), omega (arith, m.2, (limits-fit s.args.width).outer, (limits-fit s.args.width).offset))
 
-returns-2 : tie.Need-returns-2
+returns-in-TooMany : tie.Need-returns-in-TooMany
 unfolding asked_repeat
-returns-2 c =
-    let e = c.before.before.before in
+returns-in-TooMany c =
+    let e = c.before.before in
     let s = S e.before in
-    lengths_eight (M s) (C s) (A s) _ e.before.early.ensures.0 e.if1.false (begun e).equal (sym c.enum_told.given.1 ∙ c.before.before.sum-repeats.ensures)
+    lengths_eight (M s) (C s) (A s) _ e.early-k.ensures.0 e.if-k-ne0.false (begun e).equal (sym c.in-TooMany.is ∙ c.sum_repeats.ensures)
 
-returns-3 : tie.Need-returns-3
-returns-3 c =
-    let f = c.before.before.before in
-    let e = f.before.before.before in
+returns-in-Of : tie.Need-returns-in-Of
+returns-in-Of c =
+    let f = c.before.before in
+    let e = f.before.before in
     let s = S e.before in
-    c.lengths-for.ensures
-    ∙ lengths-made (M s) (C s) (A s) _ e.before.early.ensures.0 e.if1.false (begun e).equal _ _ (sym f.lists.given.1 ∙ f.before.before.sum-repeats.ensures) _ c.before.row_count.ensures
+    c.lengths_for.ensures
+    ∙ lengths-made (M s) (C s) (A s) _ e.early-k.ensures.0 e.if-k-ne0.false (begun e).equal _ _ (sym f.in-Of.is ∙ f.sum_repeats.ensures) _ c.row_count.ensures
 
 pub lengths_spec : {M : Type 1} → statement M
 lengths_spec =
     tie.close
     (tie.spec
-    early-requires
-    returns
-    sum-repeats-requires
-    enum_told
-    enum-known-lists
-    row-count-requires
-    lengths-for-requires
-    returns-2
-    returns-3)
+    early-k-requires
+    returns-then-k-ne0
+    sum_repeats-requires
+    enum_told-1
+    enum_known-lists
+    row_count-requires
+    lengths_for-requires
+    returns-in-TooMany
+    returns-in-Of)

@@ -16,158 +16,161 @@ use Rattle.repeat_walk.proofs.OuterLaws.{Copying, copy_begun, copy_place, copy_b
 use Rattle.repeat_walk.proofs.put_copies.Statement.{statement}
 use Rattle.repeat_walk.proofs.put_copies.Tie as tie
 
-abbrev invariant-loop : tie.invariant-loop
-invariant-loop rows rstart n values elements estart r a b times inner-offsets₀ inner-rows₀ out-values₀ out-elements₀ first place width inner-large₀ valid len i₀ at₀ left₀ inner-offsets inner-rows out-values out-elements inner-large i at left =
+abbrev invariant-loop-left : tie.invariant-loop-left
+invariant-loop-left rows rstart n values elements estart r a b times inner-offsets₀ inner-rows₀ out-values₀ out-elements₀ first place width inner-large₀ valid len i₀ at₀ left₀ inner-offsets inner-rows out-values out-elements inner-large i at left =
     Copying (limits_at width) (row_from (from rstart rows) (elem_at values (from estart elements)) r a b) first place times (used width inner-offsets₀ inner-large₀) inner-rows₀ out-values₀ out-elements₀ (used width inner-offsets inner-large) inner-rows out-values out-elements i at left
     × (length inner-offsets ≡ length inner-offsets₀)
     × (length inner-large ≡ length inner-large₀)
 
-abbrev decreases-loop : tie.decreases-loop
-decreases-loop rows rstart n values elements estart r a b times inner-offsets₀ inner-rows₀ out-values₀ out-elements₀ first place width inner-large₀ valid len i₀ at₀ left₀ inner-offsets inner-rows out-values out-elements inner-large i at left = left
+abbrev decreases-loop-left : tie.decreases-loop-left
+decreases-loop-left rows rstart n values elements estart r a b times inner-offsets₀ inner-rows₀ out-values₀ out-elements₀ first place width inner-large₀ valid len i₀ at₀ left₀ inner-offsets inner-rows out-values out-elements inner-large i at left = left
 
-abbrev B : tie.Start invariant-loop decreases-loop → Bits
+abbrev B : tie.Start invariant-loop-left decreases-loop-left → Bits
 B s = from s.args.rstart s.args.rows.now
 
-abbrev E : tie.Start invariant-loop decreases-loop → ℕ → Elem
+abbrev E : tie.Start invariant-loop-left decreases-loop-left → ℕ → Elem
 E s = elem_at s.args.values.now (from s.args.estart s.args.elements.now)
 
-abbrev M : tie.Start invariant-loop decreases-loop → Limits
+abbrev M : tie.Start invariant-loop-left decreases-loop-left → Limits
 M s = limits_at s.args.width
 
-fit : (s : tie.Start invariant-loop decreases-loop) → LimitsFit (M s)
+fit : (s : tie.Start invariant-loop-left decreases-loop-left) → LimitsFit (M s)
 fit s = limits-fit s.args.width
 
-abbrev W : tie.Start invariant-loop decreases-loop → Row
+abbrev W : tie.Start invariant-loop-left decreases-loop-left → Row
 W s = row_from (B s) (E s) s.args.r s.args.a s.args.b
 
 -- the places that are used below
-abbrev start-of-is-valid : tie.After-is-valid invariant-loop decreases-loop → tie.Start invariant-loop decreases-loop
+abbrev start-of-is-valid : tie.After-is_valid-valid invariant-loop-left decreases-loop-left → tie.Start invariant-loop-left decreases-loop-left
 start-of-is-valid p = p.before.before.before.before.before
 
-abbrev push-bit-of-inner-large : tie.After-inner-large invariant-loop decreases-loop → tie.After-push-bit invariant-loop decreases-loop
+abbrev push-bit-of-inner-large : tie.After-inner_large-1 invariant-loop-left decreases-loop-left → tie.After-push_bit invariant-loop-left decreases-loop-left
 push-bit-of-inner-large p = p.before.before.before.before.before.before.before
 
-abbrev start-of-row-len : tie.After-row-len invariant-loop decreases-loop → tie.Start invariant-loop decreases-loop
+abbrev start-of-row-len : tie.After-row_len-len invariant-loop-left decreases-loop-left → tie.Start invariant-loop-left decreases-loop-left
 start-of-row-len p = p.before.before.before.before.before.before
 
-abbrev start-of-loop : tie.At-loop invariant-loop decreases-loop → tie.Start invariant-loop decreases-loop
+abbrev start-of-loop : tie.At-loop-left invariant-loop-left decreases-loop-left → tie.Start invariant-loop-left decreases-loop-left
 start-of-loop p = p.before.before.before.before.before.before.before
 
-abbrev in-loop-of-push-bit-arg : tie.After-push-bit-arg invariant-loop decreases-loop → tie.In-loop invariant-loop decreases-loop
+abbrev in-loop-of-push-bit-arg : tie.After-push_bit-arg-1 invariant-loop-left decreases-loop-left → tie.In-loop-left invariant-loop-left decreases-loop-left
 in-loop-of-push-bit-arg p = p.before.before.before.before.before.before.before
 
-abbrev loop-of-push-bit-arg : tie.After-push-bit-arg invariant-loop decreases-loop → tie.At-loop invariant-loop decreases-loop
+abbrev loop-of-push-bit-arg : tie.After-push_bit-arg-1 invariant-loop-left decreases-loop-left → tie.At-loop-left invariant-loop-left decreases-loop-left
 loop-of-push-bit-arg p = p.before.before.before.before.before.before.before.before
 
-abbrev write-forward-of-put-offset-arg2 : tie.After-put-offset-arg2 invariant-loop decreases-loop → tie.After-write-forward invariant-loop decreases-loop
+abbrev write-forward-of-put-offset-arg2 : tie.After-put_offset-arg-in-loop-left-1 invariant-loop-left decreases-loop-left → tie.After-write_forward-at invariant-loop-left decreases-loop-left
 write-forward-of-put-offset-arg2 p = p.before.before.before.before.before.before.before.before.before
 
-abbrev write-forward-of-inner-large : tie.After-inner-large invariant-loop decreases-loop → tie.After-write-forward invariant-loop decreases-loop
+abbrev write-forward-of-inner-large : tie.After-inner_large-1 invariant-loop-left decreases-loop-left → tie.After-write_forward-at invariant-loop-left decreases-loop-left
 write-forward-of-inner-large p = write-forward-of-put-offset-arg2 p.before.before.before
 
-abbrev in-loop-of-put-offset-arg2 : tie.After-put-offset-arg2 invariant-loop decreases-loop → tie.In-loop invariant-loop decreases-loop
+abbrev in-loop-of-put-offset-arg2 : tie.After-put_offset-arg-in-loop-left-1 invariant-loop-left decreases-loop-left → tie.In-loop-left invariant-loop-left decreases-loop-left
 in-loop-of-put-offset-arg2 p = in-loop-of-push-bit-arg p.before.before.before.before.before
 
-abbrev loop-of-put-offset-arg2 : tie.After-put-offset-arg2 invariant-loop decreases-loop → tie.At-loop invariant-loop decreases-loop
+abbrev loop-of-put-offset-arg2 : tie.After-put_offset-arg-in-loop-left-1 invariant-loop-left decreases-loop-left → tie.At-loop-left invariant-loop-left decreases-loop-left
 loop-of-put-offset-arg2 p = loop-of-push-bit-arg p.before.before.before.before.before
 
-abbrev in-loop-of-inner-large : tie.After-inner-large invariant-loop decreases-loop → tie.In-loop invariant-loop decreases-loop
+abbrev in-loop-of-inner-large : tie.After-inner_large-1 invariant-loop-left decreases-loop-left → tie.In-loop-left invariant-loop-left decreases-loop-left
 in-loop-of-inner-large p = in-loop-of-put-offset-arg2 p.before.before.before
 
-abbrev loop-of-inner-large : tie.After-inner-large invariant-loop decreases-loop → tie.At-loop invariant-loop decreases-loop
+abbrev loop-of-inner-large : tie.After-inner_large-1 invariant-loop-left decreases-loop-left → tie.At-loop-left invariant-loop-left decreases-loop-left
 loop-of-inner-large p = loop-of-put-offset-arg2 p.before.before.before
 
-abbrev S : tie.At-loop invariant-loop decreases-loop → tie.Start invariant-loop decreases-loop
+abbrev S : tie.At-loop-left invariant-loop-left decreases-loop-left → tie.Start invariant-loop-left decreases-loop-left
 S l = start-of-loop l
 
 -- the elements that a turn writes are the row's
-abbrev made : tie.At-loop invariant-loop decreases-loop → List Elem
-made l = tab (E (S l)) (S l).args.a l.before.row_len.result
+abbrev made : tie.At-loop-left invariant-loop-left decreases-loop-left → List Elem
+made l = tab (E (S l)) (S l).args.a l.row_len-len.result
 
-elems : (l : tie.At-loop invariant-loop decreases-loop) → elems_of (W (S l)) ≡ made l
-elems l = let s = S l in elems_from (B s) s.args.r s.args.a s.args.b (E s) ∙ ap (tab (E s) s.args.a) (sym l.before.row_len.ensures)
+elems : (l : tie.At-loop-left invariant-loop-left decreases-loop-left) → elems_of (W (S l)) ≡ made l
+elems l = let s = S l in elems_from (B s) s.args.r s.args.a s.args.b (E s) ∙ ap (tab (E s) s.args.a) (sym l.row_len-len.ensures)
 
-on : (l : tie.At-loop invariant-loop decreases-loop) → is_row (W (S l)) ≡ l.before.before.is-valid.result
-on l = let s = S l in is_row-from (B s) s.args.r s.args.a s.args.b (E s) ∙ sym l.before.before.is-valid.ensures
+on : (l : tie.At-loop-left invariant-loop-left decreases-loop-left) → is_row (W (S l)) ≡ l.is_valid-valid.result
+on l = let s = S l in is_row-from (B s) s.args.r s.args.a s.args.b (E s) ∙ sym l.is_valid-valid.ensures
 
-is-valid-requires : tie.Need-is-valid-requires invariant-loop decreases-loop
-is-valid-requires c κs = let s = c.before.before.before.before in (s.requires.0.rows, s.requires.0.there)
+is_valid-valid-requires : tie.Need-is_valid-valid-requires invariant-loop-left decreases-loop-left
+is_valid-valid-requires c κs = let s = c.before.before.before.before in (s.requires.0.rows, s.requires.0.there)
 
-row-len-requires : tie.Need-row-len-requires invariant-loop decreases-loop
-row-len-requires c κs = let s = start-of-is-valid c in (s.pre.0.rows, (s.pre.0.there, s.pre.0.rises))
+row_len-len-requires : tie.Need-row_len-len-requires invariant-loop-left decreases-loop-left
+row_len-len-requires c κs = let s = start-of-is-valid c in (s.requires.0.rows, (s.requires.0.there, s.requires.0.rises))
 
-loop-holds : tie.Need-loop-init invariant-loop decreases-loop
-loop-holds c = let s = start-of-row-len c in (copy_begun _ _ _ _ _ s.pre.1, refl, refl)
+loop-left-init : tie.Need-loop-left-init invariant-loop-left decreases-loop-left
+loop-left-init c = let s = start-of-row-len c in (copy_begun _ _ _ _ _ s.requires.1, refl, refl)
 
-write-forward-requires : tie.Need-write-forward-requires invariant-loop decreases-loop
-write-forward-requires c κs =
+write_forward-at-requires : tie.Need-write_forward-at-requires invariant-loop-left decreases-loop-left
+write_forward-at-requires c κs =
     let l = c.before.before.before in
     let s = S l in
-    let n = len_from_le (B s) s.args.r s.args.a s.args.b s.pre.0.rises in
-    (record { inside = omega (arith, s.pre.0.inside, l.before.row_len.ensures); bits = s.pre.0.elements }, copy_place (M (S l)) (W (S l)) (S l).args.first (S l).args.place (S l).args.times (made l) c.before.before.loop-test.true (elems l) l.loop.invariant.0)
+    let n = len_from_le (B s) s.args.r s.args.a s.args.b s.requires.0.rises in
+    (record { inside = omega (arith, s.requires.0.inside, l.row_len-len.ensures); bits = s.requires.0.elements }, copy_place (M (S l)) (W (S l)) (S l).args.first (S l).args.place (S l).args.times (made l) c.loop-left-test.true (elems l) l.loop-left.invariant.0)
 
-push-bit-requires : tie.Need-push-bit-requires invariant-loop decreases-loop
-push-bit-requires c κs = let l = loop-of-push-bit-arg c in copy_bit (M (S l)) (W (S l)) (S l).args.first (S l).args.place (S l).args.times (made l) (in-loop-of-push-bit-arg c).loop-test.true (elems l) l.loop.inv.0
+push_bit-requires : tie.Need-push_bit-requires invariant-loop-left decreases-loop-left
+push_bit-requires c κs = let l = loop-of-push-bit-arg c in copy_bit (M (S l)) (W (S l)) (S l).args.first (S l).args.place (S l).args.times (made l) (in-loop-of-push-bit-arg c).loop-test.true (elems l) l.loop-left.invariant.0
 
-add-put-offset : tie.Need-overflow-add-put-offset invariant-loop decreases-loop
-add-put-offset c = let l = loop-of-put-offset-arg2 c in omega (arith, (in-loop-of-put-offset-arg2 c).loop-test.true, copy_few (M (S l)) (W (S l)) (S l).args.first (S l).args.place (S l).args.times (made l) (in-loop-of-put-offset-arg2 c).loop-test.true (elems l) l.loop.inv.0, (fit (S l)).outer, (fit (S l)).offset)
+overflow_add-i : tie.Need-overflow_add-i invariant-loop-left decreases-loop-left
+overflow_add-i c = let l = loop-of-put-offset-arg2 c in omega (arith, (in-loop-of-put-offset-arg2 c).loop-test.true, copy_few (M (S l)) (W (S l)) (S l).args.first (S l).args.place (S l).args.times (made l) (in-loop-of-put-offset-arg2 c).loop-test.true (elems l) l.loop-left.invariant.0, (fit (S l)).outer, (fit (S l)).offset)
 
-put-offset-requires : tie.Need-put-offset-requires invariant-loop decreases-loop
-put-offset-requires c κs = let l = loop-of-put-offset-arg2 c in (copy_slot (M (S l)) (W (S l)) (S l).args.first (S l).args.place (S l).args.times (made l) (in-loop-of-put-offset-arg2 c).loop-test.true (elems l) l.loop.inv.0, copy_small (M (S l)) (W (S l)) (S l).args.first (S l).args.place (S l).args.times (made l) (in-loop-of-put-offset-arg2 c).loop-test.true (elems l) l.loop.inv.0 (write-forward-of-put-offset-arg2 c).write-forward.ensures)
+put_offset-requires : tie.Need-put_offset-requires invariant-loop-left decreases-loop-left
+put_offset-requires c κs = let l = loop-of-put-offset-arg2 c in (copy_slot (M (S l)) (W (S l)) (S l).args.first (S l).args.place (S l).args.times (made l) (in-loop-of-put-offset-arg2 c).loop-test.true (elems l) l.loop-left.invariant.0, copy_small (M (S l)) (W (S l)) (S l).args.first (S l).args.place (S l).args.times (made l) (in-loop-of-put-offset-arg2 c).loop-test.true (elems l) l.loop-left.invariant.0 (write-forward-of-put-offset-arg2 c).write-forward.ensures)
 
-add-i : tie.Need-overflow-add-i invariant-loop decreases-loop
-add-i c = let l = loop-of-inner-large c in omega (arith, (in-loop-of-inner-large c).loop-test.true, copy_few (M (S l)) (W (S l)) (S l).args.first (S l).args.place (S l).args.times (made l) (in-loop-of-inner-large c).loop-test.true (elems l) l.loop.inv.0, (fit (S l)).outer, (fit (S l)).offset)
+overflow_add-i : tie.Need-overflow_add-i invariant-loop-left decreases-loop-left
+overflow_add-i c = let l = loop-of-inner-large c in omega (arith, (in-loop-of-inner-large c).loop-test.true, copy_few (M (S l)) (W (S l)) (S l).args.first (S l).args.place (S l).args.times (made l) (in-loop-of-inner-large c).loop-test.true (elems l) l.loop-left.invariant.0, (fit (S l)).outer, (fit (S l)).offset)
 
-sub-left : tie.Need-overflow-sub-left invariant-loop decreases-loop
-sub-left c = omega (arith, (in-loop-of-inner-large c).loop-test.true)
+overflow_sub-left : tie.Need-overflow_sub-left invariant-loop-left decreases-loop-left
+overflow_sub-left c = omega (arith, (in-loop-of-inner-large c).loop-test.true)
 
-loop-less : tie.Need-loop-smaller invariant-loop decreases-loop
-loop-less c = omega (arith, (in-loop-of-inner-large c).loop-test.true)
+loop-left-smaller : tie.Need-loop-left-smaller invariant-loop-left decreases-loop-left
+loop-left-smaller c = omega (arith, (in-loop-of-inner-large c).loop-test.true)
 
-loop-again : tie.Need-loop-preserved invariant-loop decreases-loop
-loop-again c =
+loop-left-preserved : tie.Need-loop-left-preserved invariant-loop-left decreases-loop-left
+loop-left-preserved c =
     let l = loop-of-inner-large c in
-    let w = c.before.before.put-offset in
-    (copy_more (M (S l)) (W (S l)) (S l).args.first (S l).args.place (S l).args.times (made l) (in-loop-of-inner-large c).loop-test.true (elems l) l.loop.inv.0 (write-forward-of-inner-large c).write-forward.ensures _ (on l) (push-bit-of-inner-large c).push-bit.ensures w.ensures, w.auto.1.0 ∙ l.loop.inv.1, w.auto.1.1.0 ∙ l.loop.inv.2)
+    let w = c.put_offset in
+    (copy_more (M (S l)) (W (S l)) (S l).args.first (S l).args.place (S l).args.times (made l) (in-loop-of-inner-large c).loop-test.true (elems l) l.loop-left.invariant.0 (write-forward-of-inner-large c).write-forward.ensures _ (on l) (push-bit-of-inner-large c).push-bit.ensures w.ensures, w.auto.narrow ∙ l.loop-left.invariant.1, w.auto.wide ∙ l.loop-left.invariant.2)
 
-same_length : tie.Need-same-length invariant-loop decreases-loop
-same_length c = c.before.loop.invariant.1
+shape_of-inner_offsets : tie.Need-shape_of-inner_offsets invariant-loop-left decreases-loop-left
+shape_of-inner_offsets c = c.loop-left.invariant.1
 
-same-length-2 : tie.Need-same-length-2 invariant-loop decreases-loop
-same-length-2 c = c.before.loop.invariant.0.lr
+shape_of-inner_rows : tie.Need-shape_of-inner_rows invariant-loop-left decreases-loop-left
+shape_of-inner_rows c = c.loop-left.invariant.0.lr
 
-same-length-3 : tie.Need-same-length-3 invariant-loop decreases-loop
-same-length-3 c = c.before.loop.invariant.0.lv
+shape_of-out_values : tie.Need-shape_of-out_values invariant-loop-left decreases-loop-left
+shape_of-out_values c = c.loop-left.invariant.0.lv
 
-same-length-4 : tie.Need-same-length-4 invariant-loop decreases-loop
-same-length-4 c = c.before.loop.invariant.0.le
+shape_of-out_elements : tie.Need-shape_of-out_elements invariant-loop-left decreases-loop-left
+shape_of-out_elements c = c.loop-left.invariant.0.le
 
-same-length-5 : tie.Need-same-length-5 invariant-loop decreases-loop
-same-length-5 c = c.before.loop.invariant.2
+shape_of-inner_large : tie.Need-shape_of-inner_large invariant-loop-left decreases-loop-left
+shape_of-inner_large c = c.loop-left.invariant.2
 
-returns : tie.Need-returns invariant-loop decreases-loop
-returns c = let l = c.before in copy_done (M (S l)) (W (S l)) (S l).args.first (S l).args.place (S l).args.times l.loop.invariant.0 c.loop-test.false
+returns : tie.Need-returns invariant-loop-left decreases-loop-left
+returns c = let l = c.before in copy_done (M (S l)) (W (S l)) (S l).args.first (S l).args.place (S l).args.times l.loop-left.invariant.0 c.loop-left-test.false
+
+overflow_add-i-in-loop-left : tie.Need-overflow_add-i-in-loop-left invariant-loop-left decreases-loop-left
+overflow_add-i-in-loop-left c = search rules
 
 pub put_copies_spec : {M : Type 1} → statement M
 put_copies_spec =
     tie.close
     (tie.spec
-    invariant-loop
-    decreases-loop
-    is-valid-requires
-    row-len-requires
-    loop-holds
-    write-forward-requires
-    push-bit-requires
-    add-put-offset
-    put-offset-requires
-    add-i
-    sub-left
-    loop-less
-    loop-again
-    same_length
-    same-length-2
-    same-length-3
-    same-length-4
-    same-length-5
+    invariant-loop-left
+    decreases-loop-left
+    is_valid-valid-requires
+    row_len-len-requires
+    loop-left-init
+    write_forward-at-requires
+    push_bit-requires
+    overflow_add-i
+    put_offset-requires
+    overflow_add-i-in-loop-left
+    overflow_sub-left
+    loop-left-smaller
+    loop-left-preserved
+    shape_of-inner_offsets
+    shape_of-inner_rows
+    shape_of-out_values
+    shape_of-out_elements
+    shape_of-inner_large
     returns)

@@ -5,42 +5,42 @@ use Rattle.repeat_walk.specs.Repeats.{repeat_answer_from}
 use Rattle.repeat_walk.proofs.repeat_answer.Statement.{statement}
 use Rattle.repeat_walk.proofs.repeat_answer.Tie as tie
 
-count-set-requires : tie.Need-count-set-requires
-count-set-requires c κs = search
+count_set-valid_rows-requires : tie.Need-count_set-valid_rows-requires
+count_set-valid_rows-requires c κs = search
 
-count-set-requires-2 : tie.Need-count-set-requires-2
-count-set-requires-2 c κs = search
+count_set-valid_lists-requires : tie.Need-count_set-valid_lists-requires
+count_set-valid_lists-requires c κs = search
 
-count-set-requires-3 : tie.Need-count-set-requires-3
-count-set-requires-3 c κs = search
+count_set-valid_elements-requires : tie.Need-count_set-valid_elements-requires
+count_set-valid_elements-requires c κs = search
 
-sub-null-rows : tie.Need-overflow-sub-null-rows
-sub-null-rows c =
-    let a = c.before.before.before.before.before.before.args in
-    omega (arith, trues-tab (bit_at a.out-rows.now) 0 a.n, c.before.before.count_set.ensures)
+overflow_sub-null_rows : tie.Need-overflow_sub-null_rows
+overflow_sub-null_rows c =
+    let a = c.args in
+    omega (arith, trues-tab (bit_at a.out_rows.now) 0 a.n, c.count_set-valid_rows.ensures)
 
-sub-null-inner-rows : tie.Need-overflow-sub-null-inner-rows
-sub-null-inner-rows c =
-    let a = c.before.before.before.before.before.before.args in
-    omega (arith, trues-tab (bit_at a.inner-rows.now) 0 a.lists, c.before.count-set2.ensures)
+overflow_sub-null_inner_rows : tie.Need-overflow_sub-null_inner_rows
+overflow_sub-null_inner_rows c =
+    let a = c.args in
+    omega (arith, trues-tab (bit_at a.inner_rows.now) 0 a.lists, c.count_set-valid_lists.ensures)
 
-sub-null-elements : tie.Need-overflow-sub-null-elements
-sub-null-elements c =
-    let a = c.before.before.before.before.before.before.args in
-    omega (arith, trues-tab (bit_at a.out-elements.now) 0 a.m, c.count-set3.ensures)
+overflow_sub-null_elements : tie.Need-overflow_sub-null_elements
+overflow_sub-null_elements c =
+    let a = c.args in
+    omega (arith, trues-tab (bit_at a.out_elements.now) 0 a.m, c.count_set-valid_elements.ensures)
 
 returns : tie.Need-returns
 unfolding repeat_answer_from
-returns c = rw (c.before.before.count_set.ensures, c.before.count-set2.ensures, c.count-set3.ensures)
+returns c = rw (c.count_set-valid_rows.ensures, c.count_set-valid_lists.ensures, c.count_set-valid_elements.ensures)
 
 pub repeat_answer_spec : {M : Type 1} → statement M
 repeat_answer_spec =
     tie.close
     (tie.spec
-    count-set-requires
-    count-set-requires-2
-    count-set-requires-3
-    sub-null-rows
-    sub-null-inner-rows
-    sub-null-elements
+    count_set-valid_rows-requires
+    count_set-valid_lists-requires
+    count_set-valid_elements-requires
+    overflow_sub-null_rows
+    overflow_sub-null_inner_rows
+    overflow_sub-null_elements
     returns)

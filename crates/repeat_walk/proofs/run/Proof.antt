@@ -21,45 +21,45 @@ abbrev M : tie.Start → Limits
 M s = limits_at s.args.width
 
 abbrev A : tie.Start → Arguments
-A s = let a = s.args in arguments a.counts.now (from a.cstart a.count-bits.now)
+A s = let a = s.args in arguments a.counts.now (from a.cstart a.count_bits.now)
 
 abbrev R : tie.Start → RepeatRoom
-R s = let a = s.args in repeat_room (length (used a.width a.out-offsets.now a.out-large.now)) (length a.out-rows.now) (length (used a.width a.inner-offsets.now a.inner-large.now)) (length a.inner-rows.now) (length a.out-values.now) (length a.out-elements.now)
+R s = let a = s.args in repeat_room (length (used a.width a.out_offsets.now a.out_large.now)) (length a.out_rows.now) (length (used a.width a.inner_offsets.now a.inner_large.now)) (length a.inner_rows.now) (length a.out_values.now) (length a.out_elements.now)
 
 -- ---- places: what is filled, the sums told and taken, the early refusals passed and found; and the start
 
-abbrev filled : tie.After-inner-large → tie.After-fill
+abbrev filled : tie.After-inner_large-1 → tie.After-fill
 filled c = c.before.before.before.before.before.before.before.before.before.before.before
 
-abbrev told : tie.After-fill-arg8 → tie.After-lists
-told c = c.before.before.before.before.before.before.before.before.before
+abbrev told : tie.After-fill-arg-in-Of-7-1 → tie.In-Of-2
+told c = c.before.before.before.before.before.before.before.before
 
-abbrev summed : tie.After-lists → tie.After-sum-repeats
-summed f = f.before.before
+abbrev summed : tie.In-Of-2 → tie.After-sum_repeats
+summed f = f.before
 
-abbrev S : tie.After-early → tie.Start
+abbrev S : tie.After-early-k → tie.Start
 S e = e.before.before.before.before.before.before.before
 
 -- the early refusals have passed
-begun : (e : tie.Else1) → let s = S e.before in Begun (C s) (A s)
-begun e = e.before.early.ensures.1 e.if1.false
+begun : (e : tie.Else-k-ne0) → let s = S e.before in Begun (C s) (A s)
+begun e = e.early-k.ensures.1 e.if-k-ne0.false
 
 -- ---- needs
 
-early-requires : tie.Need-early-requires
-early-requires c κs = search
+early-k-requires : tie.Need-early-k-requires
+early-k-requires c κs = search
 
-returns : tie.Need-returns
-returns c = let s = S c.before in repeat_refused _ (run_early (M s) (C s) (A s) _ c.before.early.ensures.0 (R s) c.if1.true)
+returns-then-k-ne0 : tie.Need-returns-then-k-ne0
+returns-then-k-ne0 c = let s = S c.before in repeat_refused _ (run_early (M s) (C s) (A s) _ c.early-k.ensures.0 (R s) c.if-k-ne0.true)
 
-sum-repeats-requires : tie.Need-sum-repeats-requires
-sum-repeats-requires c κs = let b = begun c in (rising (C (S c.before)) b.list, (b.list.rows, (b.bits, b.equal)))
+sum_repeats-requires : tie.Need-sum_repeats-requires
+sum_repeats-requires c κs = let b = begun c in (rising (C (S c.before)) b.list, (b.list.rows, (b.bits, b.equal)))
 
-enum_told : tie.Need-enum-told
-enum_told c = search
+enum_told-1 : tie.Need-enum_told-1
+enum_told-1 c = search
 
-enum-known-lists : tie.Need-enum-known-lists
-enum-known-lists c = search
+enum_known-lists : tie.Need-enum_known-lists
+enum_known-lists c = search
 
 fill-requires : tie.Need-fill-requires
 fill-requires c κs =
@@ -67,63 +67,63 @@ fill-requires c κs =
     let e = (summed f).before in
     let s = S e.before in
     let b = begun e in
-    let m = sums_are (M s) (C s) (A s) _ _ (sym f.lists.given.1 ∙ (summed f).sum-repeats.ensures) in
+    let m = sums_are (M s) (C s) (A s) _ _ (sym f.in-Of.is ∙ (summed f).sum-repeats.ensures) in
     (b.list, (b.bits, (b.equal, (m.0, (m.1, (m.2, m.3))))))
 
-returns-2 : tie.Need-returns-2
-returns-2 c =
-    let e = c.before.before.before in
+returns-in-TooMany : tie.Need-returns-in-TooMany
+returns-in-TooMany c =
+    let e = c.before.before in
     let s = S e.before in
-    repeat_refused 8 (run_eight (M s) (C s) (A s) _ e.before.early.ensures.0 e.if1.false (begun e).equal (sym c.enum_told.given.1 ∙ c.before.before.sum-repeats.ensures) (R s))
+    repeat_refused 8 (run_eight (M s) (C s) (A s) _ e.early-k.ensures.0 e.if-k-ne0.false (begun e).equal (sym c.in-TooMany.is ∙ c.sum_repeats.ensures) (R s))
 
-same_length : tie.Need-same-length
-same_length c = (filled c).fill.auto.1.1.1.1.1.1.1.1.1.1.1.0
+shape_of-out_offsets : tie.Need-shape_of-out_offsets
+shape_of-out_offsets c = (filled c).fill.auto.1.1.1.1.1.1.1.1.1.1.1.0
 
-same-length-2 : tie.Need-same-length-2
-same-length-2 c = (filled c).fill.auto.1.1.1.1.1.1.1.1.1.1.1.1.0
+shape_of-out_rows : tie.Need-shape_of-out_rows
+shape_of-out_rows c = (filled c).fill.auto.1.1.1.1.1.1.1.1.1.1.1.1.0
 
-same-length-3 : tie.Need-same-length-3
-same-length-3 c = (filled c).fill.auto.1.1.1.1.1.1.1.1.1.1.1.1.1.0
+shape_of-inner_offsets : tie.Need-shape_of-inner_offsets
+shape_of-inner_offsets c = (filled c).fill.auto.1.1.1.1.1.1.1.1.1.1.1.1.1.0
 
-same-length-4 : tie.Need-same-length-4
-same-length-4 c = (filled c).fill.auto.1.1.1.1.1.1.1.1.1.1.1.1.1.1.0
+shape_of-inner_rows : tie.Need-shape_of-inner_rows
+shape_of-inner_rows c = (filled c).fill.auto.1.1.1.1.1.1.1.1.1.1.1.1.1.1.0
 
-same-length-5 : tie.Need-same-length-5
-same-length-5 c = (filled c).fill.auto.1.1.1.1.1.1.1.1.1.1.1.1.1.1.1.0
+shape_of-out_values : tie.Need-shape_of-out_values
+shape_of-out_values c = (filled c).fill.auto.1.1.1.1.1.1.1.1.1.1.1.1.1.1.1.0
 
-same-length-6 : tie.Need-same-length-6
-same-length-6 c = (filled c).fill.auto.1.1.1.1.1.1.1.1.1.1.1.1.1.1.1.1.0
+shape_of-out_elements : tie.Need-shape_of-out_elements
+shape_of-out_elements c = (filled c).fill.auto.1.1.1.1.1.1.1.1.1.1.1.1.1.1.1.1.0
 
-same-length-7 : tie.Need-same-length-7
-same-length-7 c = (filled c).fill.auto.1.1.1.1.1.1.1.1.1.1.1.1.1.1.1.1.1.1.1.0
+shape_of-out_large : tie.Need-shape_of-out_large
+shape_of-out_large c = (filled c).fill.auto.1.1.1.1.1.1.1.1.1.1.1.1.1.1.1.1.1.1.1.0
 
-same-length-8 : tie.Need-same-length-8
-same-length-8 c = (filled c).fill.auto.1.1.1.1.1.1.1.1.1.1.1.1.1.1.1.1.1.1.1.1.0
+shape_of-inner_large : tie.Need-shape_of-inner_large
+shape_of-inner_large c = (filled c).fill.auto.1.1.1.1.1.1.1.1.1.1.1.1.1.1.1.1.1.1.1.1.0
 
-returns-3 : tie.Need-returns-3
-returns-3 c =
+returns-in-Of : tie.Need-returns-in-Of
+returns-in-Of c =
     let f = told (filled c).before in
     let e = (summed f).before in
     let s = S e.before in
-    rw (run_fits (M s) (C s) (A s) _ e.before.early.ensures.0 e.if1.left (begun e).equal _ _ (sym f.lists.given.1 ∙ (summed f).sum-repeats.ensures) (R s)) (filled c).fill.ensures
+    rw (run_fits (M s) (C s) (A s) _ e.early-k.ensures.0 e.if-k-ne0.false (begun e).equal _ _ (sym f.in-Of.is ∙ (summed f).sum-repeats.ensures) (R s)) (filled c).fill.ensures
 
 pub run_spec : {M : Type 1} → statement M
 run_spec =
     tie.close
     (tie.spec
-    early-requires
-    returns
-    sum-repeats-requires
-    enum_told
-    enum-known-lists
+    early-k-requires
+    returns-then-k-ne0
+    sum_repeats-requires
+    enum_told-1
+    enum_known-lists
     fill-requires
-    returns-2
-    same_length
-    same-length-2
-    same-length-3
-    same-length-4
-    same-length-5
-    same-length-6
-    same-length-7
-    same-length-8
-    returns-3)
+    returns-in-TooMany
+    shape_of-out_offsets
+    shape_of-out_rows
+    shape_of-inner_offsets
+    shape_of-inner_rows
+    shape_of-out_values
+    shape_of-out_elements
+    shape_of-out_large
+    shape_of-inner_large
+    returns-in-Of)

@@ -23,215 +23,218 @@ use Rattle.replace_walk.proofs.write_rows.Statement.{statement}
 use Rattle.replace_walk.proofs.write_rows.Tie as tie
 
 -- what was written of the rows before r, and where row r begins
-abbrev invariant-loop : tie.invariant-loop
-invariant-loop offsets rows rstart values elements estart xs xbits xstart ys ybits ystart zs zbits zstart out-offsets₀ out-rows₀ out-values₀ out-elements₀ width large out-large₀ n r₀ at₀ left₀ a₀ out-offsets out-rows out-values out-elements out-large r at left a =
+abbrev invariant-loop-left : tie.invariant-loop-left
+invariant-loop-left offsets rows rstart values elements estart xs xbits xstart ys ybits ystart zs zbits zstart out-offsets₀ out-rows₀ out-values₀ out-elements₀ width large out-large₀ n r₀ at₀ left₀ a₀ out-offsets out-rows out-values out-elements out-large r at left a =
     Walking (row_made_at (limits_at width) L.Replace (column (used width offsets large) (from rstart rows) values (from estart elements)) (arguments xs (from xstart xbits)) (arguments ys (from ystart ybits)) (arguments zs (from zstart zbits))) n (used width out-offsets₀ out-large₀) out-rows₀ out-values₀ out-elements₀ (used width out-offsets out-large) out-rows out-values out-elements r at left
     × (length out-offsets ≡ length out-offsets₀)
     × (length out-large ≡ length out-large₀)
     × (0 < left → a ≡ offset_at (used width offsets large) r)
 
-abbrev decreases-loop : tie.decreases-loop
-decreases-loop offsets rows rstart values elements estart xs xbits xstart ys ybits ystart zs zbits zstart out-offsets₀ out-rows₀ out-values₀ out-elements₀ width large out-large₀ n r₀ at₀ left₀ a₀ out-offsets out-rows out-values out-elements out-large r at left a =
+abbrev decreases-loop-left : tie.decreases-loop-left
+decreases-loop-left offsets rows rstart values elements estart xs xbits xstart ys ybits ystart zs zbits zstart out-offsets₀ out-rows₀ out-values₀ out-elements₀ width large out-large₀ n r₀ at₀ left₀ a₀ out-offsets out-rows out-values out-elements out-large r at left a =
     left
 
-abbrev N : tie.Start invariant-loop decreases-loop → Limits
+abbrev N : tie.Start invariant-loop-left decreases-loop-left → Limits
 N s = limits_at s.args.width
 
-abbrev C : tie.Start invariant-loop decreases-loop → Column
+abbrev C : tie.Start invariant-loop-left decreases-loop-left → Column
 C s = let a = s.args in column (used a.width a.offsets.now a.large.now) (from a.rstart a.rows.now) a.values.now (from a.estart a.elements.now)
 
 -- the offsets that are written, as the call began
-abbrev O : tie.Start invariant-loop decreases-loop → List ℤ
-O s = used s.args.width s.args.out-offsets.now s.args.out-large.now
+abbrev O : tie.Start invariant-loop-left decreases-loop-left → List ℤ
+O s = used s.args.width s.args.out_offsets.now s.args.out_large.now
 
-abbrev X : tie.Start invariant-loop decreases-loop → Arguments
+abbrev X : tie.Start invariant-loop-left decreases-loop-left → Arguments
 X s = arguments s.args.xs.now (from s.args.xstart s.args.xbits.now)
 
-abbrev Y : tie.Start invariant-loop decreases-loop → Arguments
+abbrev Y : tie.Start invariant-loop-left decreases-loop-left → Arguments
 Y s = arguments s.args.ys.now (from s.args.ystart s.args.ybits.now)
 
-abbrev Z : tie.Start invariant-loop decreases-loop → Arguments
+abbrev Z : tie.Start invariant-loop-left decreases-loop-left → Arguments
 Z s = arguments s.args.zs.now (from s.args.zstart s.args.zbits.now)
 
 -- ---- places: the start and the first offset put, from the loop; a turn's row written, its arguments and its offset, from what comes after
 
-abbrev put : tie.At-loop invariant-loop decreases-loop → tie.After-put-offset invariant-loop decreases-loop
+abbrev put : tie.At-loop-left invariant-loop-left decreases-loop-left → tie.After-put_offset invariant-loop-left decreases-loop-left
 put l = l.before.before.before.before
 
-abbrev begun : tie.After-put-offset-arg2 invariant-loop decreases-loop → tie.Start invariant-loop decreases-loop
+abbrev begun : tie.After-put_offset-arg-2-1 invariant-loop-left decreases-loop-left → tie.Start invariant-loop-left decreases-loop-left
 begun p = p.before.before.before.before.before.before.before.before.before.before
 
-abbrev S : tie.At-loop invariant-loop decreases-loop → tie.Start invariant-loop decreases-loop
+abbrev S : tie.At-loop-left invariant-loop-left decreases-loop-left → tie.Start invariant-loop-left decreases-loop-left
 S l = begun (put l).before
 
-abbrev written : tie.After-put-offset-arg4 invariant-loop decreases-loop → tie.After-put-row invariant-loop decreases-loop
+abbrev written : tie.After-put_offset-arg-in-loop-left-2-1 invariant-loop-left decreases-loop-left → tie.After-put_row-at invariant-loop-left decreases-loop-left
 written p = p.before.before.before.before.before.before.before
 
-abbrev turned : tie.After-out-large2 invariant-loop decreases-loop → tie.After-put-row invariant-loop decreases-loop
+abbrev turned : tie.After-out_large-in-loop-left-1 invariant-loop-left decreases-loop-left → tie.After-put_row-at invariant-loop-left decreases-loop-left
 turned p = written p.before.before.before
 
-abbrev taken : tie.After-put-row invariant-loop decreases-loop → tie.After-taken-at2 invariant-loop decreases-loop
+abbrev taken : tie.After-put_row-at invariant-loop-left decreases-loop-left → tie.After-taken_at-to invariant-loop-left decreases-loop-left
 taken w = w.before.before.before.before
 
-abbrev between-offsets : tie.After-taken-at2 invariant-loop decreases-loop → tie.After-offset-at invariant-loop decreases-loop
+abbrev between-offsets : tie.After-taken_at-to invariant-loop-left decreases-loop-left → tie.After-offset_at-b invariant-loop-left decreases-loop-left
 between-offsets o = o.before.before.before
 
-abbrev inside : tie.After-put-row invariant-loop decreases-loop → tie.In-loop invariant-loop decreases-loop
+abbrev inside : tie.After-put_row-at invariant-loop-left decreases-loop-left → tie.In-loop-left invariant-loop-left decreases-loop-left
 inside w = (between-offsets (taken w)).before
 
-abbrev count : tie.At-loop invariant-loop decreases-loop → ℕ
+abbrev count : tie.At-loop-left invariant-loop-left decreases-loop-left → ℕ
 count l = (put l).before.before.before.row_count.result
 
-rows_are : (l : tie.At-loop invariant-loop decreases-loop) → count l ≡ row_count (C (S l)).offsets
+rows_are : (l : tie.At-loop-left invariant-loop-left decreases-loop-left) → count l ≡ row_count (C (S l)).offsets
 rows_are l = (put l).before.before.before.row_count.ensures
 
-abbrev W : tie.At-loop invariant-loop decreases-loop → ℕ → Row
+abbrev W : tie.At-loop-left invariant-loop-left decreases-loop-left → ℕ → Row
 W l = let s = S l in row_made_at (N s) L.Replace (C s) (X s) (Y s) (Z s)
 
 -- room for all rows, from the code's count
-roomy : (l : tie.At-loop invariant-loop decreases-loop) (lo : ℕ) → lo ≡ length (O (S l)) → let a = (S l).args in RoomInˡ (count l) (length (flat (tab (W l) 0 (count l)))) lo (length a.out-rows.now) (length a.out-values.now) (length a.out-elements.now)
-roomy l lo e = let s = S l in room_at (N s) L.Replace (C s) (X s) (Y s) (Z s) (count l) (rows_are l) s.pre.1.1.1 e
+roomy : (l : tie.At-loop-left invariant-loop-left decreases-loop-left) (lo : ℕ) → lo ≡ length (O (S l)) → let a = (S l).args in RoomInˡ (count l) (length (flat (tab (W l) 0 (count l)))) lo (length a.out_rows-1.now) (length a.out_values-1.now) (length a.out_elements-1.now)
+roomy l lo e = let s = S l in room_at (N s) L.Replace (C s) (X s) (Y s) (Z s) (count l) (rows_are l) s.requires.1.1.1 e
 
 -- row r of a turn can be read
-reads : (q : tie.After-offset-at invariant-loop decreases-loop) → let l = q.before.before in ReadableRowˡ (C (S l)).rows (count l) (C (S l)).values (C (S l)).elements l.loop.r l.loop.a q.offset_at.result
+reads : (q : tie.After-offset_at-b invariant-loop-left decreases-loop-left) → let l = q.before.before in ReadableRowˡ (C (S l)).rows (count l) (C (S l)).values (C (S l)).elements l.loop-left.r l.loop-left.a q.offset_at-b.result
 reads q =
     let l = q.before.before in
-    let t = q.before.loop-test.true in
-    between (C (S l)) (count l) l.loop.r l.loop.a q.offset_at.result (S l).requires.0 (rows_are l) (omega (arith, l.loop.invariant.0.rows, t)) (l.loop.invariant.3 t) q.offset_at.ensures.0
+    let t = q.loop-left-test.true in
+    between (C (S l)) (count l) l.loop-left.r l.loop-left.a q.offset_at-b.result (S l).requires.0 (rows_are l) (omega (arith, l.loop-left.invariant.0.rows, t)) (l.loop-left.invariant.3 t) q.offset_at-b.ensures.0
 
 -- the row that a turn makes is row r's
-abbrev made : (o : tie.After-taken-at2 invariant-loop decreases-loop) → Row
+abbrev made : (o : tie.After-taken_at-to invariant-loop-left decreases-loop-left) → Row
 made o =
     let q = between-offsets o in
     let l = q.before.before in
     let s = S l in
-    row_made (op_made (replace_op o.before.taken_at.result o.taken-at2.result o.before.before.limit-at.result) (tab (elem_at (C s).values (C s).elements) l.loop.a (q.offset_at.result - l.loop.a)))
+    row_made (op_made (replace_op o.taken_at-needle.result o.taken_at-to.result o.limit_at-limit.result) (tab (elem_at (C s).values (C s).elements) l.loop-left.a (q.offset_at-b.result - l.loop-left.a)))
 
-same_row : (o : tie.After-taken-at2 invariant-loop decreases-loop) → let l = (between-offsets o).before.before in made o ≡ W l l.loop.r
+same_row : (o : tie.After-taken_at-to invariant-loop-left decreases-loop-left) → let l = (between-offsets o).before.before in made o ≡ W l l.loop-left.r
 same_row o =
     let q = between-offsets o in
     let l = q.before.before in
     let s = S l in
-    replaced_row (N s) (C s) (X s) (Y s) (Z s) l.loop.r l.loop.a q.offset_at.result (l.loop.inv.3 q.before.loop-test.taken) q.offset_at.ensures.0 o.before.taken_at.result o.taken-at2.result o.before.before.limit-at.result o.before.taken_at.ensures o.taken-at2.ensures o.before.before.limit-at.ensures
+    replaced_row (N s) (C s) (X s) (Y s) (Z s) l.loop-left.r l.loop-left.a q.offset_at-b.result (l.loop-left.invariant.3 q.loop-left-test.true) q.offset_at-b.ensures.0 o.taken_at-needle.result o.taken_at-to.result o.limit_at-limit.result o.taken_at-needle.ensures o.taken_at-to.ensures o.limit_at-limit.ensures
 
-row-count-requires : tie.Need-row-count-requires invariant-loop decreases-loop
-row-count-requires c κs = search
+row_count-n-requires : tie.Need-row_count-n-requires invariant-loop-left decreases-loop-left
+row_count-n-requires c κs = search
 
-put-offset-requires : tie.Need-put-offset-requires invariant-loop decreases-loop
-put-offset-requires c κs = (omega (arith, (begun c).requires.1.1.1.offsets), omega arith)
+put_offset-requires : tie.Need-put_offset-requires invariant-loop-left decreases-loop-left
+put_offset-requires c κs = (omega (arith, (begun c).requires.1.1.1.offsets), omega arith)
 
-first-offset-requires : tie.Need-first-offset-requires invariant-loop decreases-loop
-first-offset-requires c κs = search
+first_offset-a-requires : tie.Need-first_offset-a-requires invariant-loop-left decreases-loop-left
+first_offset-a-requires c κs = search
 
-loop-holds : tie.Need-loop-init invariant-loop decreases-loop
-loop-holds c = (walk_begun _ _ _ _ _ _, refl, refl, λ z. c.first-offset.ensures)
+loop-left-init : tie.Need-loop-left-init invariant-loop-left decreases-loop-left
+loop-left-init c = (walk_begun _ _ _ _ _ _, refl, refl, λ z. c.first_offset-a.ensures)
 
-add-offset-at : tie.Need-overflow-add-offset-at invariant-loop decreases-loop
-add-offset-at c = omega (arith, c.before.loop.invariant.0.rows, c.loop-test.true)
+overflow_add-r : tie.Need-overflow_add-r invariant-loop-left decreases-loop-left
+overflow_add-r c = omega (arith, c.loop-left.invariant.0.rows, c.loop-left-test.true)
 
-offset-at-requires : tie.Need-offset-at-requires invariant-loop decreases-loop
-offset-at-requires c κs = omega (arith, rows_are c.before, c.before.loop.invariant.0.rows, c.loop-test.true)
+offset_at-b-requires : tie.Need-offset_at-b-requires invariant-loop-left decreases-loop-left
+offset_at-b-requires c κs = omega (arith, rows_are c.before, c.loop-left.invariant.0.rows, c.loop-left-test.true)
 
-sub-len : tie.Need-overflow-sub-len invariant-loop decreases-loop
-sub-len c = (reads c).rises
+overflow_sub-len : tie.Need-overflow_sub-len invariant-loop-left decreases-loop-left
+overflow_sub-len c = (reads c).rises
 
-limit-at-requires : tie.Need-limit-at-requires invariant-loop decreases-loop
-limit-at-requires c κs = let l = c.before.before in ((reads c).rows, (rw (rows_are l) (replace-served (S l).requires.1.0).2, (reads c).there))
+limit_at-limit-requires : tie.Need-limit_at-limit-requires invariant-loop-left decreases-loop-left
+limit_at-limit-requires c κs = let l = c.before.before in ((reads c).rows, (rw (rows_are l) (replace-served (S l).requires.1.0).2, (reads c).there))
 
-taken-at-requires : tie.Need-taken-at-requires invariant-loop decreases-loop
-taken-at-requires c κs = let l = c.before.before.before in (λ e. rw (rows_are l) (replace-served (S l).requires.1.0).0, (reads c.before).there)
+taken_at-needle-requires : tie.Need-taken_at-needle-requires invariant-loop-left decreases-loop-left
+taken_at-needle-requires c κs = let l = c.before.before.before in (λ e. rw (rows_are l) (replace-served (S l).requires.1.0).0, (reads c.before).there)
 
-taken-at-requires-2 : tie.Need-taken-at-requires-2 invariant-loop decreases-loop
-taken-at-requires-2 c κs = let l = c.before.before.before.before in (λ e. rw (rows_are l) (replace-served (S l).requires.1.0).1, (reads c.before.before).there)
+taken_at-to-requires : tie.Need-taken_at-to-requires invariant-loop-left decreases-loop-left
+taken_at-to-requires c κs = let l = c.before.before.before.before in (λ e. rw (rows_are l) (replace-served (S l).requires.1.0).1, (reads c.before.before).there)
 
-put-row-requires : tie.Need-put-row-requires invariant-loop decreases-loop
-put-row-requires c κs =
+put_row-at-requires : tie.Need-put_row-at-requires invariant-loop-left decreases-loop-left
+put_row-at-requires c κs =
     let o = c.before.before.before in
     let q = between-offsets o in
     let l = q.before.before in
-    (record { inside = omega (arith, (reads q).rises, (reads q).inside); bits = (reads q).elements }, walk_room (W l) (count l) (made o) q.before.loop-test.taken (same_row o) l.loop.inv.0 (roomy l _ (put_keeps (O (S l)) 0 0 (put l).put-offset.ensures)))
+    (record { inside = omega (arith, (reads q).rises, (reads q).inside); bits = (reads q).elements }, walk_room (W l) (count l) (made o) q.loop-left-test.true (same_row o) l.loop-left.invariant.0 (roomy l _ (put_keeps (O (S l)) 0 0 (put l).put-offset.ensures)))
 
-add-put-offset : tie.Need-overflow-add-put-offset invariant-loop decreases-loop
-add-put-offset c = let i = inside (written c) in omega (arith, i.before.loop.inv.0.rows, i.loop-test.taken)
+overflow_add-r-in-loop-left : tie.Need-overflow_add-r-in-loop-left invariant-loop-left decreases-loop-left
+overflow_add-r-in-loop-left c = let i = inside (written c) in omega (arith, i.loop-left.invariant.0.rows, i.loop-left-test.true)
 
-put-offset-requires-2 : tie.Need-put-offset-requires-2 invariant-loop decreases-loop
-put-offset-requires-2 c κs =
+put_offset-requires-in-loop-left : tie.Need-put_offset-requires-in-loop-left invariant-loop-left decreases-loop-left
+put_offset-requires-in-loop-left c κs =
     let w = written c in
     let o = taken w in
     let i = inside w in
     let l = i.before in
     let s = S l in
-    let k = walk_small (W l) (count l) (made o) i.loop-test.taken (same_row o) l.loop.inv.0 w.put-row.ensures in
-    (walk_slot (W l) (count l) (made o) i.loop-test.taken (same_row o) l.loop.inv.0 (roomy l _ (put_keeps (O (S l)) 0 0 (put l).put-offset.ensures)), omega (arith, s.pre.1.1.0, rw (rows_at (N s) L.Replace (C s) (X s) (Y s) (Z s) (count l) (rows_are l)) at k))
+    let k = walk_small (W l) (count l) (made o) i.loop-left-test.true (same_row o) l.loop-left.invariant.0 w.put_row-at.ensures in
+    (walk_slot (W l) (count l) (made o) i.loop-left-test.true (same_row o) l.loop-left.invariant.0 (roomy l _ (put_keeps (O (S l)) 0 0 (put l).put-offset.ensures)), omega (arith, s.requires.1.1.0, rw (rows_at (N s) L.Replace (C s) (X s) (Y s) (Z s) (count l) (rows_are l)) at k))
 
-add_r : tie.Need-overflow-add-r invariant-loop decreases-loop
-add_r c = let i = inside (turned c) in omega (arith, i.before.loop.inv.0.rows, i.loop-test.taken)
+overflow_add-r : tie.Need-overflow_add-r invariant-loop-left decreases-loop-left
+overflow_add-r c = let i = inside (turned c) in omega (arith, i.loop-left.invariant.0.rows, i.loop-left-test.true)
 
-sub-left : tie.Need-overflow-sub-left invariant-loop decreases-loop
-sub-left c = omega (arith, (inside (turned c)).loop-test.taken)
+overflow_sub-left : tie.Need-overflow_sub-left invariant-loop-left decreases-loop-left
+overflow_sub-left c = omega (arith, (inside (turned c)).loop-left-test.true)
 
-loop-less : tie.Need-loop-smaller invariant-loop decreases-loop
-loop-less c = omega (arith, (inside (turned c)).loop-test.taken)
+loop-left-smaller : tie.Need-loop-left-smaller invariant-loop-left decreases-loop-left
+loop-left-smaller c = omega (arith, (inside (turned c)).loop-left-test.true)
 
-loop-again : tie.Need-loop-preserved invariant-loop decreases-loop
-loop-again c =
+loop-left-preserved : tie.Need-loop-left-preserved invariant-loop-left decreases-loop-left
+loop-left-preserved c =
     let w = turned c in
     let o = taken w in
     let l = (inside w).before in (
-      walk_more (W l) (count l) (made o) (inside w).loop-test.taken (same_row o) l.loop.inv.0 w.put-row.ensures c.before.before.put-offset2.ensures,
-      c.before.before.put-offset2.auto.1.0 ∙ l.loop.inv.1,
-      c.before.before.put-offset2.auto.1.1.0 ∙ l.loop.inv.2,
+      walk_more (W l) (count l) (made o) (inside w).loop-test.taken (same_row o) l.loop-left.invariant.0 w.put_row-at.ensures c.put_offset-in-loop-left.ensures,
+      c.put_offset-in-loop-left.auto.narrow ∙ l.loop-left.invariant.1,
+      c.put_offset-in-loop-left.auto.wide ∙ l.loop-left.invariant.2,
       λ h. (between-offsets o).offset_at.ensures.0,
     )
 
-same_length : tie.Need-same-length invariant-loop decreases-loop
-same_length c = c.before.loop.invariant.1 ∙ (put c.before).put-offset.kept.1.0
+shape_of-out_offsets : tie.Need-shape_of-out_offsets invariant-loop-left decreases-loop-left
+shape_of-out_offsets c = c.loop-left.invariant.1 ∙ (put c.before).put-offset.kept.1.0
 
-same-length-2 : tie.Need-same-length-2 invariant-loop decreases-loop
-same-length-2 c = c.before.loop.invariant.0.lr
+shape_of-out_rows : tie.Need-shape_of-out_rows invariant-loop-left decreases-loop-left
+shape_of-out_rows c = c.loop-left.invariant.0.lr
 
-same-length-3 : tie.Need-same-length-3 invariant-loop decreases-loop
-same-length-3 c = c.before.loop.invariant.0.lv
+shape_of-out_values : tie.Need-shape_of-out_values invariant-loop-left decreases-loop-left
+shape_of-out_values c = c.loop-left.invariant.0.lv
 
-same-length-4 : tie.Need-same-length-4 invariant-loop decreases-loop
-same-length-4 c = c.before.loop.invariant.0.le
+shape_of-out_elements : tie.Need-shape_of-out_elements invariant-loop-left decreases-loop-left
+shape_of-out_elements c = c.loop-left.invariant.0.le
 
-same-length-5 : tie.Need-same-length-5 invariant-loop decreases-loop
-same-length-5 c = c.before.loop.invariant.2 ∙ (put c.before).put-offset.kept.1.1.0
+shape_of-out_large : tie.Need-shape_of-out_large invariant-loop-left decreases-loop-left
+shape_of-out_large c = c.loop-left.invariant.2 ∙ (put c.before).put-offset.kept.1.1.0
 
-returns : tie.Need-returns invariant-loop decreases-loop
+returns : tie.Need-returns invariant-loop-left decreases-loop-left
 returns c =
     let l = c.before in
     let s = S l in
     rw (← rows_at (N s) L.Replace (C s) (X s) (Y s) (Z s) (count l) (rows_are l))
-    (walk_done (W l) (count l) (O s) l.loop.invariant.0 (omega (arith, c.loop-test.false)) (put l).put-offset.ensures (roomy l _ refl))
+    (walk_done (W l) (count l) (O s) l.loop-left.invariant.0 (omega (arith, c.loop-left-test.false)) (put l).put-offset.ensures (roomy l _ refl))
+
+overflow_add-r-in-loop-left-2 : tie.Need-overflow_add-r-in-loop-left-2 invariant-loop-left decreases-loop-left
+overflow_add-r-in-loop-left-2 c = search rules
 
 pub write_rows_spec : {M : Type 1} → statement M
 write_rows_spec =
     tie.close
     (tie.spec
-    invariant-loop
-    decreases-loop
-    row-count-requires
-    put-offset-requires
-    first-offset-requires
-    loop-holds
-    add-offset-at
-    offset-at-requires
-    sub-len
-    limit-at-requires
-    taken-at-requires
-    taken-at-requires-2
-    put-row-requires
-    add-put-offset
-    put-offset-requires-2
-    add_r
-    sub-left
-    loop-less
-    loop-again
-    same_length
-    same-length-2
-    same-length-3
-    same-length-4
-    same-length-5
+    invariant-loop-left
+    decreases-loop-left
+    row_count-n-requires
+    put_offset-requires
+    first_offset-a-requires
+    loop-left-init
+    overflow_add-r
+    offset_at-b-requires
+    overflow_sub-len
+    limit_at-limit-requires
+    taken_at-needle-requires
+    taken_at-to-requires
+    put_row-at-requires
+    overflow_add-r-in-loop-left
+    put_offset-requires-in-loop-left
+    overflow_add-r-in-loop-left-2
+    overflow_sub-left
+    loop-left-smaller
+    loop-left-preserved
+    shape_of-out_offsets
+    shape_of-out_rows
+    shape_of-out_values
+    shape_of-out_elements
+    shape_of-out_large
     returns)

@@ -4,19 +4,25 @@ use Rattle.resize_walk.specs.Resized.{count_for}
 use Rattle.resize_walk.proofs.count_at.Statement.{statement}
 use Rattle.resize_walk.proofs.count_at.Tie as tie
 
-is-valid-requires : tie.Need-is-valid-requires
-is-valid-requires c κs = (c.before.before.requires.0, c.before.before.requires.1.1)
+is_valid-requires : tie.Need-is_valid-requires
+is_valid-requires c κs = (c.requires.0, c.requires.1.1)
+
+returns-then-not-is_valid : tie.Need-returns-then-not-is_valid
+unfolding count_for
+returns-then-not-is_valid c = let v = c.is_valid in rw (sym v.ensures ∙ not-true v.result c.if-not-is_valid.true)
+
+taken_at-requires : tie.Need-taken_at-requires
+taken_at-requires c κs = let s = c.before.before.before.before in ((λ t. s.requires.1.0), s.requires.1.1)
 
 returns : tie.Need-returns
 unfolding count_for
-returns c = let v = c.before.is-valid in rw (sym v.ensures ∙ not-true v.result c.if1.true)
+returns c = let v = c.is_valid in rw (sym v.ensures ∙ not-false v.result c.if-not-is_valid.false) c.taken_at.ensures
 
-taken-at-requires : tie.Need-taken-at-requires
-taken-at-requires c κs = let s = c.before.before.before.before in ((λ t. s.requires.1.0), s.requires.1.1)
-
-returns-2 : tie.Need-returns-2
-unfolding count_for
-returns-2 c = let v = c.before.before.is-valid in rw (sym v.ensures ∙ not-false v.result c.before.if1.false) c.taken_at.ensures
-
-pub count-at_spec : {M : Type 1} → statement M
-count-at_spec = tie.close (tie.spec is-valid-requires returns taken-at-requires returns-2)
+pub count_at_spec : {M : Type 1} → statement M
+count_at_spec =
+    tie.close
+    (tie.spec
+    is_valid-requires
+    returns-then-not-is_valid
+    taken_at-requires
+    returns)

@@ -6,16 +6,21 @@ use Rattle.resize_walk.specs.Resized.{fill_for}
 use Rattle.resize_walk.proofs.fill_at.Statement.{statement}
 use Rattle.resize_walk.proofs.fill_at.Tie as tie
 
+returns-then-not-filled : tie.Need-returns-then-not-filled
+unfolding fill_for
+returns-then-not-filled c = rw (not-true c.args.filled c.if-not-filled.true)
+
+taken_at-requires : tie.Need-taken_at-requires
+taken_at-requires c κs = let s = c.before.before in ((λ t. s.requires.0 (not-false s.args.filled c.if-not-filled.false)), omega (arith, s.requires.1))
+
 returns : tie.Need-returns
 unfolding fill_for
-returns c = rw (not-true c.before.before.args.filled c.if1.true)
-
-taken-at-requires : tie.Need-taken-at-requires
-taken-at-requires c κs = let s = c.before.before in ((λ t. s.requires.0 (not-false s.args.filled c.if1.false)), omega (arith, s.requires.1))
-
-returns-2 : tie.Need-returns-2
-unfolding fill_for
-returns-2 c = rw (not-false c.before.before.before.args.filled c.before.if1.false) (ap F.Own c.taken_at.ensures)
+returns c = rw (not-false c.args.filled c.if-not-filled.false) (ap F.Own c.taken_at.ensures)
 
 pub fill_at_spec : {M : Type 1} → statement M
-fill_at_spec = tie.close (tie.spec returns taken-at-requires returns-2)
+fill_at_spec =
+    tie.close
+    (tie.spec
+    returns-then-not-filled
+    taken_at-requires
+    returns)

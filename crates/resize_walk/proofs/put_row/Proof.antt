@@ -23,86 +23,86 @@ abbrev made : tie.Start → Row
 made s = row_made (op_made (resize_op s.args.count s.args.fill) (es s))
 
 -- the places that are used below: a null count, a count read, the elements written, and the ends
-abbrev start-of-null : tie.After-enum-told → tie.Start
-start-of-null p = p.before.before.before.before.before
+abbrev start-of-null : tie.In-Null → tie.Start
+start-of-null p = p.before.before.before.before
 
-abbrev null_of : tie.After-slice-known3 → tie.After-enum-told
+abbrev null_of : tie.After-slice_known-in-Null-1 → tie.In-Null
 null_of p = p.before.before.before.before
 
-abbrev start-of-count : tie.After-limit-of → tie.Start
-start-of-count p = p.before.before.before.before.before.before.before
+abbrev start-of-count : tie.After-limit_of → tie.Start
+start-of-count p = p.before.before.before.before.before
 
-abbrev count_of : tie.After-write-resized → tie.After-limit-of
+abbrev count_of : tie.After-write_resized-next → tie.After-limit_of
 count_of p = p.before.before.before
 
-abbrev written_of : tie.After-slice-known5 → tie.After-write-resized
+abbrev written_of : tie.After-slice_known-in-Value-2-1 → tie.After-write_resized-next
 written_of p = p.before.before.before.before.before.before.before
 
-row_is : (p : tie.After-limit-of) → let s = start-of-count p in made s ≡ list_row (resized p.limit-of.result (fill_elem s.args.fill) (es s))
+row_is : (p : tie.After-limit_of) → let s = start-of-count p in made s ≡ list_row (resized p.limit_of.result (fill_elem s.args.fill) (es s))
 row_is p =
     let s = start-of-count p in
-    list_row_lem s.args.count s.args.fill (es s) _ p.limit-of.result p.before.before.count.given.1 (rw (back64 _ p.before.known-told.given.0.1) at p.limit-of.ensures)
+    list_row_lem s.args.count s.args.fill (es s) _ p.limit_of.result p.in-Value.is (rw (back64 _ p.in-Value.known_told-1-own.given.0.1) at p.limit_of.ensures)
 
-enum_told : tie.Need-enum-told
-enum_told c = search
+enum_told-1 : tie.Need-enum_told-1
+enum_told-1 c = search
 
-push-bit-requires : tie.Need-push-bit-requires
-push-bit-requires c κs = omega (arith, (start-of-null c.before).requires.1.rows)
+push_bit-requires : tie.Need-push_bit-requires
+push_bit-requires c κs = omega (arith, (start-of-null c.before).requires.1.rows)
 
-enum-known-count : tie.Need-enum-known-count
-enum-known-count c = search
+enum_known-count : tie.Need-enum_known-count
+enum_known-count c = search
 
-limit-of-requires : tie.Need-limit-of-requires
-limit-of-requires c κs = search
+limit_of-requires : tie.Need-limit_of-requires
+limit_of-requires c κs = search
 
-write-resized-requires : tie.Need-write-resized-requires
+write_resized-next-requires : tie.Need-write_resized-next-requires
 unfolding elems_of
-write-resized-requires c κs =
+write_resized-next-requires c κs =
     let p = c.before.before in
     let s = start-of-count p in
-    (s.pre.0, record { values = rw (row_is p) at s.pre.1.values; elements = rw (row_is p) at s.pre.1.elements })
+    (s.requires.0, record { values = rw (row_is p) at s.requires.1.values; elements = rw (row_is p) at s.requires.1.elements })
 
-push-bit-requires-2 : tie.Need-push-bit-requires-2
-push-bit-requires-2 c κs = omega (arith, (start-of-count (count_of c.before.before.before.before)).requires.1.rows)
+push_bit-requires-in-Value : tie.Need-push_bit-requires-in-Value
+push_bit-requires-in-Value c κs = omega (arith, (start-of-count (count_of c.before.before.before.before)).requires.1.rows)
 
-same_length : tie.Need-same-length
-same_length c = c.before.before.push-bit.auto.0
+shape_of-out_rows-in-Null : tie.Need-shape_of-out_rows-in-Null
+shape_of-out_rows-in-Null c = c.push_bit.auto.bitmap
 
-returns : tie.Need-returns
+returns-in-Null : tie.Need-returns-in-Null
 unfolding is_row elems_of push_bits
-returns c =
+returns-in-Null c =
     let p = null_of c in
     let s = start-of-null p in
-    rw (null_row_lem s.args.count s.args.fill (es s) p.enum_told.given.1) (record { rows = c.before.before.push-bit.ensures; values = refl; elements = refl; place = omega arith })
+    rw (null_row_lem s.args.count s.args.fill (es s) p.in-Null.is) (record { rows = c.push_bit.ensures; values = refl; elements = refl; place = omega arith })
 
-same-length-2 : tie.Need-same-length-2
-same-length-2 c = c.before.before.push-bit2.auto.0
+shape_of-out_rows-in-Value : tie.Need-shape_of-out_rows-in-Value
+shape_of-out_rows-in-Value c = c.push_bit-in-Value.auto.bitmap
 
-same-length-3 : tie.Need-same-length-3
-same-length-3 c = (written_of c).write-resized.auto.1.1.1.1.1.1.1.0
+shape_of-out_values : tie.Need-shape_of-out_values
+shape_of-out_values c = (written_of c).write-resized.auto.1.1.1.1.1.1.1.0
 
-same-length-4 : tie.Need-same-length-4
-same-length-4 c = (written_of c).write-resized.auto.1.1.1.1.1.1.1.1.0
+shape_of-out_elements : tie.Need-shape_of-out_elements
+shape_of-out_elements c = (written_of c).write-resized.auto.1.1.1.1.1.1.1.1.0
 
-returns-2 : tie.Need-returns-2
+returns-in-Value : tie.Need-returns-in-Value
 unfolding is_row elems_of
-returns-2 c =
+returns-in-Value c =
     let w = (written_of c).write-resized.ensures in
-    rw (row_is (count_of (written_of c))) (record { rows = c.before.before.push-bit2.ensures; values = w.values; elements = w.elements; place = w.next })
+    rw (row_is (count_of (written_of c))) (record { rows = c.push_bit-in-Value.ensures; values = w.values; elements = w.elements; place = w.next })
 
 pub put_row_spec : {M : Type 1} → statement M
 put_row_spec =
     tie.close
     (tie.spec
-    enum_told
-    push-bit-requires
-    enum-known-count
-    limit-of-requires
-    write-resized-requires
-    push-bit-requires-2
-    same_length
-    returns
-    same-length-2
-    same-length-3
-    same-length-4
-    returns-2)
+    enum_told-1
+    push_bit-requires
+    enum_known-count
+    limit_of-requires
+    write_resized-next-requires
+    push_bit-requires-in-Value
+    shape_of-out_rows-in-Null
+    returns-in-Null
+    shape_of-out_rows-in-Value
+    shape_of-out_values
+    shape_of-out_elements
+    returns-in-Value)

@@ -21,215 +21,218 @@ use Rattle.resize_walk.proofs.ResizedLaws.{fills_served, resized_at, resized_row
 use Rattle.resize_walk.proofs.write_rows.Statement.{statement}
 use Rattle.resize_walk.proofs.write_rows.Tie as tie
 
-abbrev invariant-loop : tie.invariant-loop
-invariant-loop offsets rows rstart values elements estart xs xbits xstart ys ybits ystart zs zbits zstart out-offsets₀ out-rows₀ out-values₀ out-elements₀ width large out-large₀ n filled r₀ at₀ left₀ out-offsets out-rows out-values out-elements out-large r at left =
+abbrev invariant-loop-left : tie.invariant-loop-left
+invariant-loop-left offsets rows rstart values elements estart xs xbits xstart ys ybits ystart zs zbits zstart out-offsets₀ out-rows₀ out-values₀ out-elements₀ width large out-large₀ n filled r₀ at₀ left₀ out-offsets out-rows out-values out-elements out-large r at left =
     Walking (resized_at (column (used width offsets large) (from rstart rows) values (from estart elements)) (arguments xs (from xstart xbits)) filled (arguments ys (from ystart ybits))) n (used width out-offsets₀ out-large₀) out-rows₀ out-values₀ out-elements₀ (used width out-offsets out-large) out-rows out-values out-elements r at left
     × (length out-offsets ≡ length out-offsets₀)
     × (length out-large ≡ length out-large₀)
 
-abbrev decreases-loop : tie.decreases-loop
-decreases-loop offsets rows rstart values elements estart xs xbits xstart ys ybits ystart zs zbits zstart out-offsets₀ out-rows₀ out-values₀ out-elements₀ width large out-large₀ n filled r₀ at₀ left₀ out-offsets out-rows out-values out-elements out-large r at left =
+abbrev decreases-loop-left : tie.decreases-loop-left
+decreases-loop-left offsets rows rstart values elements estart xs xbits xstart ys ybits ystart zs zbits zstart out-offsets₀ out-rows₀ out-values₀ out-elements₀ width large out-large₀ n filled r₀ at₀ left₀ out-offsets out-rows out-values out-elements out-large r at left =
     left
 
-abbrev N : tie.Start invariant-loop decreases-loop → Limits
+abbrev N : tie.Start invariant-loop-left decreases-loop-left → Limits
 N s = limits_at s.args.width
 
-abbrev C : tie.Start invariant-loop decreases-loop → Column
+abbrev C : tie.Start invariant-loop-left decreases-loop-left → Column
 C s = let a = s.args in column (used a.width a.offsets.now a.large.now) (from a.rstart a.rows.now) a.values.now (from a.estart a.elements.now)
 
 -- the offsets that are written, as the call began
-abbrev O : tie.Start invariant-loop decreases-loop → List ℤ
-O s = used s.args.width s.args.out-offsets.now s.args.out-large.now
+abbrev O : tie.Start invariant-loop-left decreases-loop-left → List ℤ
+O s = used s.args.width s.args.out_offsets.now s.args.out_large.now
 
-abbrev X : tie.Start invariant-loop decreases-loop → Arguments
+abbrev X : tie.Start invariant-loop-left decreases-loop-left → Arguments
 X s = arguments s.args.xs.now (from s.args.xstart s.args.xbits.now)
 
-abbrev Y : tie.Start invariant-loop decreases-loop → Arguments
+abbrev Y : tie.Start invariant-loop-left decreases-loop-left → Arguments
 Y s = arguments s.args.ys.now (from s.args.ystart s.args.ybits.now)
 
-abbrev Z : tie.Start invariant-loop decreases-loop → Arguments
+abbrev Z : tie.Start invariant-loop-left decreases-loop-left → Arguments
 Z s = arguments s.args.zs.now (from s.args.zstart s.args.zbits.now)
 
 -- ---- places: the start, what is done before the loop and the first offset put, from the loop; a turn's row written and its fill
 -- read, from what comes after
 
-abbrev put : tie.At-loop invariant-loop decreases-loop → tie.After-put-offset invariant-loop decreases-loop
+abbrev put : tie.At-loop-left invariant-loop-left decreases-loop-left → tie.After-put_offset invariant-loop-left decreases-loop-left
 put l = l.before.before.before
 
-abbrev kind : tie.At-loop invariant-loop decreases-loop → tie.After-is-filled invariant-loop decreases-loop
+abbrev kind : tie.At-loop-left invariant-loop-left decreases-loop-left → tie.After-is_filled-filled invariant-loop-left decreases-loop-left
 kind l = (put l).before.before.before
 
-abbrev begun : tie.After-put-offset-arg2 invariant-loop decreases-loop → tie.Start invariant-loop decreases-loop
+abbrev begun : tie.After-put_offset-arg-2-1 invariant-loop-left decreases-loop-left → tie.Start invariant-loop-left decreases-loop-left
 begun p = p.before.before.before.before.before.before.before.before.before.before.before
 
-abbrev S : tie.At-loop invariant-loop decreases-loop → tie.Start invariant-loop decreases-loop
+abbrev S : tie.At-loop-left invariant-loop-left decreases-loop-left → tie.Start invariant-loop-left decreases-loop-left
 S l = begun (put l).before
 
-abbrev written : tie.After-put-offset-arg4 invariant-loop decreases-loop → tie.After-put-row invariant-loop decreases-loop
+abbrev written : tie.After-put_offset-arg-in-loop-left-2-1 invariant-loop-left decreases-loop-left → tie.After-put_row-at invariant-loop-left decreases-loop-left
 written p = p.before.before.before.before.before.before.before
 
-abbrev turned : tie.After-out-large2 invariant-loop decreases-loop → tie.After-put-row invariant-loop decreases-loop
+abbrev turned : tie.After-out_large-in-loop-left-1 invariant-loop-left decreases-loop-left → tie.After-put_row-at invariant-loop-left decreases-loop-left
 turned p = written p.before.before.before
 
-abbrev read : tie.After-put-row invariant-loop decreases-loop → tie.After-fill-at invariant-loop decreases-loop
+abbrev read : tie.After-put_row-at invariant-loop-left decreases-loop-left → tie.After-fill_at-fill invariant-loop-left decreases-loop-left
 read w = w.before.before.before.before
 
-abbrev inside : tie.After-fill-at invariant-loop decreases-loop → tie.In-loop invariant-loop decreases-loop
+abbrev inside : tie.After-fill_at-fill invariant-loop-left decreases-loop-left → tie.In-loop-left invariant-loop-left decreases-loop-left
 inside f = f.before.before.before.before
 
-abbrev count : tie.At-loop invariant-loop decreases-loop → ℕ
+abbrev count : tie.At-loop-left invariant-loop-left decreases-loop-left → ℕ
 count l = (kind l).before.row_count.result
 
-rows_are : (l : tie.At-loop invariant-loop decreases-loop) → count l ≡ row_count (C (S l)).offsets
+rows_are : (l : tie.At-loop-left invariant-loop-left decreases-loop-left) → count l ≡ row_count (C (S l)).offsets
 rows_are l = (kind l).before.row_count.ensures
 
-abbrev W : tie.At-loop invariant-loop decreases-loop → ℕ → Row
+abbrev W : tie.At-loop-left invariant-loop-left decreases-loop-left → ℕ → Row
 W l = let s = S l in resized_at (C s) (X s) (kind l).is-filled.result (Y s)
 
 -- the rows of the walk are the call's
-all_rows : (l : tie.At-loop invariant-loop decreases-loop) → let s = S l in tab (W l) 0 (count l) ≡ call_rows (N s) s.args.op (C s) (X s) (Y s) (Z s)
-all_rows l = let s = S l in resized-rows (N s) s.args.op (C s) (X s) (Y s) (Z s) s.pre.1.1.0 (kind l).is-filled.result (kind l).is-filled.ensures (count l) (rows_are l)
+all_rows : (l : tie.At-loop-left invariant-loop-left decreases-loop-left) → let s = S l in tab (W l) 0 (count l) ≡ call_rows (N s) s.args.op (C s) (X s) (Y s) (Z s)
+all_rows l = let s = S l in resized-rows (N s) s.args.op (C s) (X s) (Y s) (Z s) s.requires.1.1.0 (kind l).is-filled.result (kind l).is-filled.ensures (count l) (rows_are l)
 
 -- room for all rows, from the code's count
-roomy : (l : tie.At-loop invariant-loop decreases-loop) (lo : ℕ) → lo ≡ length (O (S l)) → let a = (S l).args in RoomInˡ (count l) (length (flat (tab (W l) 0 (count l)))) lo (length a.out-rows.now) (length a.out-values.now) (length a.out-elements.now)
-roomy l lo e = let s = S l in resized-room (N s) s.args.op (C s) (X s) (Y s) (Z s) s.pre.1.1.0 (kind l).is-filled.result (kind l).is-filled.ensures (count l) (rows_are l) s.pre.1.1.1.1 e
+roomy : (l : tie.At-loop-left invariant-loop-left decreases-loop-left) (lo : ℕ) → lo ≡ length (O (S l)) → let a = (S l).args in RoomInˡ (count l) (length (flat (tab (W l) 0 (count l)))) lo (length a.out_rows-1.now) (length a.out_values-1.now) (length a.out_elements-1.now)
+roomy l lo e = let s = S l in resized-room (N s) s.args.op (C s) (X s) (Y s) (Z s) s.requires.1.1.0 (kind l).is-filled.result (kind l).is-filled.ensures (count l) (rows_are l) s.requires.1.1.1.1 e
 
 -- row r of a turn can be read
-reads : (q : tie.After-offset-at2 invariant-loop decreases-loop) → let l = q.before.before.before in ReadableRowˡ (C (S l)).rows (count l) (C (S l)).values (C (S l)).elements l.loop.r q.before.offset_at.result q.offset-at2.result
+reads : (q : tie.After-offset_at-b invariant-loop-left decreases-loop-left) → let l = q.before.before.before in ReadableRowˡ (C (S l)).rows (count l) (C (S l)).values (C (S l)).elements l.loop-left.r q.offset_at-a.result q.offset_at-b.result
 reads q =
     let l = q.before.before.before in
-    between (C (S l)) (count l) l.loop.r q.before.offset_at.result q.offset-at2.result (S l).requires.0 (rows_are l) (omega (arith, l.loop.invariant.0.rows, q.before.before.loop-test.true)) q.before.offset_at.ensures.0 q.offset-at2.ensures.0
+    between (C (S l)) (count l) l.loop-left.r q.offset_at-a.result q.offset_at-b.result (S l).requires.0 (rows_are l) (omega (arith, l.loop-left.invariant.0.rows, q.loop-left-test.true)) q.offset_at-a.ensures.0 q.offset_at-b.ensures.0
 
 -- the row that a turn makes is row r's
-abbrev made : tie.After-fill-at invariant-loop decreases-loop → Row
+abbrev made : tie.After-fill_at-fill invariant-loop-left decreases-loop-left → Row
 made f =
     let q = f.before.before in
     let s = S (inside f).before in
-    row_made (op_made (resize_op f.before.count_at.result f.fill-at.result) (tab (elem_at (C s).values (C s).elements) q.before.offset_at.result (q.offset-at2.result - q.before.offset_at.result)))
+    row_made (op_made (resize_op f.count_at-count.result f.fill_at-fill.result) (tab (elem_at (C s).values (C s).elements) q.offset_at-a.result (q.offset_at-b.result - q.offset_at-a.result)))
 
-same_row : (f : tie.After-fill-at invariant-loop decreases-loop) → let l = (inside f).before in made f ≡ W l l.loop.r
+same_row : (f : tie.After-fill_at-fill invariant-loop-left decreases-loop-left) → let l = (inside f).before in made f ≡ W l l.loop-left.r
 same_row f =
     let q = f.before.before in
     let l = (inside f).before in
     let s = S l in
-    resized_row (C s) (X s) (kind l).is-filled.result (Y s) l.loop.r q.before.offset_at.result q.offset-at2.result f.before.count_at.result f.fill-at.result q.before.offset_at.ensures.0 q.offset-at2.ensures.0 f.before.count_at.ensures f.fill-at.ensures
+    resized_row (C s) (X s) (kind l).is-filled.result (Y s) l.loop-left.r q.offset_at-a.result q.offset_at-b.result f.count_at-count.result f.fill_at-fill.result q.offset_at-a.ensures.0 q.offset_at-b.ensures.0 f.count_at-count.ensures f.fill_at-fill.ensures
 
-row-count-requires : tie.Need-row-count-requires invariant-loop decreases-loop
-row-count-requires c κs = search
+row_count-n-requires : tie.Need-row_count-n-requires invariant-loop-left decreases-loop-left
+row_count-n-requires c κs = search
 
-is-filled-requires : tie.Need-is-filled-requires invariant-loop decreases-loop
-is-filled-requires c κs = search
+is_filled-filled-requires : tie.Need-is_filled-filled-requires invariant-loop-left decreases-loop-left
+is_filled-filled-requires c κs = search
 
-put-offset-requires : tie.Need-put-offset-requires invariant-loop decreases-loop
-put-offset-requires c κs = (omega (arith, (begun c).requires.1.1.1.1.offsets), omega arith)
+put_offset-requires : tie.Need-put_offset-requires invariant-loop-left decreases-loop-left
+put_offset-requires c κs = (omega (arith, (begun c).requires.1.1.1.1.offsets), omega arith)
 
-loop-holds : tie.Need-loop-init invariant-loop decreases-loop
-loop-holds c = (walk_begun _ _ _ _ _ _, refl, refl)
+loop-left-init : tie.Need-loop-left-init invariant-loop-left decreases-loop-left
+loop-left-init c = (walk_begun _ _ _ _ _ _, refl, refl)
 
-offset-at-requires : tie.Need-offset-at-requires invariant-loop decreases-loop
-offset-at-requires c κs = omega (arith, rows_are c.before, c.before.loop.invariant.0.rows, c.loop-test.true)
+offset_at-a-requires : tie.Need-offset_at-a-requires invariant-loop-left decreases-loop-left
+offset_at-a-requires c κs = omega (arith, rows_are c.before, c.loop-left.invariant.0.rows, c.loop-left-test.true)
 
-add-offset-at : tie.Need-overflow-add-offset-at invariant-loop decreases-loop
-add-offset-at c = omega (arith, c.before.before.loop.invariant.0.rows, c.before.loop-test.true)
+overflow_add-r : tie.Need-overflow_add-r invariant-loop-left decreases-loop-left
+overflow_add-r c = omega (arith, c.loop-left.invariant.0.rows, c.loop-left-test.true)
 
-offset-at-requires-2 : tie.Need-offset-at-requires-2 invariant-loop decreases-loop
-offset-at-requires-2 c κs = omega (arith, rows_are c.before.before, c.before.before.loop.invariant.0.rows, c.before.loop-test.true)
+offset_at-b-requires : tie.Need-offset_at-b-requires invariant-loop-left decreases-loop-left
+offset_at-b-requires c κs = omega (arith, rows_are c.before.before, c.loop-left.invariant.0.rows, c.loop-left-test.true)
 
-sub-len : tie.Need-overflow-sub-len invariant-loop decreases-loop
-sub-len c = (reads c).rises
+overflow_sub-len : tie.Need-overflow_sub-len invariant-loop-left decreases-loop-left
+overflow_sub-len c = (reads c).rises
 
-count-at-requires : tie.Need-count-at-requires invariant-loop decreases-loop
-count-at-requires c κs =
+count_at-count-requires : tie.Need-count_at-count-requires invariant-loop-left decreases-loop-left
+count_at-count-requires c κs =
     let l = c.before.before.before in
     let s = S l in
-    ((reads c).rows, (rw (rows_are l) (counts-served s.args.op s.pre.1.1.0 s.pre.1.0), (reads c).there))
+    ((reads c).rows, (rw (rows_are l) (counts-served s.args.op s.requires.1.1.0 s.requires.1.0), (reads c).there))
 
-fill-at-requires : tie.Need-fill-at-requires invariant-loop decreases-loop
-fill-at-requires c κs =
+fill_at-fill-requires : tie.Need-fill_at-fill-requires invariant-loop-left decreases-loop-left
+fill_at-fill-requires c κs =
     let l = c.before.before.before.before in
     let s = S l in
-    ((λ t. rw (rows_are l) (fills_served s.args.op s.pre.1.1.0 s.pre.1.0 (sym (kind l).is-filled.ensures ∙ t))), (reads c.before).there)
+    ((λ t. rw (rows_are l) (fills_served s.args.op s.requires.1.1.0 s.requires.1.0 (sym (kind l).is-filled.ensures ∙ t))), (reads c.before).there)
 
-put-row-requires : tie.Need-put-row-requires invariant-loop decreases-loop
-put-row-requires c κs =
+put_row-at-requires : tie.Need-put_row-at-requires invariant-loop-left decreases-loop-left
+put_row-at-requires c κs =
     let f = c.before.before.before in
     let q = f.before.before in
     let l = (inside f).before in
-    (record { inside = omega (arith, (reads q).rises, (reads q).inside); bits = (reads q).elements }, walk_room (W l) (count l) (made f) (inside f).loop-test.true (same_row f) l.loop.inv.0 (roomy l _ (put_keeps (O (S l)) 0 0 (put l).put-offset.ensures)))
+    (record { inside = omega (arith, (reads q).rises, (reads q).inside); bits = (reads q).elements }, walk_room (W l) (count l) (made f) (inside f).loop-test.true (same_row f) l.loop-left.invariant.0 (roomy l _ (put_keeps (O (S l)) 0 0 (put l).put-offset.ensures)))
 
-add-put-offset : tie.Need-overflow-add-put-offset invariant-loop decreases-loop
-add-put-offset c = let i = inside (read (written c)) in omega (arith, i, i.before.loop.inv.0.rows, i.loop-test.taken)
+overflow_add-r-in-loop-left : tie.Need-overflow_add-r-in-loop-left invariant-loop-left decreases-loop-left
+overflow_add-r-in-loop-left c = let i = inside (read (written c)) in omega (arith, i, i.loop-left.invariant.0.rows, i.loop-left-test.true)
 
-put-offset-requires-2 : tie.Need-put-offset-requires-2 invariant-loop decreases-loop
-put-offset-requires-2 c κs =
+put_offset-requires-in-loop-left : tie.Need-put_offset-requires-in-loop-left invariant-loop-left decreases-loop-left
+put_offset-requires-in-loop-left c κs =
     let w = written c in
     let f = read (written c) in
     let l = (inside f).before in
-    let k = walk_small (W l) (count l) (made f) (inside f).loop-test.taken (same_row f) l.loop.inv.0 w.put-row.ensures in
-    (walk_slot (W l) (count l) (made f) (inside f).loop-test.taken (same_row f) l.loop.inv.0 (roomy l _ (put_keeps (O (S l)) 0 0 (put l).put-offset.ensures)), omega (arith, (S l).pre.1.1.1.0, rw (all_rows l) at k))
+    let k = walk_small (W l) (count l) (made f) (inside f).loop-test.taken (same_row f) l.loop-left.invariant.0 w.put_row-at.ensures in
+    (walk_slot (W l) (count l) (made f) (inside f).loop-test.taken (same_row f) l.loop-left.invariant.0 (roomy l _ (put_keeps (O (S l)) 0 0 (put l).put-offset.ensures)), omega (arith, (S l).pre.1.1.1.0, rw (all_rows l) at k))
 
-add_r : tie.Need-overflow-add-r invariant-loop decreases-loop
-add_r c = let i = inside (read (turned c)) in omega (arith, i, i.before.loop.inv.0.rows, i.loop-test.taken)
+overflow_add-r : tie.Need-overflow_add-r invariant-loop-left decreases-loop-left
+overflow_add-r c = let i = inside (read (turned c)) in omega (arith, i, i.loop-left.invariant.0.rows, i.loop-left-test.true)
 
-sub-left : tie.Need-overflow-sub-left invariant-loop decreases-loop
-sub-left c = omega (arith, (inside (read (turned c))).loop-test.taken)
+overflow_sub-left : tie.Need-overflow_sub-left invariant-loop-left decreases-loop-left
+overflow_sub-left c = omega (arith, (inside (read (turned c))).loop-left-test.true)
 
-loop-less : tie.Need-loop-smaller invariant-loop decreases-loop
-loop-less c = omega (arith, (inside (read (turned c))).loop-test.taken)
+loop-left-smaller : tie.Need-loop-left-smaller invariant-loop-left decreases-loop-left
+loop-left-smaller c = omega (arith, (inside (read (turned c))).loop-left-test.true)
 
-loop-again : tie.Need-loop-preserved invariant-loop decreases-loop
-loop-again c =
+loop-left-preserved : tie.Need-loop-left-preserved invariant-loop-left decreases-loop-left
+loop-left-preserved c =
     let w = turned c in
     let f = read (turned c) in
     let l = (inside f).before in
-    (walk_more (W l) (count l) (made f) (inside f).loop-test.taken (same_row f) l.loop.inv.0 w.put-row.ensures c.before.before.put-offset2.ensures, c.before.before.put-offset2.auto.1.0 ∙ l.loop.inv.1, c.before.before.put-offset2.auto.1.1.0 ∙ l.loop.inv.2)
+    (walk_more (W l) (count l) (made f) (inside f).loop-test.taken (same_row f) l.loop-left.invariant.0 w.put_row-at.ensures c.put_offset-in-loop-left.ensures, c.put_offset-in-loop-left.auto.narrow ∙ l.loop-left.invariant.1, c.put_offset-in-loop-left.auto.wide ∙ l.loop-left.invariant.2)
 
-same_length : tie.Need-same-length invariant-loop decreases-loop
-same_length c = c.before.loop.invariant.1 ∙ (put c.before).put-offset.kept.1.0
+shape_of-out_offsets : tie.Need-shape_of-out_offsets invariant-loop-left decreases-loop-left
+shape_of-out_offsets c = c.loop-left.invariant.1 ∙ (put c.before).put-offset.kept.1.0
 
-same-length-2 : tie.Need-same-length-2 invariant-loop decreases-loop
-same-length-2 c = c.before.loop.invariant.0.lr
+shape_of-out_rows : tie.Need-shape_of-out_rows invariant-loop-left decreases-loop-left
+shape_of-out_rows c = c.loop-left.invariant.0.lr
 
-same-length-3 : tie.Need-same-length-3 invariant-loop decreases-loop
-same-length-3 c = c.before.loop.invariant.0.lv
+shape_of-out_values : tie.Need-shape_of-out_values invariant-loop-left decreases-loop-left
+shape_of-out_values c = c.loop-left.invariant.0.lv
 
-same-length-4 : tie.Need-same-length-4 invariant-loop decreases-loop
-same-length-4 c = c.before.loop.invariant.0.le
+shape_of-out_elements : tie.Need-shape_of-out_elements invariant-loop-left decreases-loop-left
+shape_of-out_elements c = c.loop-left.invariant.0.le
 
-same-length-5 : tie.Need-same-length-5 invariant-loop decreases-loop
-same-length-5 c = c.before.loop.invariant.2 ∙ (put c.before).put-offset.kept.1.1.0
+shape_of-out_large : tie.Need-shape_of-out_large invariant-loop-left decreases-loop-left
+shape_of-out_large c = c.loop-left.invariant.2 ∙ (put c.before).put-offset.kept.1.1.0
 
-returns : tie.Need-returns invariant-loop decreases-loop
+returns : tie.Need-returns invariant-loop-left decreases-loop-left
 returns c =
     let l = c.before in
-    rw (← all_rows l) (walk_done (W l) (count l) (O (S l)) l.loop.invariant.0 (omega (arith, c.loop-test.false)) (put l).put-offset.ensures (roomy l _ refl))
+    rw (← all_rows l) (walk_done (W l) (count l) (O (S l)) l.loop-left.invariant.0 (omega (arith, c.loop-left-test.false)) (put l).put-offset.ensures (roomy l _ refl))
+
+overflow_add-r-in-loop-left-2 : tie.Need-overflow_add-r-in-loop-left-2 invariant-loop-left decreases-loop-left
+overflow_add-r-in-loop-left-2 c = search rules
 
 pub write_rows_spec : {M : Type 1} → statement M
 write_rows_spec =
     tie.close
     (tie.spec
-    invariant-loop
-    decreases-loop
-    row-count-requires
-    is-filled-requires
-    put-offset-requires
-    loop-holds
-    offset-at-requires
-    add-offset-at
-    offset-at-requires-2
-    sub-len
-    count-at-requires
-    fill-at-requires
-    put-row-requires
-    add-put-offset
-    put-offset-requires-2
-    add_r
-    sub-left
-    loop-less
-    loop-again
-    same_length
-    same-length-2
-    same-length-3
-    same-length-4
-    same-length-5
+    invariant-loop-left
+    decreases-loop-left
+    row_count-n-requires
+    is_filled-filled-requires
+    put_offset-requires
+    loop-left-init
+    offset_at-a-requires
+    overflow_add-r
+    offset_at-b-requires
+    overflow_sub-len
+    count_at-count-requires
+    fill_at-fill-requires
+    put_row-at-requires
+    overflow_add-r-in-loop-left
+    put_offset-requires-in-loop-left
+    overflow_add-r-in-loop-left-2
+    overflow_sub-left
+    loop-left-smaller
+    loop-left-preserved
+    shape_of-out_offsets
+    shape_of-out_rows
+    shape_of-out_values
+    shape_of-out_elements
+    shape_of-out_large
     returns)

@@ -7,57 +7,57 @@ use Rattle.model.specs.Bitmap.{from}
 use Rattle.row_ops.proofs.measure_plain.Statement.{statement}
 use Rattle.row_ops.proofs.measure_plain.Tie as tie
 
-enum_told : tie.Need-enum-told
-enum_told c = search
+enum_told-1 : tie.Need-enum_told-1
+enum_told-1 c = search
 
-enum-told-2 : tie.Need-enum-told-2
-enum-told-2 c = search
+enum_told-in-Distinct : tie.Need-enum_told-in-Distinct
+enum_told-in-Distinct c = search
 
-measure-distinct-requires : tie.Need-measure-distinct-requires
-measure-distinct-requires c κs = search
+measure_distinct-requires : tie.Need-measure_distinct-requires
+measure_distinct-requires c κs = search
 
-enum-told-3 : tie.Need-enum-told-3
-enum-told-3 c = search
+enum_told-in-PopFront : tie.Need-enum_told-in-PopFront
+enum_told-in-PopFront c = search
 
-one-less-requires : tie.Need-one-less-requires
-one-less-requires c κs = search
+one_less-requires : tie.Need-one_less-requires
+one_less-requires c κs = search
 
-enum-told-4 : tie.Need-enum-told-4
-enum-told-4 c = search
+enum_told-in-PopBack : tie.Need-enum_told-in-PopBack
+enum_told-in-PopBack c = search
 
-one-less-requires-2 : tie.Need-one-less-requires-2
-one-less-requires-2 c κs = search
+one_less-requires-in-PopBack : tie.Need-one_less-requires-in-PopBack
+one_less-requires-in-PopBack c κs = search
 
-returns : tie.Need-returns
+returns-in-Reverse : tie.Need-returns-in-Reverse
 unfolding unary_elems
-returns c = let a = c.before.before.before.args in rw (c.enum_told.given.1, length-reverse, length-tab)
+returns-in-Reverse c = let a = c.args in rw (c.in-Reverse.is, length-reverse, length-tab)
 
-returns-2 : tie.Need-returns-2
+returns-in-Distinct : tie.Need-returns-in-Distinct
 unfolding unary_elems
-returns-2 c = rw c.before.enum-told2.given.1 c.measure-distinct.ensures
+returns-in-Distinct c = rw c.in-Distinct.is c.measure_distinct.ensures
 
-returns-3 : tie.Need-returns-3
-returns-3 c =
-    let a = c.before.before.before.before.args in
-    rw (c.before.enum-told3.given.1, pop_front (elem_at a.values.now (from a.estart a.elements.now)) a.a a.n, length-tab) c.one_less.ensures
+returns-in-PopFront : tie.Need-returns-in-PopFront
+returns-in-PopFront c =
+    let a = c.args in
+    rw (c.in-PopFront.is, pop_front (elem_at a.values.now (from a.estart a.elements.now)) a.a a.n, length-tab) c.one_less.ensures
 
-returns-4 : tie.Need-returns-4
-returns-4 c =
-    let a = c.before.before.before.before.args in
-    rw (c.before.enum-told4.given.1, pop_back (elem_at a.values.now (from a.estart a.elements.now)) a.a a.n, length-tab) c.one-less2.ensures
+returns-in-PopBack : tie.Need-returns-in-PopBack
+returns-in-PopBack c =
+    let a = c.args in
+    rw (c.in-PopBack.is, pop_back (elem_at a.values.now (from a.estart a.elements.now)) a.a a.n, length-tab) c.one_less-in-PopBack.ensures
 
 pub measure_plain_spec : {M : Type 1} → statement M
 measure_plain_spec =
     tie.close
     (tie.spec
-    enum_told
-    enum-told-2
-    measure-distinct-requires
-    enum-told-3
-    one-less-requires
-    enum-told-4
-    one-less-requires-2
-    returns
-    returns-2
-    returns-3
-    returns-4)
+    enum_told-1
+    enum_told-in-Distinct
+    measure_distinct-requires
+    enum_told-in-PopFront
+    one_less-requires
+    enum_told-in-PopBack
+    one_less-requires-in-PopBack
+    returns-in-Reverse
+    returns-in-Distinct
+    returns-in-PopFront
+    returns-in-PopBack)

@@ -6,115 +6,115 @@ use native.Mathlib.Omega.{arith}
 use Rattle.row_ops.proofs.write_plain.Statement.{statement}
 use Rattle.row_ops.proofs.write_plain.Tie as tie
 
-one-less-requires : tie.Need-one-less-requires
-one-less-requires c κs = search
+one_less-k-requires : tie.Need-one_less-k-requires
+one_less-k-requires c κs = search
 
-enum_told : tie.Need-enum-told
-enum_told c = search
+enum_told-1 : tie.Need-enum_told-1
+enum_told-1 c = search
 
-write-backward-requires : tie.Need-write-backward-requires
+write_backward-requires : tie.Need-write_backward-requires
 unfolding unary_elems
-write-backward-requires c κs = let s = c.before.before.before.before.before.before.before in (s.requires.0, rw c.before.before.enum_told.given.1 at s.requires.1)
+write_backward-requires c κs = let s = c.before.before.before.before.before.before in (s.requires.0, rw c.in-Reverse.is at s.requires.1)
 
-enum-told-2 : tie.Need-enum-told-2
-enum-told-2 c = search
+enum_told-in-Distinct : tie.Need-enum_told-in-Distinct
+enum_told-in-Distinct c = search
 
-write-distinct-requires : tie.Need-write-distinct-requires
+write_distinct-requires : tie.Need-write_distinct-requires
 unfolding unary_elems
-write-distinct-requires c κs = let s = c.before.before.before.before.before.before.before in (s.requires.0, rw c.before.before.enum-told2.given.1 at s.requires.1)
+write_distinct-requires c κs = let s = c.before.before.before.before.before.before in (s.requires.0, rw c.in-Distinct.is at s.requires.1)
 
-enum-told-3 : tie.Need-enum-told-3
-enum-told-3 c = search
+enum_told-in-PopFront : tie.Need-enum_told-in-PopFront
+enum_told-in-PopFront c = search
 
-sub-write-forward : tie.Need-overflow-sub-write-forward
-sub-write-forward c = omega (arith, c.before.before.one_less.ensures)
+overflow_sub-n : tie.Need-overflow_sub-n
+overflow_sub-n c = omega (arith, c.one_less-k.ensures)
 
-add-write-forward : tie.Need-overflow-add-write-forward
-add-write-forward c = omega (arith, c.before.before.before.before.before.requires.0.inside, c.before.before.one_less.ensures)
+overflow_add-a : tie.Need-overflow_add-a
+overflow_add-a c = omega (arith, c.requires.0.inside, c.one_less-k.ensures)
 
-write-forward-requires : tie.Need-write-forward-requires
-write-forward-requires c κs =
-    let s = c.before.before.before.before.before.before.before in
+write_forward-requires : tie.Need-write_forward-requires
+write_forward-requires c κs =
+    let s = c.before.before.before.before.before.before in
     let a = s.args in
-    let p = rw (c.before.before.enum-told3.given.1, pop_front (elem_at a.values.now (from a.estart a.elements.now)) a.a a.n, ← c.before.before.before.before.one_less.ensures) at s.requires.1 in
-    (record { inside = omega (arith, s.requires.0.inside, c.before.before.before.before.one_less.ensures); bits = s.requires.0.bits }, p)
+    let p = rw (c.in-PopFront.is, pop_front (elem_at a.values.now (from a.estart a.elements.now)) a.a a.n, ← c.one_less-k.ensures) at s.requires.1 in
+    (record { inside = omega (arith, s.requires.0.inside, c.one_less-k.ensures); bits = s.requires.0.bits }, p)
 
-enum-told-4 : tie.Need-enum-told-4
-enum-told-4 c = search
+enum_told-in-PopBack : tie.Need-enum_told-in-PopBack
+enum_told-in-PopBack c = search
 
-write-forward-requires-2 : tie.Need-write-forward-requires-2
-write-forward-requires-2 c κs =
-    let s = c.before.before.before.before.before.before.before in
+write_forward-requires-in-PopBack : tie.Need-write_forward-requires-in-PopBack
+write_forward-requires-in-PopBack c κs =
+    let s = c.before.before.before.before.before.before in
     let a = s.args in
-    let p = rw (c.before.before.enum-told4.given.1, pop_back (elem_at a.values.now (from a.estart a.elements.now)) a.a a.n, ← c.before.before.before.before.one_less.ensures) at s.requires.1 in
-    (record { inside = omega (arith, s.requires.0.inside, c.before.before.before.before.one_less.ensures); bits = s.requires.0.bits }, p)
+    let p = rw (c.in-PopBack.is, pop_back (elem_at a.values.now (from a.estart a.elements.now)) a.a a.n, ← c.one_less-k.ensures) at s.requires.1 in
+    (record { inside = omega (arith, s.requires.0.inside, c.one_less-k.ensures); bits = s.requires.0.bits }, p)
 
-same_length : tie.Need-same-length
-same_length c = search
+shape_of-out_values-in-Reverse : tie.Need-shape_of-out_values-in-Reverse
+shape_of-out_values-in-Reverse c = search
 
-same-length-2 : tie.Need-same-length-2
-same-length-2 c = search
+shape_of-out_elements-in-Reverse : tie.Need-shape_of-out_elements-in-Reverse
+shape_of-out_elements-in-Reverse c = search
 
-returns : tie.Need-returns
+returns-in-Reverse : tie.Need-returns-in-Reverse
 unfolding unary_elems
-returns c = rw c.before.before.before.before.before.before.enum_told.given.1 c.before.before.before.write-backward.ensures
+returns-in-Reverse c = rw c.in-Reverse.is c.write_backward.ensures
 
-same-length-3 : tie.Need-same-length-3
-same-length-3 c = search
+shape_of-out_values-in-Distinct : tie.Need-shape_of-out_values-in-Distinct
+shape_of-out_values-in-Distinct c = search
 
-same-length-4 : tie.Need-same-length-4
-same-length-4 c = search
+shape_of-out_elements-in-Distinct : tie.Need-shape_of-out_elements-in-Distinct
+shape_of-out_elements-in-Distinct c = search
 
-returns-2 : tie.Need-returns-2
+returns-in-Distinct : tie.Need-returns-in-Distinct
 unfolding unary_elems
-returns-2 c = rw c.before.before.before.before.before.before.enum-told2.given.1 c.before.before.before.write-distinct.ensures
+returns-in-Distinct c = rw c.in-Distinct.is c.write_distinct.ensures
 
-same-length-5 : tie.Need-same-length-5
-same-length-5 c = search
+shape_of-out_values-in-PopFront : tie.Need-shape_of-out_values-in-PopFront
+shape_of-out_values-in-PopFront c = search
 
-same-length-6 : tie.Need-same-length-6
-same-length-6 c = search
+shape_of-out_elements-in-PopFront : tie.Need-shape_of-out_elements-in-PopFront
+shape_of-out_elements-in-PopFront c = search
 
-returns-3 : tie.Need-returns-3
-returns-3 c =
-    let a = c.before.before.before.before.before.before.before.before.before.before.before.args in
-    rw (c.before.before.before.before.before.before.enum-told3.given.1, pop_front (elem_at a.values.now (from a.estart a.elements.now)) a.a a.n, ← c.before.before.before.before.before.before.before.before.one_less.ensures) c.before.before.before.write-forward.ensures
+returns-in-PopFront : tie.Need-returns-in-PopFront
+returns-in-PopFront c =
+    let a = c.args in
+    rw (c.in-PopFront.is, pop_front (elem_at a.values.now (from a.estart a.elements.now)) a.a a.n, ← c.one_less-k.ensures) c.write_forward.ensures
 
-same-length-7 : tie.Need-same-length-7
-same-length-7 c = search
+shape_of-out_values-in-PopBack : tie.Need-shape_of-out_values-in-PopBack
+shape_of-out_values-in-PopBack c = search
 
-same-length-8 : tie.Need-same-length-8
-same-length-8 c = search
+shape_of-out_elements-in-PopBack : tie.Need-shape_of-out_elements-in-PopBack
+shape_of-out_elements-in-PopBack c = search
 
-returns-4 : tie.Need-returns-4
-returns-4 c =
-    let a = c.before.before.before.before.before.before.before.before.before.before.before.args in
-    rw (c.before.before.before.before.before.before.enum-told4.given.1, pop_back (elem_at a.values.now (from a.estart a.elements.now)) a.a a.n, ← c.before.before.before.before.before.before.before.before.one_less.ensures) c.before.before.before.write-forward2.ensures
+returns-in-PopBack : tie.Need-returns-in-PopBack
+returns-in-PopBack c =
+    let a = c.args in
+    rw (c.in-PopBack.is, pop_back (elem_at a.values.now (from a.estart a.elements.now)) a.a a.n, ← c.one_less-k.ensures) c.write_forward-in-PopBack.ensures
 
 pub write_plain_spec : {M : Type 1} → statement M
 write_plain_spec =
     tie.close
     (tie.spec
-    one-less-requires
-    enum_told
-    write-backward-requires
-    enum-told-2
-    write-distinct-requires
-    enum-told-3
-    sub-write-forward
-    add-write-forward
-    write-forward-requires
-    enum-told-4
-    write-forward-requires-2
-    same_length
-    same-length-2
-    returns
-    same-length-3
-    same-length-4
-    returns-2
-    same-length-5
-    same-length-6
-    returns-3
-    same-length-7
-    same-length-8
-    returns-4)
+    one_less-k-requires
+    enum_told-1
+    write_backward-requires
+    enum_told-in-Distinct
+    write_distinct-requires
+    enum_told-in-PopFront
+    overflow_sub-n
+    overflow_add-a
+    write_forward-requires
+    enum_told-in-PopBack
+    write_forward-requires-in-PopBack
+    shape_of-out_values-in-Reverse
+    shape_of-out_elements-in-Reverse
+    returns-in-Reverse
+    shape_of-out_values-in-Distinct
+    shape_of-out_elements-in-Distinct
+    returns-in-Distinct
+    shape_of-out_values-in-PopFront
+    shape_of-out_elements-in-PopFront
+    returns-in-PopFront
+    shape_of-out_values-in-PopBack
+    shape_of-out_elements-in-PopBack
+    returns-in-PopBack)

@@ -10,17 +10,23 @@ use Rattle.runs.proofs.low_ones.Tie as tie
 shifted : (c : tie.Start) → 1 * 2 ^ c.args.m % 256 ≡ 2 ^ c.args.m
 shifted c = shl_exact {a = 1} 1 c.args.m 8 (omega arith) (omega (arith, c.requires)) ∙ omega arith
 
-cast-result : tie.Need-overflow-cast-result
-cast-result c = search rules
+overflow_cast-result : tie.Need-overflow_cast-result
+overflow_cast-result c = search rules
 
-shl-result : tie.Need-overflow-shl-result
-shl-result c = search
+overflow_shl-result : tie.Need-overflow_shl-result
+overflow_shl-result c = search
 
-sub-result : tie.Need-overflow-sub-result
-sub-result c = rw (shifted c) (pow_pos c.args.m)
+overflow_sub-result : tie.Need-overflow_sub-result
+overflow_sub-result c = rw (shifted c) (pow_pos c.args.m)
 
 returns : tie.Need-returns
 returns c = rw (shifted c)
 
 pub low_ones_spec : {M : Type 1} → statement M
-low_ones_spec = tie.close (tie.spec cast-result shl-result sub-result returns)
+low_ones_spec =
+    tie.close
+    (tie.spec
+    overflow_cast-result
+    overflow_shl-result
+    overflow_sub-result
+    returns)

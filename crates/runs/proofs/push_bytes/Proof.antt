@@ -4,47 +4,47 @@ use borrow.Author.Rules.{rules}
 use Rattle.runs.proofs.push_bytes.Statement.{statement}
 use Rattle.runs.proofs.push_bytes.Tie as tie
 
-byte-of-requires : tie.Need-byte-of-requires
-byte-of-requires c κs = search
+byte_of-requires : tie.Need-byte_of-requires
+byte_of-requires c κs = search
 
-put-bytes-requires : tie.Need-put-bytes-requires
-put-bytes-requires c κs = search rules
+put_bytes-requires : tie.Need-put_bytes-requires
+put_bytes-requires c κs = search rules
 
-same_length : tie.Need-same-length
-same_length c = search
+shape_of-bitmap-then-last-eq0 : tie.Need-shape_of-bitmap-then-last-eq0
+shape_of-bitmap-then-last-eq0 c = search
+
+returns-then-last-eq0 : tie.Need-returns-then-last-eq0
+returns-then-last-eq0 c =
+    let s = c.before.before.before.before.before.before.before in
+    rw (c.put_bytes.ensures, c.byte_of.ensures) (bytes_only s.args.on s.args.n _ s.args.k (omega (arith, s.requires)) c.if-last-eq0.true)
+
+low_bits-byte-requires : tie.Need-low_bits-byte-requires
+low_bits-byte-requires c κs = search rules
+
+overflow_add-bitmap : tie.Need-overflow_add-bitmap
+overflow_add-bitmap c = search rules
+
+bounds-bitmap-k : tie.Need-bounds-bitmap-k
+bounds-bitmap-k c = search rules
+
+shape_of-bitmap : tie.Need-shape_of-bitmap
+shape_of-bitmap c = search rules
 
 returns : tie.Need-returns
 returns c =
-    let s = c.before.before.before.before.before.before.before in
-    rw (c.before.before.before.put-bytes.ensures, c.before.before.before.before.byte_of.ensures) (bytes_only s.args.on s.args.n _ s.args.k (omega (arith, s.requires)) c.if1.true)
-
-low-bits-requires : tie.Need-low-bits-requires
-low-bits-requires c κs = search rules
-
-add-bitmap : tie.Need-overflow-add-bitmap
-add-bitmap c = search rules
-
-slice-write-bitmap : tie.Need-slice-write-bitmap
-slice-write-bitmap c = search rules
-
-same-length-2 : tie.Need-same-length-2
-same-length-2 c = search rules
-
-returns-2 : tie.Need-returns-2
-returns-2 c =
     let s = c.before.before.before.before.before.before.before.before in
-    rw (c.before.before.before.before.put-bytes.ensures, c.before.before.before.before.before.byte_of.ensures, c.low_bits.ensures) (bytes_then s.args.on s.args.n _ s.args.k (omega (arith, s.requires, c.before.if1.false)) c.before.if1.false)
+    rw (c.put_bytes.ensures, c.byte_of.ensures, c.low_bits-byte.ensures) (bytes_then s.args.on s.args.n _ s.args.k (omega (arith, s.requires, c.if-last-eq0.false)) c.if-last-eq0.false)
 
 pub push_bytes_spec : {M : Type 1} → statement M
 push_bytes_spec =
     tie.close
     (tie.spec
-    byte-of-requires
-    put-bytes-requires
-    same_length
-    returns
-    low-bits-requires
-    add-bitmap
-    slice-write-bitmap
-    same-length-2
-    returns-2)
+    byte_of-requires
+    put_bytes-requires
+    shape_of-bitmap-then-last-eq0
+    returns-then-last-eq0
+    low_bits-byte-requires
+    overflow_add-bitmap
+    bounds-bitmap-k
+    shape_of-bitmap
+    returns)

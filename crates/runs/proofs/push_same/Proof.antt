@@ -8,65 +8,65 @@ use borrow.Author.Rules.{rules}
 use Rattle.runs.proofs.push_same.Statement.{statement}
 use Rattle.runs.proofs.push_same.Tie as tie
 
-push-bytes-requires : tie.Need-push-bytes-requires
-push-bytes-requires c κs = search rules
+push_bytes-requires : tie.Need-push_bytes-requires
+push_bytes-requires c κs = search rules
 
-same_length : tie.Need-same-length
-same_length c = search
+shape_of-bitmap-then-at-eq0 : tie.Need-shape_of-bitmap-then-at-eq0
+shape_of-bitmap-then-at-eq0 c = search
+
+returns-then-at-eq0 : tie.Need-returns-then-at-eq0
+returns-then-at-eq0 c =
+    let s = c.before.before.before.before.before.before in
+    let e : 8 * (s.args.at / 8) ≡ s.args.at = omega (arith, c.if-at-eq0.true) in
+    c.push_bytes.ensures ∙ ap (λ (r : ℕ). push_bits s.args.bitmap.now r (replicate s.args.n s.args.on)) e
+
+overflow_sub-gap : tie.Need-overflow_sub-gap
+overflow_sub-gap c = search rules
+
+push_within-requires : tie.Need-push_within-requires
+push_within-requires c κs = search rules
+
+shape_of-bitmap-then-n-gap : tie.Need-shape_of-bitmap-then-n-gap
+shape_of-bitmap-then-n-gap c = search
+
+returns-then-n-gap : tie.Need-returns-then-n-gap
+returns-then-n-gap c = search
+
+push_within-requires-2 : tie.Need-push_within-requires-2
+push_within-requires-2 c κs = search rules
+
+overflow_add-at : tie.Need-overflow_add-at
+overflow_add-at c = search rules
+
+overflow_sub-n : tie.Need-overflow_sub-n
+overflow_sub-n c = search rules
+
+push_bytes-requires-2 : tie.Need-push_bytes-requires-2
+push_bytes-requires-2 c κs = search rules
+
+shape_of-bitmap : tie.Need-shape_of-bitmap
+shape_of-bitmap c = search
 
 returns : tie.Need-returns
 returns c =
-    let s = c.before.before.before.before.before.before in
-    let e : 8 * (s.args.at / 8) ≡ s.args.at = omega (arith, c.before.before.before.before.if1.true) in
-    c.before.before.push-bytes.ensures ∙ ap (λ (r : ℕ). push_bits s.args.bitmap.now r (replicate s.args.n s.args.on)) e
-
-sub-gap : tie.Need-overflow-sub-gap
-sub-gap c = search rules
-
-push-within-requires : tie.Need-push-within-requires
-push-within-requires c κs = search rules
-
-same-length-2 : tie.Need-same-length-2
-same-length-2 c = search
-
-returns-2 : tie.Need-returns-2
-returns-2 c = search
-
-push-within-requires-2 : tie.Need-push-within-requires-2
-push-within-requires-2 c κs = search rules
-
-add-push-bytes : tie.Need-overflow-add-push-bytes
-add-push-bytes c = search rules
-
-sub-push-bytes : tie.Need-overflow-sub-push-bytes
-sub-push-bytes c = search rules
-
-push-bytes-requires-2 : tie.Need-push-bytes-requires-2
-push-bytes-requires-2 c κs = search rules
-
-same-length-3 : tie.Need-same-length-3
-same-length-3 c = search
-
-returns-3 : tie.Need-returns-3
-returns-3 c =
     let s = c.before.before.before.before.before.before.before.before.before.before.before in
-    let e : 8 * (s.args.at / 8 + 1) ≡ s.args.at + (8 - s.args.at % 8) = omega (arith, c.before.before.before.before.before.before.before.before.before.if1.false) in
-    rw (c.before.before.push-bytes2.ensures, c.before.before.before.before.before.before.push-within2.ensures) (push_then s.args.on _ s.args.at s.args.n (8 - s.args.at % 8) (s.args.at / 8 + 1) e (omega (arith, c.before.before.before.before.before.before.before.before)))
+    let e : 8 * (s.args.at / 8 + 1) ≡ s.args.at + (8 - s.args.at % 8) = omega (arith, c.if-at-eq0.false) in
+    rw (c.push_bytes-2.ensures, c.push_within-2.ensures) (push_then s.args.on _ s.args.at s.args.n (8 - s.args.at % 8) (s.args.at / 8 + 1) e (omega (arith, c.before.before.before.before.before.before.before.before)))
 
 pub push_same_spec : {M : Type 1} → statement M
 push_same_spec =
     tie.close
     (tie.spec
-    push-bytes-requires
-    same_length
-    returns
-    sub-gap
-    push-within-requires
-    same-length-2
-    returns-2
-    push-within-requires-2
-    add-push-bytes
-    sub-push-bytes
-    push-bytes-requires-2
-    same-length-3
-    returns-3)
+    push_bytes-requires
+    shape_of-bitmap-then-at-eq0
+    returns-then-at-eq0
+    overflow_sub-gap
+    push_within-requires
+    shape_of-bitmap-then-n-gap
+    returns-then-n-gap
+    push_within-requires-2
+    overflow_add-at
+    overflow_sub-n
+    push_bytes-requires-2
+    shape_of-bitmap
+    returns)

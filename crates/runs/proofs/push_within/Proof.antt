@@ -11,41 +11,41 @@ use Rattle.runs.proofs.push_within.Tie as tie
 shifted : (s : tie.Start) → (2 ^ s.args.m - 1) * 2 ^ (s.args.i % 8) % 256 ≡ (2 ^ s.args.m - 1) * 2 ^ (s.args.i % 8)
 shifted s = let p = pow_pos s.args.m in shl_exact {a = 2 ^ s.args.m - 1} s.args.m (s.args.i % 8) 8 (omega arith) (omega (arith, s.requires.1.0))
 
-low-ones-requires : tie.Need-low-ones-requires
-low-ones-requires c κs = search rules
+low_ones-ones-requires : tie.Need-low_ones-ones-requires
+low_ones-ones-requires c κs = search rules
 
-slice-read-byte : tie.Need-slice-read-byte
-slice-read-byte c = search
+bounds-bitmap-i : tie.Need-bounds-bitmap-i
+bounds-bitmap-i c = search
 
-cast-bitmap : tie.Need-overflow-cast-bitmap
-cast-bitmap c = search rules
+overflow_cast-bitmap : tie.Need-overflow_cast-bitmap
+overflow_cast-bitmap c = search rules
 
-shl-bitmap : tie.Need-overflow-shl-bitmap
-shl-bitmap c = search rules
+overflow_shl-bitmap : tie.Need-overflow_shl-bitmap
+overflow_shl-bitmap c = search rules
 
-slice-write-bitmap : tie.Need-slice-write-bitmap
-slice-write-bitmap c = search
+bounds-bitmap-i-then-on : tie.Need-bounds-bitmap-i-then-on
+bounds-bitmap-i-then-on c = search
 
-same_length : tie.Need-same-length
-same_length c = search rules
+shape_of-bitmap : tie.Need-shape_of-bitmap
+shape_of-bitmap c = search rules
 
-returns : tie.Need-returns
-returns c =
+returns-then-on : tie.Need-returns-then-on
+returns-then-on c =
     let s = c.before.before.before.before in
-    rw (c.before.before.if1.true, c.before.low_ones.ensures, shifted s) (sym (ones_within s.args.m _ s.args.i s.requires.1.1 s.requires.0 s.requires.1.0))
+    rw (c.if-on.true, c.low_ones-ones.ensures, shifted s) (sym (ones_within s.args.m _ s.args.i s.requires.1.1 s.requires.0 s.requires.1.0))
 
-returns-2 : tie.Need-returns-2
-returns-2 c = let s = c.before.before in rw c.if1.false (sym (zeros_within s.args.m _ s.args.i s.requires.0 s.requires.1.0))
+returns-else-on : tie.Need-returns-else-on
+returns-else-on c = let s = c.before.before in rw c.if-on.false (sym (zeros_within s.args.m _ s.args.i s.requires.0 s.requires.1.0))
 
 pub push_within_spec : {M : Type 1} → statement M
 push_within_spec =
     tie.close
     (tie.spec
-    low-ones-requires
-    slice-read-byte
-    cast-bitmap
-    shl-bitmap
-    slice-write-bitmap
-    same_length
-    returns
-    returns-2)
+    low_ones-ones-requires
+    bounds-bitmap-i
+    overflow_cast-bitmap
+    overflow_shl-bitmap
+    bounds-bitmap-i-then-on
+    shape_of-bitmap
+    returns-then-on
+    returns-else-on)

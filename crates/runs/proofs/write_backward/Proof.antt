@@ -9,36 +9,36 @@ use Rattle.runs.proofs.write_backward.Statement.{statement}
 use Rattle.runs.proofs.write_backward.Tie as tie
 
 module _ (s : tie.Start) where
-  many : (s.args.at + s.args.n ≤ length s.args.out-values.now) × (bytes_for (s.args.at + s.args.n) ≤ length s.args.out-elements.now)
+  many : (s.args.at + s.args.n ≤ length s.args.out_values.now) × (bytes_for (s.args.at + s.args.n) ≤ length s.args.out_elements.now)
   many =
       let l = length_back (elem_at s.args.values.now (from s.args.estart s.args.elements.now)) s.args.a s.args.n in
       (omega (arith, s.requires.1.0.values), omega (arith, s.requires.1.0.elements))
 
-copy-backward-requires : tie.Need-copy-backward-requires
-copy-backward-requires c κs = (c.before.before.before.requires.0.inside, (many c.before.before.before).0)
+copy_backward-requires : tie.Need-copy_backward-requires
+copy_backward-requires c κs = (c.requires.0.inside, (many c.before.before.before).0)
 
-push-same-requires : tie.Need-push-same-requires
-push-same-requires c κs = (many c.before.before.before.before.before.before).1
+push_same-requires : tie.Need-push_same-requires
+push_same-requires c κs = (many c.before.before.before.before.before.before).1
 
-add-result : tie.Need-overflow-add-result
-add-result c = let m = many c.before.before.before.before.before.before.before.before.before in omega (arith, c.before.before.before.before.before.before.before.before.before)
+overflow_add-result : tie.Need-overflow_add-result
+overflow_add-result c = let m = many c.before.before.before.before.before.before.before.before.before in omega (arith, c.before.before.before.before.before.before.before.before.before)
 
-same_length : tie.Need-same-length
-same_length c = search
+shape_of-out_values : tie.Need-shape_of-out_values
+shape_of-out_values c = search
 
-same-length-2 : tie.Need-same-length-2
-same-length-2 c = search
+shape_of-out_elements : tie.Need-shape_of-out_elements
+shape_of-out_elements c = search
 
 returns : tie.Need-returns
-returns c = let s = c.before.before.before.before.before.before.before.before.before in backward_written s.args.values.now (from s.args.estart s.args.elements.now) s.requires.1.1 s.args.a s.args.n s.args.at c.before.before.before.before.before.copy-backward.ensures c.before.before.push-same.ensures
+returns c = let s = c.before.before.before.before.before.before.before.before.before in backward_written s.args.values.now (from s.args.estart s.args.elements.now) s.requires.1.1 s.args.a s.args.n s.args.at c.copy_backward.ensures c.push_same.ensures
 
 pub write_backward_spec : {M : Type 1} → statement M
 write_backward_spec =
     tie.close
     (tie.spec
-    copy-backward-requires
-    push-same-requires
-    add-result
-    same_length
-    same-length-2
+    copy_backward-requires
+    push_same-requires
+    overflow_add-result
+    shape_of-out_values
+    shape_of-out_elements
     returns)

@@ -9,31 +9,37 @@ use Rattle.runs.proofs.write_null.Statement.{statement}
 use Rattle.runs.proofs.write_null.Tie as tie
 
 module _ (s : tie.Start) where
-  many : (s.args.at + s.args.n ≤ length s.args.out-values.now) × (bytes_for (s.args.at + s.args.n) ≤ length s.args.out-elements.now)
+  many : (s.args.at + s.args.n ≤ length s.args.out_values.now) × (bytes_for (s.args.at + s.args.n) ≤ length s.args.out_elements.now)
   many =
       let l = length-replicate s.args.n nul in
       (omega (arith, s.requires.values), omega (arith, s.requires.elements))
 
-fill-values-requires : tie.Need-fill-values-requires
-fill-values-requires c κs = (many c.before.before).0
+fill_values-requires : tie.Need-fill_values-requires
+fill_values-requires c κs = (many c.before.before).0
 
-push-same-requires : tie.Need-push-same-requires
-push-same-requires c κs = (many c.before.before.before.before.before).1
+push_same-requires : tie.Need-push_same-requires
+push_same-requires c κs = (many c.before.before.before.before.before).1
 
-add-result : tie.Need-overflow-add-result
-add-result c = let m = many c.before.before.before.before.before.before.before.before in omega (arith, c.before.before.before.before.before.before.before.before)
+overflow_add-result : tie.Need-overflow_add-result
+overflow_add-result c = let m = many c.before.before.before.before.before.before.before.before in omega (arith, c.before.before.before.before.before.before.before.before)
 
-same_length : tie.Need-same-length
-same_length c = search
+shape_of-out_values : tie.Need-shape_of-out_values
+shape_of-out_values c = search
 
-same-length-2 : tie.Need-same-length-2
-same-length-2 c = search
+shape_of-out_elements : tie.Need-shape_of-out_elements
+shape_of-out_elements c = search
 
 returns : tie.Need-returns
 unfolding is_val value_of
-returns c = let s = c.before.before.before.before.before.before.before.before in same_written nul s.args.n s.args.at c.before.before.before.before.before.fill-values.ensures c.before.before.push-same.ensures
+returns c = let s = c.before.before.before.before.before.before.before.before in same_written nul s.args.n s.args.at c.fill_values.ensures c.push_same.ensures
 
 pub write_null_spec : {M : Type 1} → statement M
 write_null_spec =
     tie.close
-    (tie.spec fill-values-requires push-same-requires add-result same_length same-length-2 returns)
+    (tie.spec
+    fill_values-requires
+    push_same-requires
+    overflow_add-result
+    shape_of-out_values
+    shape_of-out_elements
+    returns)

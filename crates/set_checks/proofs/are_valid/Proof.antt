@@ -1,17 +1,23 @@
 use Rattle.set_checks.proofs.are_valid.Statement.{statement}
 use Rattle.set_checks.proofs.are_valid.Tie as tie
 
-is-valid-requires : tie.Need-is-valid-requires
-is-valid-requires c κs = search
+is_valid-requires : tie.Need-is_valid-requires
+is_valid-requires c κs = search
 
-is-valid-requires-2 : tie.Need-is-valid-requires-2
-is-valid-requires-2 c κs = search
+is_valid-requires-then-is_valid : tie.Need-is_valid-requires-then-is_valid
+is_valid-requires-then-is_valid c κs = search
+
+returns-then-is_valid : tie.Need-returns-then-is_valid
+returns-then-is_valid c = rw (← c.is_valid.ensures, c.if-is_valid.true) c.is_valid-then-is_valid.ensures
 
 returns : tie.Need-returns
-returns c = rw (← c.before.before.is-valid.ensures, c.before.if1.true) c.is-valid2.ensures
-
-returns-2 : tie.Need-returns-2
-returns-2 c = rw (← c.before.is-valid.ensures, c.if1.false)
+returns c = rw (← c.is_valid.ensures, c.if-is_valid.false)
 
 pub are_valid_spec : {M : Type 1} → statement M
-are_valid_spec = tie.close (tie.spec is-valid-requires is-valid-requires-2 returns returns-2)
+are_valid_spec =
+    tie.close
+    (tie.spec
+    is_valid-requires
+    is_valid-requires-then-is_valid
+    returns-then-is_valid
+    returns)

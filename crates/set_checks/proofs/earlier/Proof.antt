@@ -1,17 +1,23 @@
 use Rattle.set_checks.proofs.earlier.Statement.{statement}
 use Rattle.set_checks.proofs.earlier.Tie as tie
 
+returns-then-left-right : tie.Need-returns-then-left-right
+returns-then-left-right c = rw c.if-left-right.true
+
+returns-then-left-right-2 : tie.Need-returns-then-left-right-2
+returns-then-left-right-2 c = rw (c.if-left-right.false, c.if-left-right-2.true)
+
+returns-then-left-right-3 : tie.Need-returns-then-left-right-3
+returns-then-left-right-3 c = rw (c.if-left-right.false, c.if-left-right-2.false, c.if-left-right-3.true)
+
 returns : tie.Need-returns
-returns c = rw c.if1.true
-
-returns-2 : tie.Need-returns-2
-returns-2 c = rw (c.before.if1.false, c.if2.true)
-
-returns-3 : tie.Need-returns-3
-returns-3 c = rw (c.before.before.if1.false, c.before.if2.false, c.if3.true)
-
-returns-4 : tie.Need-returns-4
-returns-4 c = rw (c.before.before.if1.false, c.before.if2.false, c.if3.false)
+returns c = rw (c.if-left-right.false, c.if-left-right-2.false, c.if-left-right-3.false)
 
 pub earlier_spec : {M : Type 1} → statement M
-earlier_spec = tie.close (tie.spec returns returns-2 returns-3 returns-4)
+earlier_spec =
+    tie.close
+    (tie.spec
+    returns-then-left-right
+    returns-then-left-right-2
+    returns-then-left-right-3
+    returns)

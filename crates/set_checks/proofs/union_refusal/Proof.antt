@@ -3,26 +3,34 @@ use borrow.Author.Tests.{lt-ltb, le-ltb}
 use Rattle.set_checks.proofs.union_refusal.Statement.{statement}
 use Rattle.set_checks.proofs.union_refusal.Tie as tie
 
-enum_told : tie.Need-enum-told
-enum_told c = search
+enum_told-1 : tie.Need-enum_told-1
+enum_told-1 c = search
 
-returns : tie.Need-returns
+returns-then-most_united-m : tie.Need-returns-then-most_united-m
 unfolding union_refusal
-returns c = rw (c.before.before.enum_told.given.1, ← c.before.most-united.ensures, lt-ltb _ _ c.if1.true)
+returns-then-most_united-m c = rw (c.in-Union.is, ← c.most_united.ensures, lt-ltb _ _ c.if-most_united-m.true)
 
-most-united-requires : tie.Need-most-united-requires
-most-united-requires c κs = search
+most_united-requires : tie.Need-most_united-requires
+most_united-requires c κs = search
 
-enum-told-2 : tie.Need-enum-told-2
-enum-told-2 c = search
+enum_told-in-Intersect : tie.Need-enum_told-in-Intersect
+enum_told-in-Intersect c = search
 
-returns-2 : tie.Need-returns-2
+returns-else-most_united-m : tie.Need-returns-else-most_united-m
 unfolding union_refusal
-returns-2 c = rw (c.before.before.enum_told.given.1, ← c.before.most-united.ensures, le-ltb _ _ c.if1.false)
+returns-else-most_united-m c = rw (c.in-Union.is, ← c.most_united.ensures, le-ltb _ _ c.if-most_united-m.false)
 
-returns-3 : tie.Need-returns-3
+returns-in-Intersect : tie.Need-returns-in-Intersect
 unfolding union_refusal
-returns-3 c = rw c.enum-told2.given.1
+returns-in-Intersect c = rw c.in-Intersect.is
 
 pub union_refusal_spec : {M : Type 1} → statement M
-union_refusal_spec = tie.close (tie.spec enum_told most-united-requires returns enum-told-2 returns-2 returns-3)
+union_refusal_spec =
+    tie.close
+    (tie.spec
+    enum_told-1
+    most_united-requires
+    returns-then-most_united-m
+    enum_told-in-Intersect
+    returns-else-most_united-m
+    returns-in-Intersect)

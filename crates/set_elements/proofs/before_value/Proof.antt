@@ -12,74 +12,74 @@ use Rattle.set_elements.proofs.SearchLaws.{one-more_value, before_found, before_
 use Rattle.set_elements.proofs.before_value.Statement.{statement}
 use Rattle.set_elements.proofs.before_value.Tie as tie
 
-abbrev invariant-loop : tie.invariant-loop
-invariant-loop values a k v r₀ r = (has_value (to_z w64 v) values a r ≡ false) × (r ≤ k)
+abbrev invariant-loop-r : tie.invariant-loop-r
+invariant-loop-r values a k v r₀ r = (has_value (to_z w64 v) values a r ≡ false) × (r ≤ k)
 
-abbrev decreases-loop : tie.decreases-loop
-decreases-loop values a k v r₀ r = k - r
+abbrev decreases-loop-r : tie.decreases-loop-r
+decreases-loop-r values a k v r₀ r = k - r
 
-fours-before-requires : tie.Need-fours-before-requires invariant-loop decreases-loop
-fours-before-requires c κs = c.requires
+fours_before-r-requires : tie.Need-fours_before-r-requires invariant-loop-r decreases-loop-r
+fours_before-r-requires c κs = c.requires
 
-loop-holds : tie.Need-loop-init invariant-loop decreases-loop
-loop-holds c = (c.fours-before.ensures.1, c.fours-before.ensures.0)
+loop-r-init : tie.Need-loop-r-init invariant-loop-r decreases-loop-r
+loop-r-init c = (c.fours_before-r.ensures.1, c.fours_before-r.ensures.0)
 
-add-same-value : tie.Need-overflow-add-same-value invariant-loop decreases-loop
-add-same-value c = omega (arith, c, c.before.before.before.requires)
+overflow_add-a : tie.Need-overflow_add-a invariant-loop-r decreases-loop-r
+overflow_add-a c = omega (arith, c, c.requires)
 
-mul-same-value : tie.Need-overflow-mul-same-value invariant-loop decreases-loop
-mul-same-value c = omega (arith, c, c.before.before.before.requires)
+offset_bounds-values-a : tie.Need-offset_bounds-values-a invariant-loop-r decreases-loop-r
+offset_bounds-values-a c = omega (arith, c, c.requires)
 
-shared-slice-copy-out-same-value : tie.Need-shared-slice-copy-out-same-value invariant-loop decreases-loop
-shared-slice-copy-out-same-value c = omega (arith, c, c.before.before.before.requires)
+bounds-values-a : tie.Need-bounds-values-a invariant-loop-r decreases-loop-r
+bounds-values-a c = omega (arith, c, c.requires)
 
-same-value-requires : tie.Need-same-value-requires invariant-loop decreases-loop
-same-value-requires c κs = tt
+same_value-requires : tie.Need-same_value-requires invariant-loop-r decreases-loop-r
+same_value-requires c κs = tt
 
-returns : tie.Need-returns invariant-loop decreases-loop
-returns c =
+returns-then-same_value : tie.Need-returns-then-same_value invariant-loop-r decreases-loop-r
+returns-then-same_value c =
     let i = c.before.before.before in
-    let l = i.before.loop in
+    let l = i.loop-r in
     let s = i.before.before.before in
     let a = s.args in
-    let e = rw (back64 (get_or a.values.now (a.a + l.r) (pos 0)) c.before.before.same-value-arg.given) at c.before.same-value.ensures in
-    rw (back64 _ s.ranges.v.sfits) at (before_found (to_z w64 (of_z w64 a.v)) a.values.now a.a a.k l.r i.loop-test.true l.invariant.0 (sym e ∙ c.if1.true))
+    let e = rw (back64 (get_or a.values.now (a.a + l.r) (pos 0)) c.same_value-arg-1.given) at c.same_value.ensures in
+    rw (back64 _ s.ranges.v.sfits) at (before_found (to_z w64 (of_z w64 a.v)) a.values.now a.a a.k l.r i.loop-r-test.true l.invariant.0 (sym e ∙ c.if-same_value.true))
 
-add_r : tie.Need-overflow-add-r invariant-loop decreases-loop
-add_r c = omega (arith, c.before.before.before)
+overflow_add-r : tie.Need-overflow_add-r invariant-loop-r decreases-loop-r
+overflow_add-r c = omega (arith, c.before.before.before)
 
-loop-less : tie.Need-loop-smaller invariant-loop decreases-loop
-loop-less c = omega (arith, c.before.before.before)
+loop-r-smaller : tie.Need-loop-r-smaller invariant-loop-r decreases-loop-r
+loop-r-smaller c = omega (arith, c.before.before.before)
 
-loop-again : tie.Need-loop-preserved invariant-loop decreases-loop
-loop-again c =
+loop-r-preserved : tie.Need-loop-r-preserved invariant-loop-r decreases-loop-r
+loop-r-preserved c =
     let i = c.before.before.before in
-    let l = i.before.loop in
-    let a = i.before.before.before.args in
-    let e = rw (back64 (get_or a.values.now (a.a + l.r) (pos 0)) c.before.before.same-value-arg.given) at c.before.same-value.ensures in
-    (one-more_value (to_z w64 (of_z w64 a.v)) a.values.now a.a l.r l.invariant.0 (sym e ∙ c.if1.false), omega (arith, i))
+    let l = i.loop-r in
+    let a = i.args in
+    let e = rw (back64 (get_or a.values.now (a.a + l.r) (pos 0)) c.same_value-arg-1.given) at c.same_value.ensures in
+    (one-more_value (to_z w64 (of_z w64 a.v)) a.values.now a.a l.r l.invariant.0 (sym e ∙ c.if-same_value.false), omega (arith, i))
 
-returns-2 : tie.Need-returns-2 invariant-loop decreases-loop
-returns-2 c =
-    let l = c.before.loop in
+returns : tie.Need-returns invariant-loop-r decreases-loop-r
+returns c =
+    let l = c.loop-r in
     let s = c.before.before.before in
     let a = s.args in
-    rw (back64 _ s.ranges.v.sfits) at (before_none (to_z w64 (of_z w64 a.v)) a.values.now a.a a.k l.r l.invariant.1 c.loop-test.false l.invariant.0)
+    rw (back64 _ s.ranges.v.sfits) at (before_none (to_z w64 (of_z w64 a.v)) a.values.now a.a a.k l.r l.invariant.1 c.loop-r-test.false l.invariant.0)
 
 pub before_value_spec : {M : Type 1} → statement M
 before_value_spec =
     tie.close
     (tie.spec
-    invariant-loop
-    decreases-loop
-    fours-before-requires
-    loop-holds
-    add-same-value
-    mul-same-value
-    shared-slice-copy-out-same-value
-    same-value-requires
-    returns
-    add_r
-    loop-less
-    loop-again
-    returns-2)
+    invariant-loop-r
+    decreases-loop-r
+    fours_before-r-requires
+    loop-r-init
+    overflow_add-a
+    offset_bounds-values-a
+    bounds-values-a
+    same_value-requires
+    returns-then-same_value
+    overflow_add-r
+    loop-r-smaller
+    loop-r-preserved
+    returns)

@@ -10,58 +10,58 @@ use Rattle.set_elements.proofs.SearchLaws.{no_values, more-values}
 use Rattle.set_elements.proofs.fours_before.Statement.{statement}
 use Rattle.set_elements.proofs.fours_before.Tie as tie
 
-abbrev invariant-loop : tie.invariant-loop
-invariant-loop values a k v r₀ r = (has_value (to_z w64 v) values a r ≡ false) × (r ≤ k)
+abbrev invariant-loop-r : tie.invariant-loop-r
+invariant-loop-r values a k v r₀ r = (has_value (to_z w64 v) values a r ≡ false) × (r ≤ k)
 
-abbrev decreases-loop : tie.decreases-loop
-decreases-loop values a k v r₀ r = k - r
+abbrev decreases-loop-r : tie.decreases-loop-r
+decreases-loop-r values a k v r₀ r = k - r
 
-loop-holds : tie.Need-loop-init invariant-loop decreases-loop
-loop-holds c = (no_values (to_z w64 (of_z w64 c.args.v)) c.args.values.now c.args.a, omega arith)
+loop-r-init : tie.Need-loop-r-init invariant-loop-r decreases-loop-r
+loop-r-init c = (no_values (to_z w64 (of_z w64 c.args.v)) c.args.values.now c.args.a, omega arith)
 
-sub-loop : tie.Need-overflow-sub-loop invariant-loop decreases-loop
-sub-loop c = omega arith
+overflow_sub-k : tie.Need-overflow_sub-k invariant-loop-r decreases-loop-r
+overflow_sub-k c = omega arith
 
-add-is-one-of-four : tie.Need-overflow-add-is-one-of-four invariant-loop decreases-loop
-add-is-one-of-four c = omega (arith, c, c.before.before.requires)
+overflow_add-a : tie.Need-overflow_add-a invariant-loop-r decreases-loop-r
+overflow_add-a c = omega (arith, c, c.requires)
 
-is-one-of-four-requires : tie.Need-is-one-of-four-requires invariant-loop decreases-loop
-is-one-of-four-requires c κs = omega (arith, c, c.before.before.requires)
+is_one_of_four-requires : tie.Need-is_one_of_four-requires invariant-loop-r decreases-loop-r
+is_one_of_four-requires c κs = omega (arith, c, c.requires)
 
-returns : tie.Need-returns invariant-loop decreases-loop
+returns-then-is_one_of_four : tie.Need-returns-then-is_one_of_four invariant-loop-r decreases-loop-r
+returns-then-is_one_of_four c =
+    let l = c.loop-r in
+    (l.invariant.1, rw (back64 _ c.ranges.v.sfits) at l.invariant.0)
+
+overflow_add-r : tie.Need-overflow_add-r invariant-loop-r decreases-loop-r
+overflow_add-r c = omega (arith, c.before.before)
+
+loop-r-smaller : tie.Need-loop-r-smaller invariant-loop-r decreases-loop-r
+loop-r-smaller c = omega (arith, c.before.before)
+
+loop-r-preserved : tie.Need-loop-r-preserved invariant-loop-r decreases-loop-r
+loop-r-preserved c =
+    let l = c.loop-r in
+    let a = c.args in
+    (more-values (to_z w64 (of_z w64 a.v)) a.values.now a.a l.r 4 l.invariant.0 (rw (← c.is_one_of_four.ensures) c.if-is_one_of_four.false), omega (arith, c.before.before))
+
+returns : tie.Need-returns invariant-loop-r decreases-loop-r
 returns c =
-    let l = c.before.before.before.loop in
-    (l.invariant.1, rw (back64 _ c.before.before.before.before.ranges.v.sfits) at l.invariant.0)
-
-add_r : tie.Need-overflow-add-r invariant-loop decreases-loop
-add_r c = omega (arith, c.before.before)
-
-loop-less : tie.Need-loop-smaller invariant-loop decreases-loop
-loop-less c = omega (arith, c.before.before)
-
-loop-again : tie.Need-loop-preserved invariant-loop decreases-loop
-loop-again c =
-    let l = c.before.before.before.loop in
-    let a = c.before.before.before.before.args in
-    (more-values (to_z w64 (of_z w64 a.v)) a.values.now a.a l.r 4 l.invariant.0 (rw (← c.before.is-one-of-four.ensures) c.if1.false), omega (arith, c.before.before))
-
-returns-2 : tie.Need-returns-2 invariant-loop decreases-loop
-returns-2 c =
-    let l = c.before.loop in
-    (l.invariant.1, rw (back64 _ c.before.before.ranges.v.sfits) at l.invariant.0)
+    let l = c.loop-r in
+    (l.invariant.1, rw (back64 _ c.ranges.v.sfits) at l.invariant.0)
 
 pub fours_before_spec : {M : Type 1} → statement M
 fours_before_spec =
     tie.close
     (tie.spec
-    invariant-loop
-    decreases-loop
-    loop-holds
-    sub-loop
-    add-is-one-of-four
-    is-one-of-four-requires
-    returns
-    add_r
-    loop-less
-    loop-again
-    returns-2)
+    invariant-loop-r
+    decreases-loop-r
+    loop-r-init
+    overflow_sub-k
+    overflow_add-a
+    is_one_of_four-requires
+    returns-then-is_one_of_four
+    overflow_add-r
+    loop-r-smaller
+    loop-r-preserved
+    returns)

@@ -11,66 +11,66 @@ use Rattle.set_elements.proofs.SearchLaws.{plain_no_null, null_first, valid_firs
 use Rattle.set_elements.proofs.has_null.Statement.{statement}
 use Rattle.set_elements.proofs.has_null.Tie as tie
 
-abbrev invariant-loop : tie.invariant-loop
-invariant-loop others oelements ostart a k p₀ left₀ p left =
+abbrev invariant-loop-left : tie.invariant-loop-left
+invariant-loop-left others oelements ostart a k p₀ left₀ p left =
     (is_in nul (tab (elem_at others (from ostart oelements)) p left) ≡ is_in nul (tab (elem_at others (from ostart oelements)) a k))
     × (p + left ≡ a + k)
 
-abbrev decreases-loop : tie.decreases-loop
-decreases-loop others oelements ostart a k p₀ left₀ p left = left
+abbrev decreases-loop-left : tie.decreases-loop-left
+decreases-loop-left others oelements ostart a k p₀ left₀ p left = left
 
-returns : tie.Need-returns invariant-loop decreases-loop
+returns-then-oelements-eq0 : tie.Need-returns-then-oelements-eq0 invariant-loop-left decreases-loop-left
+returns-then-oelements-eq0 c =
+    let a = c.args in
+    sym (plain_no_null a.others.now (from a.ostart a.oelements.now) a.a a.k c.if-oelements-eq0.true)
+
+loop-left-init : tie.Need-loop-left-init invariant-loop-left decreases-loop-left
+loop-left-init c = (refl, refl)
+
+is_valid-requires : tie.Need-is_valid-requires invariant-loop-left decreases-loop-left
+is_valid-requires c κs = let s = c.before.before.before.before in (s.requires.1, omega (arith, s.requires.0))
+
+returns-then-not-is_valid : tie.Need-returns-then-not-is_valid invariant-loop-left decreases-loop-left
+returns-then-not-is_valid c =
+    let i = c.before.before in
+    let l = i.loop-left in
+    let a = i.args in
+    sym (null_first a.others.now (from a.ostart a.oelements.now) l.p l.left i.loop-left-test.true (sym c.is_valid.ensures ∙ not-true _ c.if-not-is_valid.true)) ∙ l.invariant.0
+
+overflow_add-p : tie.Need-overflow_add-p invariant-loop-left decreases-loop-left
+overflow_add-p c = omega (arith, c.before.before, c.requires.0)
+
+overflow_sub-left : tie.Need-overflow_sub-left invariant-loop-left decreases-loop-left
+overflow_sub-left c = omega (arith, c.before.before)
+
+loop-left-smaller : tie.Need-loop-left-smaller invariant-loop-left decreases-loop-left
+loop-left-smaller c = omega (arith, c.before.before)
+
+loop-left-preserved : tie.Need-loop-left-preserved invariant-loop-left decreases-loop-left
+loop-left-preserved c =
+    let i = c.before.before in
+    let l = i.loop-left in
+    let a = i.args in
+    (sym (valid_first a.others.now (from a.ostart a.oelements.now) l.p l.left i.loop-left-test.true (sym c.is_valid.ensures ∙ not-false _ c.if-not-is_valid.false)) ∙ l.invariant.0, omega (arith, i))
+
+returns : tie.Need-returns invariant-loop-left decreases-loop-left
 returns c =
-    let a = c.before.before.args in
-    sym (plain_no_null a.others.now (from a.ostart a.oelements.now) a.a a.k c.if1.true)
-
-loop-holds : tie.Need-loop-init invariant-loop decreases-loop
-loop-holds c = (refl, refl)
-
-is-valid-requires : tie.Need-is-valid-requires invariant-loop decreases-loop
-is-valid-requires c κs = let s = c.before.before.before.before in (s.requires.1, omega (arith, s.requires.0))
-
-returns-2 : tie.Need-returns-2 invariant-loop decreases-loop
-returns-2 c =
-    let i = c.before.before in
-    let l = i.before.loop in
-    let a = i.before.before.before.before.args in
-    sym (null_first a.others.now (from a.ostart a.oelements.now) l.p l.left i.loop-test.true (sym c.before.is-valid.ensures ∙ not-true _ c.if2.true)) ∙ l.invariant.0
-
-add-p : tie.Need-overflow-add-p invariant-loop decreases-loop
-add-p c = omega (arith, c.before.before, c.before.before.before.before.before.before.requires.0)
-
-sub-left : tie.Need-overflow-sub-left invariant-loop decreases-loop
-sub-left c = omega (arith, c.before.before)
-
-loop-less : tie.Need-loop-smaller invariant-loop decreases-loop
-loop-less c = omega (arith, c.before.before)
-
-loop-again : tie.Need-loop-preserved invariant-loop decreases-loop
-loop-again c =
-    let i = c.before.before in
-    let l = i.before.loop in
-    let a = i.before.before.before.before.args in
-    (sym (valid_first a.others.now (from a.ostart a.oelements.now) l.p l.left i.loop-test.true (sym c.before.is-valid.ensures ∙ not-false _ c.if2.false)) ∙ l.invariant.0, omega (arith, i))
-
-returns-3 : tie.Need-returns-3 invariant-loop decreases-loop
-returns-3 c =
-    let l = c.before.loop in
-    let a = c.before.before.before.before.args in
-    sym (is_in-none nul (elem_at a.others.now (from a.ostart a.oelements.now)) l.p l.left c.loop-test.false) ∙ l.invariant.0
+    let l = c.loop-left in
+    let a = c.args in
+    sym (is_in-none nul (elem_at a.others.now (from a.ostart a.oelements.now)) l.p l.left c.loop-left-test.false) ∙ l.invariant.0
 
 pub has_null_spec : {M : Type 1} → statement M
 has_null_spec =
     tie.close
     (tie.spec
-    invariant-loop
-    decreases-loop
-    returns
-    loop-holds
-    is-valid-requires
-    returns-2
-    add-p
-    sub-left
-    loop-less
-    loop-again
-    returns-3)
+    invariant-loop-left
+    decreases-loop-left
+    returns-then-oelements-eq0
+    loop-left-init
+    is_valid-requires
+    returns-then-not-is_valid
+    overflow_add-p
+    overflow_sub-left
+    loop-left-smaller
+    loop-left-preserved
+    returns)

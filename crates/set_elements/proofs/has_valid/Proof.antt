@@ -13,97 +13,100 @@ use Rattle.set_elements.proofs.SearchLaws.{not_found, found_valid, found_null}
 use Rattle.set_elements.proofs.has_valid.Statement.{statement}
 use Rattle.set_elements.proofs.has_valid.Tie as tie
 
-abbrev invariant-loop : tie.invariant-loop
-invariant-loop others oelements ostart a k v p₀ left₀ p left =
+abbrev invariant-loop-left : tie.invariant-loop-left
+invariant-loop-left others oelements ostart a k v p₀ left₀ p left =
     (is_in (val (to_z w64 v)) (tab (elem_at others (from ostart oelements)) p left) ≡ is_in (val (to_z w64 v)) (tab (elem_at others (from ostart oelements)) a k))
     × (p + left ≡ a + k)
 
-abbrev decreases-loop : tie.decreases-loop
-decreases-loop others oelements ostart a k v p₀ left₀ p left = left
+abbrev decreases-loop-left : tie.decreases-loop-left
+decreases-loop-left others oelements ostart a k v p₀ left₀ p left = left
 
-loop-holds : tie.Need-loop-init invariant-loop decreases-loop
-loop-holds c = (refl, refl)
+loop-left-init : tie.Need-loop-left-init invariant-loop-left decreases-loop-left
+loop-left-init c = (refl, refl)
 
-before-value-requires : tie.Need-before-value-requires invariant-loop decreases-loop
-before-value-requires c κs = omega (arith, c.before.before.before.requires.0)
+before_value-run-requires : tie.Need-before_value-run-requires invariant-loop-left decreases-loop-left
+before_value-run-requires c κs = omega (arith, c.requires.0)
 
-returns : tie.Need-returns invariant-loop decreases-loop
-returns c =
-    let l = c.before.before.before.loop in
+returns-then-left-run : tie.Need-returns-then-left-run invariant-loop-left decreases-loop-left
+returns-then-left-run c =
+    let l = c.loop-left in
     let s = c.before.before.before.before.before in
     let a = s.args in
     rw (back64 _ s.ranges.v.sfits) at
-    (sym (not_found (to_z w64 (of_z w64 a.v)) a.others.now (from a.ostart a.oelements.now) l.p l.left _ c.before.before-value.ensures c.if1.true) ∙ l.invariant.0)
+    (sym (not_found (to_z w64 (of_z w64 a.v)) a.others.now (from a.ostart a.oelements.now) l.p l.left _ c.before_value-run.ensures c.if-left-run.true) ∙ l.invariant.0)
 
-add-is-valid : tie.Need-overflow-add-is-valid invariant-loop decreases-loop
-add-is-valid c = omega (arith, c, c.before.before, c.before.before.before.before.before.requires.0)
+overflow_add-p : tie.Need-overflow_add-p invariant-loop-left decreases-loop-left
+overflow_add-p c = omega (arith, c, c.before.before, c.requires.0)
 
-is-valid-requires : tie.Need-is-valid-requires invariant-loop decreases-loop
-is-valid-requires c κs = let s = c.before.before.before.before.before in (s.requires.1, omega (arith, c, c.before.before, s.requires.0))
+is_valid-requires : tie.Need-is_valid-requires invariant-loop-left decreases-loop-left
+is_valid-requires c κs = let s = c.before.before.before.before.before in (s.requires.1, omega (arith, c, c.before.before, s.requires.0))
 
-returns-2 : tie.Need-returns-2 invariant-loop decreases-loop
-returns-2 c =
+returns-then-is_valid : tie.Need-returns-then-is_valid invariant-loop-left decreases-loop-left
+returns-then-is_valid c =
     let t = c.before.before in
-    let l = t.before.before.before.loop in
+    let l = t.loop-left in
     let s = t.before.before.before.before.before in
     let a = s.args in
     rw (back64 _ s.ranges.v.sfits) at
     (sym
-    (found_valid (to_z w64 (of_z w64 a.v)) a.others.now (from a.ostart a.oelements.now) l.p l.left _ t.before.before-value.ensures t.if1.false
-    (sym c.before.is-valid.ensures ∙ c.if2.true))
+    (found_valid (to_z w64 (of_z w64 a.v)) a.others.now (from a.ostart a.oelements.now) l.p l.left _ t.before_value-run.ensures t.if-left-run.false
+    (sym c.is_valid.ensures ∙ c.if-is_valid.true))
     ∙ l.invariant.0)
 
-add-p : tie.Need-overflow-add-p invariant-loop decreases-loop
-add-p c = omega (arith, c.before.before, c.before.before.before.before)
+overflow_add-p : tie.Need-overflow_add-p invariant-loop-left decreases-loop-left
+overflow_add-p c = omega (arith, c.before.before, c.before.before.before.before)
 
-add-p-2 : tie.Need-overflow-add-p-2 invariant-loop decreases-loop
-add-p-2 c = let t = c.before.before in omega (arith, t, t.before.before, t.before.before.before.before.before.requires.0)
+overflow_add-p-in-loop-left-2 : tie.Need-overflow_add-p-in-loop-left-2 invariant-loop-left decreases-loop-left
+overflow_add-p-in-loop-left-2 c = let t = c.before.before in omega (arith, t, t.before.before, t.requires.0)
 
-add_left : tie.Need-overflow-add-left invariant-loop decreases-loop
-add_left c = omega (arith, c.before.before, c.before.before.before.before)
+overflow_add-left : tie.Need-overflow_add-left invariant-loop-left decreases-loop-left
+overflow_add-left c = omega (arith, c.before.before, c.before.before.before.before)
 
-sub-left : tie.Need-overflow-sub-left invariant-loop decreases-loop
-sub-left c = omega (arith, c.before.before, c.before.before.before.before)
+overflow_sub-left : tie.Need-overflow_sub-left invariant-loop-left decreases-loop-left
+overflow_sub-left c = omega (arith, c.before.before, c.before.before.before.before)
 
-loop-less : tie.Need-loop-smaller invariant-loop decreases-loop
-loop-less c = omega (arith, c.before.before, c.before.before.before.before)
+loop-left-smaller : tie.Need-loop-left-smaller invariant-loop-left decreases-loop-left
+loop-left-smaller c = omega (arith, c.before.before, c.before.before.before.before)
 
-loop-again : tie.Need-loop-preserved invariant-loop decreases-loop
-loop-again c =
+loop-left-preserved : tie.Need-loop-left-preserved invariant-loop-left decreases-loop-left
+loop-left-preserved c =
     let t = c.before.before in
-    let l = t.before.before.before.loop in
-    let a = t.before.before.before.before.before.args in (
+    let l = t.loop-left in
+    let a = t.args in (
       sym
-          (found_null (to_z w64 (of_z w64 a.v)) a.others.now (from a.ostart a.oelements.now) l.p l.left _ t.before.before-value.ensures t.if1.false
-          (sym c.before.is-valid.ensures ∙ c.if2.false))
+          (found_null (to_z w64 (of_z w64 a.v)) a.others.now (from a.ostart a.oelements.now) l.p l.left _ t.before_value-run.ensures t.if-left-run.false
+          (sym c.is_valid.ensures ∙ c.if-is_valid.false))
           ∙ l.invariant.0,
       omega (arith, t, t.before.before),
     )
 
-returns-3 : tie.Need-returns-3 invariant-loop decreases-loop
-returns-3 c =
-    let l = c.before.loop in
+returns : tie.Need-returns invariant-loop-left decreases-loop-left
+returns c =
+    let l = c.loop-left in
     let s = c.before.before.before in
     let a = s.args in
     rw (back64 _ s.ranges.v.sfits) at
-    (sym (is_in-none (val (to_z w64 (of_z w64 a.v))) (elem_at a.others.now (from a.ostart a.oelements.now)) l.p l.left c.loop-test.false) ∙ l.invariant.0)
+    (sym (is_in-none (val (to_z w64 (of_z w64 a.v))) (elem_at a.others.now (from a.ostart a.oelements.now)) l.p l.left c.loop-left-test.false) ∙ l.invariant.0)
+
+overflow_add-p-in-loop-left : tie.Need-overflow_add-p-in-loop-left invariant-loop-left decreases-loop-left
+overflow_add-p-in-loop-left c = search rules
 
 pub has_valid_spec : {M : Type 1} → statement M
 has_valid_spec =
     tie.close
     (tie.spec
-    invariant-loop
-    decreases-loop
-    loop-holds
-    before-value-requires
-    returns
-    add-is-valid
-    is-valid-requires
-    returns-2
-    add-p
-    add-p-2
-    add_left
-    sub-left
-    loop-less
-    loop-again
-    returns-3)
+    invariant-loop-left
+    decreases-loop-left
+    loop-left-init
+    before_value-run-requires
+    returns-then-left-run
+    overflow_add-p
+    is_valid-requires
+    returns-then-is_valid
+    overflow_add-p-in-loop-left
+    overflow_add-p-in-loop-left-2
+    overflow_add-left
+    overflow_sub-left
+    loop-left-smaller
+    loop-left-preserved
+    returns)

@@ -13,70 +13,70 @@ use Rattle.set_elements.proofs.ElementLaws.{is_in-step, is_in-none}
 use Rattle.set_elements.proofs.has_value_singly.Statement.{statement}
 use Rattle.set_elements.proofs.has_value_singly.Tie as tie
 
-abbrev invariant-loop : tie.invariant-loop
-invariant-loop values a k v p₀ left₀ p left = (has_value (to_z w64 v) values p left ≡ has_value (to_z w64 v) values a k) × (p + left ≡ a + k)
+abbrev invariant-loop-left : tie.invariant-loop-left
+invariant-loop-left values a k v p₀ left₀ p left = (has_value (to_z w64 v) values p left ≡ has_value (to_z w64 v) values a k) × (p + left ≡ a + k)
 
-abbrev decreases-loop : tie.decreases-loop
-decreases-loop values a k v p₀ left₀ p left = left
+abbrev decreases-loop-left : tie.decreases-loop-left
+decreases-loop-left values a k v p₀ left₀ p left = left
 
-loop-holds : tie.Need-loop-init invariant-loop decreases-loop
-loop-holds c = (refl, refl)
+loop-left-init : tie.Need-loop-left-init invariant-loop-left decreases-loop-left
+loop-left-init c = (refl, refl)
 
-mul-same-value : tie.Need-overflow-mul-same-value invariant-loop decreases-loop
-mul-same-value c = omega (arith, c.before.before.requires)
+offset_bounds-values-p : tie.Need-offset_bounds-values-p invariant-loop-left decreases-loop-left
+offset_bounds-values-p c = omega (arith, c.requires)
 
-shared-slice-copy-out-same-value : tie.Need-shared-slice-copy-out-same-value invariant-loop decreases-loop
-shared-slice-copy-out-same-value c = omega (arith, c.before.before.requires)
+bounds-values-p : tie.Need-bounds-values-p invariant-loop-left decreases-loop-left
+bounds-values-p c = omega (arith, c.requires)
 
-same-value-requires : tie.Need-same-value-requires invariant-loop decreases-loop
-same-value-requires c κs = tt
+same_value-requires : tie.Need-same_value-requires invariant-loop-left decreases-loop-left
+same_value-requires c κs = tt
 
-returns : tie.Need-returns invariant-loop decreases-loop
+returns-then-same_value : tie.Need-returns-then-same_value invariant-loop-left decreases-loop-left
 unfolding same_elem
+returns-then-same_value c =
+    let i = c.before.before.before in
+    let l = i.loop-left in
+    let a = i.args in
+    let e = rw (back64 (get_or a.values.now l.p (pos 0)) c.same_value-arg-1.given) at c.same_value.ensures in
+    rw (back64 _ i.ranges.v.sfits) at (sym (rw (← e, c.if-same_value.true) at (is_in-step (val (to_z w64 (of_z w64 a.v))) (plain a.values.now) l.p l.left i.loop-left-test.true)) ∙ l.invariant.0)
+
+overflow_add-p : tie.Need-overflow_add-p invariant-loop-left decreases-loop-left
+overflow_add-p c = omega (arith, c.before.before.before, c.requires)
+
+overflow_sub-left : tie.Need-overflow_sub-left invariant-loop-left decreases-loop-left
+overflow_sub-left c = omega (arith, c.before.before.before)
+
+loop-left-smaller : tie.Need-loop-left-smaller invariant-loop-left decreases-loop-left
+loop-left-smaller c = omega (arith, c.before.before.before)
+
+loop-left-preserved : tie.Need-loop-left-preserved invariant-loop-left decreases-loop-left
+unfolding same_elem
+loop-left-preserved c =
+    let i = c.before.before.before in
+    let l = i.loop-left in
+    let a = i.args in
+    let e = rw (back64 (get_or a.values.now l.p (pos 0)) c.same_value-arg-1.given) at c.same_value.ensures in
+    (sym (rw (← e, c.if-same_value.false) at (is_in-step (val (to_z w64 (of_z w64 a.v))) (plain a.values.now) l.p l.left i.loop-left-test.true)) ∙ l.invariant.0, omega (arith, i))
+
+returns : tie.Need-returns invariant-loop-left decreases-loop-left
 returns c =
-    let i = c.before.before.before in
-    let l = i.before.loop in
-    let a = i.before.before.args in
-    let e = rw (back64 (get_or a.values.now l.p (pos 0)) c.before.before.same-value-arg.given) at c.before.same-value.ensures in
-    rw (back64 _ i.before.before.ranges.v.sfits) at (sym (rw (← e, c.if1.true) at (is_in-step (val (to_z w64 (of_z w64 a.v))) (plain a.values.now) l.p l.left i.loop-test.true)) ∙ l.invariant.0)
-
-add-p : tie.Need-overflow-add-p invariant-loop decreases-loop
-add-p c = omega (arith, c.before.before.before, c.before.before.before.before.before.requires)
-
-sub-left : tie.Need-overflow-sub-left invariant-loop decreases-loop
-sub-left c = omega (arith, c.before.before.before)
-
-loop-less : tie.Need-loop-smaller invariant-loop decreases-loop
-loop-less c = omega (arith, c.before.before.before)
-
-loop-again : tie.Need-loop-preserved invariant-loop decreases-loop
-unfolding same_elem
-loop-again c =
-    let i = c.before.before.before in
-    let l = i.before.loop in
-    let a = i.before.before.args in
-    let e = rw (back64 (get_or a.values.now l.p (pos 0)) c.before.before.same-value-arg.given) at c.before.same-value.ensures in
-    (sym (rw (← e, c.if1.false) at (is_in-step (val (to_z w64 (of_z w64 a.v))) (plain a.values.now) l.p l.left i.loop-test.true)) ∙ l.invariant.0, omega (arith, i))
-
-returns-2 : tie.Need-returns-2 invariant-loop decreases-loop
-returns-2 c =
-    let l = c.before.loop in
-    let a = c.before.before.args in
-    rw (back64 _ c.before.before.ranges.v.sfits) at (sym (is_in-none (val (to_z w64 (of_z w64 a.v))) (plain a.values.now) l.p l.left c.loop-test.false) ∙ l.invariant.0)
+    let l = c.loop-left in
+    let a = c.args in
+    rw (back64 _ c.ranges.v.sfits) at (sym (is_in-none (val (to_z w64 (of_z w64 a.v))) (plain a.values.now) l.p l.left c.loop-left-test.false) ∙ l.invariant.0)
 
 pub has_value_singly_spec : {M : Type 1} → statement M
 has_value_singly_spec =
     tie.close
     (tie.spec
-    invariant-loop
-    decreases-loop
-    loop-holds
-    mul-same-value
-    shared-slice-copy-out-same-value
-    same-value-requires
-    returns
-    add-p
-    sub-left
-    loop-less
-    loop-again
-    returns-2)
+    invariant-loop-left
+    decreases-loop-left
+    loop-left-init
+    offset_bounds-values-p
+    bounds-values-p
+    same_value-requires
+    returns-then-same_value
+    overflow_add-p
+    overflow_sub-left
+    loop-left-smaller
+    loop-left-preserved
+    returns)

@@ -12,63 +12,63 @@ use native.Mathlib.Omega.{arith}
 use Rattle.set_elements.proofs.is_among.Statement.{statement}
 use Rattle.set_elements.proofs.is_among.Tie as tie
 
-mul-has-value : tie.Need-overflow-mul-has-value
-mul-has-value c = let s = c.before.before.before in omega (arith, s.requires.0, s)
+offset_bounds-values-i : tie.Need-offset_bounds-values-i
+offset_bounds-values-i c = let s = c.before.before.before in omega (arith, s.requires.0, s)
 
-shared-slice-copy-out-has-value : tie.Need-shared-slice-copy-out-has-value
-shared-slice-copy-out-has-value c = c.before.before.before.requires.0
+bounds-values-i : tie.Need-bounds-values-i
+bounds-values-i c = c.requires.0
 
-has-value-requires : tie.Need-has-value-requires
-has-value-requires c κs = c.before.before.before.before.requires.1.1.0
+has_value-requires : tie.Need-has_value-requires
+has_value-requires c κs = c.requires.1.1.0
+
+returns-then-elements-oelements : tie.Need-returns-then-elements-oelements
+returns-then-elements-oelements c =
+    let t = c.before.before in
+    let a = t.args in
+    let z = and_true (eqb (length a.elements.now) 0) (eqb (length a.oelements.now) 0) t.if-elements-oelements.true in
+    rw (back64 (get_or a.values.now a.i (pos 0)) c.has_value-arg-1.given) at c.has_value.ensures
+    ∙ is_in-plain a.values.now a.others.now (from a.estart a.elements.now) (from a.ostart a.oelements.now) (eqb-true _ _ z.0) (eqb-true _ _ z.1) a.i a.a a.k
+
+is_valid-requires : tie.Need-is_valid-requires
+is_valid-requires c κs = let s = c.before.before.before in (s.requires.1.0, s.requires.0)
+
+offset_bounds-values-i-then-is_valid : tie.Need-offset_bounds-values-i-then-is_valid
+offset_bounds-values-i-then-is_valid c = let s = c.before.before.before.before.before in omega (arith, s.requires.0, s)
+
+bounds-values-i-then-is_valid : tie.Need-bounds-values-i-then-is_valid
+bounds-values-i-then-is_valid c = c.requires.0
+
+has_valid-requires : tie.Need-has_valid-requires
+has_valid-requires c κs = c.requires.1.1
+
+returns-then-is_valid : tie.Need-returns-then-is_valid
+returns-then-is_valid c =
+    let t = c.before.before in
+    let a = t.args in
+    rw (elem_valid a.values.now (from a.estart a.elements.now) a.i (sym t.is_valid.ensures ∙ t.if-is_valid.true))
+    (rw (back64 (get_or a.values.now a.i (pos 0)) c.has_valid-arg-1.given) at c.has_valid.ensures)
+
+has_null-requires : tie.Need-has_null-requires
+has_null-requires c κs = c.requires.1.1
 
 returns : tie.Need-returns
 returns c =
-    let t = c.before.before in
-    let a = t.before.before.before.args in
-    let z = and_true (eqb (length a.elements.now) 0) (eqb (length a.oelements.now) 0) t.if1.true in
-    rw (back64 (get_or a.values.now a.i (pos 0)) c.before.has-value-arg.given) at c.has_value.ensures
-    ∙ is_in-plain a.values.now a.others.now (from a.estart a.elements.now) (from a.ostart a.oelements.now) (eqb-true _ _ z.0) (eqb-true _ _ z.1) a.i a.a a.k
-
-is-valid-requires : tie.Need-is-valid-requires
-is-valid-requires c κs = let s = c.before.before.before in (s.requires.1.0, s.requires.0)
-
-mul-has-valid : tie.Need-overflow-mul-has-valid
-mul-has-valid c = let s = c.before.before.before.before.before in omega (arith, s.requires.0, s)
-
-shared-slice-copy-out-has-valid : tie.Need-shared-slice-copy-out-has-valid
-shared-slice-copy-out-has-valid c = c.before.before.before.before.before.requires.0
-
-has-valid-requires : tie.Need-has-valid-requires
-has-valid-requires c κs = c.before.before.before.before.before.before.requires.1.1
-
-returns-2 : tie.Need-returns-2
-returns-2 c =
-    let t = c.before.before in
-    let a = t.before.before.before.before.before.args in
-    rw (elem_valid a.values.now (from a.estart a.elements.now) a.i (sym t.before.is-valid.ensures ∙ t.if2.true))
-    (rw (back64 (get_or a.values.now a.i (pos 0)) c.before.has-valid-arg.given) at c.has-valid.ensures)
-
-has-null-requires : tie.Need-has-null-requires
-has-null-requires c κs = c.before.before.before.before.before.requires.1.1
-
-returns-3 : tie.Need-returns-3
-returns-3 c =
     let t = c.before in
-    let a = t.before.before.before.before.before.args in
-    rw (elem_null a.values.now (from a.estart a.elements.now) a.i (sym t.before.is-valid.ensures ∙ t.if2.false)) c.has-null.ensures
+    let a = t.args in
+    rw (elem_null a.values.now (from a.estart a.elements.now) a.i (sym t.is_valid.ensures ∙ t.if-is_valid.false)) c.has_null.ensures
 
 pub is_among_spec : {M : Type 1} → statement M
 is_among_spec =
     tie.close
     (tie.spec
-    mul-has-value
-    shared-slice-copy-out-has-value
-    has-value-requires
-    returns
-    is-valid-requires
-    mul-has-valid
-    shared-slice-copy-out-has-valid
-    has-valid-requires
-    returns-2
-    has-null-requires
-    returns-3)
+    offset_bounds-values-i
+    bounds-values-i
+    has_value-requires
+    returns-then-elements-oelements
+    is_valid-requires
+    offset_bounds-values-i-then-is_valid
+    bounds-values-i-then-is_valid
+    has_valid-requires
+    returns-then-is_valid
+    has_null-requires
+    returns)

@@ -14,60 +14,60 @@ use borrow.Author.Rules.{rules}
 use Rattle.set_elements.proofs.is_one_of_four.Statement.{statement}
 use Rattle.set_elements.proofs.is_one_of_four.Tie as tie
 
-mul-result : tie.Need-overflow-mul-result
-mul-result c = search rules
+offset_bounds-values-p : tie.Need-offset_bounds-values-p
+offset_bounds-values-p c = search rules
 
-shared-slice-copy-out-result : tie.Need-shared-slice-copy-out-result
-shared-slice-copy-out-result c = search rules
+bounds-values-p : tie.Need-bounds-values-p
+bounds-values-p c = search rules
 
-add-result : tie.Need-overflow-add-result
-add-result c = search rules
+overflow_add-result : tie.Need-overflow_add-result
+overflow_add-result c = search rules
 
-mul-result-2 : tie.Need-overflow-mul-result-2
-mul-result-2 c = search rules
+offset_bounds-values-p-2 : tie.Need-offset_bounds-values-p-2
+offset_bounds-values-p-2 c = search rules
 
-shared-slice-copy-out-result-2 : tie.Need-shared-slice-copy-out-result-2
-shared-slice-copy-out-result-2 c = search rules
+bounds-values-p-2 : tie.Need-bounds-values-p-2
+bounds-values-p-2 c = search rules
 
-add-result-2 : tie.Need-overflow-add-result-2
-add-result-2 c = search rules
+overflow_add-result-2 : tie.Need-overflow_add-result-2
+overflow_add-result-2 c = search rules
 
-mul-result-3 : tie.Need-overflow-mul-result-3
-mul-result-3 c = search rules
+offset_bounds-values-p-3 : tie.Need-offset_bounds-values-p-3
+offset_bounds-values-p-3 c = search rules
 
-shared-slice-copy-out-result-3 : tie.Need-shared-slice-copy-out-result-3
-shared-slice-copy-out-result-3 c = search rules
+bounds-values-p-3 : tie.Need-bounds-values-p-3
+bounds-values-p-3 c = search rules
 
-add-result-3 : tie.Need-overflow-add-result-3
-add-result-3 c = search rules
+overflow_add-result-3 : tie.Need-overflow_add-result-3
+overflow_add-result-3 c = search rules
 
-mul-result-4 : tie.Need-overflow-mul-result-4
-mul-result-4 c = search rules
+offset_bounds-values-p-4 : tie.Need-offset_bounds-values-p-4
+offset_bounds-values-p-4 c = search rules
 
-shared-slice-copy-out-result-4 : tie.Need-shared-slice-copy-out-result-4
-shared-slice-copy-out-result-4 c = search rules
+bounds-values-p-4 : tie.Need-bounds-values-p-4
+bounds-values-p-4 c = search rules
 
 returns : tie.Need-returns
 unfolding same_elem
 returns c =
     let s = c.before.before.before.before in
     let same : (x : ℤ) → mag x < 2 ^ 63 → eqb (of_z w64 s.args.v) (of_z w64 x) ≡ eq_z s.args.v x = λ x g. eq_bits s.args.v x s.ranges.v (record { sfits = g }) in
-    rw (same _ c.before.before.before.result.given, same _ c.before.before.result2.given, same _ c.before.result3.given, same _ c.result4.given)
+    rw (same _ c.result-1.given, same _ c.result-2-1.given, same _ c.result-3-1.given, same _ c.result-4-1.given)
     (is_in_four (val s.args.v) (plain s.args.values.now) s.args.p)
 
 pub is_one_of_four_spec : {M : Type 1} → statement M
 is_one_of_four_spec =
     tie.close
     (tie.spec
-    mul-result
-    shared-slice-copy-out-result
-    add-result
-    mul-result-2
-    shared-slice-copy-out-result-2
-    add-result-2
-    mul-result-3
-    shared-slice-copy-out-result-3
-    add-result-3
-    mul-result-4
-    shared-slice-copy-out-result-4
+    offset_bounds-values-p
+    bounds-values-p
+    overflow_add-result
+    offset_bounds-values-p-2
+    bounds-values-p-2
+    overflow_add-result-2
+    offset_bounds-values-p-3
+    bounds-values-p-3
+    overflow_add-result-3
+    offset_bounds-values-p-4
+    bounds-values-p-4
     returns)

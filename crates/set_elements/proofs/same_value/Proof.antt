@@ -6,4 +6,7 @@ returns : tie.Need-returns
 returns c = eq_bits c.args.a c.args.b c.ranges.a c.ranges.b
 
 pub same_value_spec : {M : Type 1} → statement M
-same_value_spec = tie.close (tie.spec returns)
+same_value_spec =
+    tie.close
+    (tie.spec
+    returns)

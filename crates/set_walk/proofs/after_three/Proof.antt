@@ -22,120 +22,120 @@ use Rattle.set_walk.proofs.after_three.Statement.{statement}
 use Rattle.set_walk.proofs.after_three.Tie as tie
 
 abbrev C : tie.Start → Column
-C s = let a = s.args in column (used a.width a.loffsets.now a.llarge.now) (from a.l-rstart a.lrows.now) a.lvalues.now (from a.l-estart a.lelements.now)
+C s = let a = s.args in column (used a.width a.loffsets.now a.llarge.now) (from a.l_rstart a.lrows.now) a.lvalues.now (from a.l_estart a.lelements.now)
 
 abbrev D : tie.Start → Column
-D s = let a = s.args in column (used a.width a.roffsets.now a.rlarge.now) (from a.r-rstart a.rrows.now) a.rvalues.now (from a.r-estart a.relements.now)
+D s = let a = s.args in column (used a.width a.roffsets.now a.rlarge.now) (from a.r_rstart a.rrows.now) a.rvalues.now (from a.r_estart a.relements.now)
 
 abbrev L : tie.Start → Room
-L s = let a = s.args in room (length (used a.width a.out-offsets.now a.out-large.now)) (length a.out-rows.now) (length a.out-values.now) (length a.out-elements.now)
+L s = let a = s.args in room (length (used a.width a.out_offsets.now a.out_large.now)) (length a.out_rows.now) (length a.out_values.now) (length a.out_elements.now)
 
 abbrev W : tie.Start → List Row
 W s = pair_rows s.args.op (C s) (D s)
 
-abbrev S : tie.After-union-refusal → tie.Start
+abbrev S : tie.After-union_refusal-long → tie.Start
 S u = u.before.before.before.before.before.before.before.before.before
 
 -- what the test for 8 found
-eight : (u : tie.After-union-refusal) → let s = S u in u.union-refusal.result ≡ union_refusal (limits_at s.args.width) s.args.op (length (flat (W s)))
-eight u = u.union-refusal.ensures ∙ ap (union_refusal (limits_at (S u).args.width) (S u).args.op) u.before.measure-pairs.ensures.0
+eight : (u : tie.After-union_refusal-long) → let s = S u in u.union_refusal-long.result ≡ union_refusal (limits_at s.args.width) s.args.op (length (flat (W s)))
+eight u = u.union_refusal-long.ensures ∙ ap (union_refusal (limits_at (S u).args.width) (S u).args.op) u.measure_pairs-m.ensures.0
 
-after : (u : tie.After-union-refusal) → let s = S u in after_three (limits_at s.args.width) (set_op_call s.args.op (rows_of (C s)) (rows_of (D s))) (L s) ≡ gate (union_refusal (limits_at s.args.width) s.args.op (length (flat (W s)))) (fitted (W s) (L s))
-after u = let s = S u in set_after s.args.op (C s) (D s) (limits_at s.args.width) (L s) s.pre.1.1
+after : (u : tie.After-union_refusal-long) → let s = S u in after_three (limits_at s.args.width) (set_op_call s.args.op (rows_of (C s)) (rows_of (D s))) (L s) ≡ gate (union_refusal (limits_at s.args.width) s.args.op (length (flat (W s)))) (fitted (W s) (L s))
+after u = let s = S u in set_after s.args.op (C s) (D s) (limits_at s.args.width) (L s) s.requires.1.1
 
 -- once only 9 is left
-goes : (e : tie.Else1) → let s = S e.before in after_three (limits_at s.args.width) (set_op_call s.args.op (rows_of (C s)) (rows_of (D s))) (L s) ≡ fitted (W s) (L s)
-goes e = after e.before ∙ gate_open _ _ (sym (eight e.before) ∙ e.if1.false)
+goes : (e : tie.Else-long-ne0) → let s = S e.before in after_three (limits_at s.args.width) (set_op_call s.args.op (rows_of (C s)) (rows_of (D s))) (L s) ≡ fitted (W s) (L s)
+goes e = after e.before ∙ gate_open _ _ (sym (eight e.before) ∙ e.if-long-ne0.false)
 
 -- what the test of the room tells
-slots : (p : tie.After-pick) → let a = (S p.before.before).args in p.pick.result ≡ length (used a.width a.out-offsets.now a.out-large.now)
-slots p = let a = (S p.before.before).args in p.pick.ensures ∙ sym (used-length a.width a.out-offsets.now a.out-large.now)
+slots : (p : tie.After-pick) → let a = (S p.before.before).args in p.pick.result ≡ length (used a.width a.out_offsets-1.now a.out_large-1.now)
+slots p = let a = (S p.before.before).args in p.pick.ensures ∙ sym (used-length a.width a.out_offsets-1.now a.out_large-1.now)
 
-rows_are : (h : tie.After-has-room) → h.before.before.before.before.before.row_count.result ≡ length (W (S h.before.before.before))
-rows_are h = let s = S h.before.before.before in h.before.before.before.before.before.row_count.ensures ∙ sym (length_pairs s.args.op (C s) (D s))
+rows_are : (h : tie.After-has_room) → h.row_count-n.result ≡ length (W (S h.before.before.before))
+rows_are h = let s = S h.before.before.before in h.row_count-n.ensures ∙ sym (length_pairs s.args.op (C s) (D s))
 
-room_is : (h : tie.After-has-room) → let s = S h.before.before.before in h.has_room.result ≡ fits_in (length (W s)) (length (flat (W s))) (L s)
+room_is : (h : tie.After-has_room) → let s = S h.before.before.before in h.has_room.result ≡ fits_in (length (W s)) (length (flat (W s))) (L s)
 room_is h =
     let s = S h.before.before.before in
     let a = s.args in
     h.has_room.ensures
-    ∙ same_fit _ (rows_are h) h.before.before.before.before.measure-pairs.ensures.0
-    ∙ ap (λ (x : ℕ). fits_in (length (W s)) (length (flat (W s))) (room x (length a.out-rows.now) (length a.out-values.now) (length a.out-elements.now))) (slots h.before)
+    ∙ same_fit _ (rows_are h) h.measure_pairs-m.ensures.0
+    ∙ ap (λ (x : ℕ). fits_in (length (W s)) (length (flat (W s))) (room x (length a.out_rows.now) (length a.out_values.now) (length a.out_elements.now))) (slots h.before)
 
-roomy : (e : tie.Else2) → let s = S e.before.before.before.before in RoomInˡ (length (W s)) (length (flat (W s))) (length (used s.args.width s.args.out-offsets.now s.args.out-large.now)) (length s.args.out-rows.now) (length s.args.out-values.now) (length s.args.out-elements.now)
-roomy e = has_room _ _ _ _ _ _ (sym (room_is e.before) ∙ not-false _ e.if2.false)
+roomy : (e : tie.Else-not-has_room) → let s = S e.before.before.before.before in RoomInˡ (length (W s)) (length (flat (W s))) (length (used s.args.width s.args.out_offsets.now s.args.out_large.now)) (length s.args.out_rows.now) (length s.args.out_values.now) (length s.args.out_elements.now)
+roomy e = has_room _ _ _ _ _ _ (sym (room_is e.before) ∙ not-false _ e.if-not-has_room.false)
 
-row-count-requires : tie.Need-row-count-requires
-row-count-requires c κs = search
+row_count-n-requires : tie.Need-row_count-n-requires
+row_count-n-requires c κs = search
 
-measure-pairs-requires : tie.Need-measure-pairs-requires
-measure-pairs-requires c κs = search
+measure_pairs-m-requires : tie.Need-measure_pairs-m-requires
+measure_pairs-m-requires c κs = search
 
-union-refusal-requires : tie.Need-union-refusal-requires
-union-refusal-requires c κs = search
+union_refusal-long-requires : tie.Need-union_refusal-long-requires
+union_refusal-long-requires c κs = search
 
-returns : tie.Need-returns
-returns c = list-refused _ (after c.before ∙ rw (← eight c.before) (gate_shut _ _ c.if1.true))
+returns-then-long-ne0 : tie.Need-returns-then-long-ne0
+returns-then-long-ne0 c = list-refused _ (after c.before ∙ rw (← eight c.before) (gate_shut _ _ c.if-long-ne0.true))
 
 pick-requires : tie.Need-pick-requires
 pick-requires c κs = search
 
-has-room-requires : tie.Need-has-room-requires
-has-room-requires c κs = search
+has_room-requires : tie.Need-has_room-requires
+has_room-requires c κs = search
 
-returns-2 : tie.Need-returns-2
-returns-2 c = let s = S c.before.before.before.before in list-refused 9 (goes c.before.before.before ∙ fitted_short (W s) (L s) (sym (room_is c.before) ∙ not-true _ c.if2.true))
+returns-then-not-has_room : tie.Need-returns-then-not-has_room
+returns-then-not-has_room c = let s = S c.before.before.before.before in list-refused 9 (goes c.before.before.before ∙ fitted_short (W s) (L s) (sym (room_is c.before) ∙ not-true _ c.if-not-has_room.true))
 
-write-pairs-requires : tie.Need-write-pairs-requires
-write-pairs-requires c κs =
+write_pairs-requires : tie.Need-write_pairs-requires
+write_pairs-requires c κs =
     let s = S c.before.before.before.before.before.before.before.before.before in
-    let m = c.before.before.before.before.before.before.before.before.before.before.measure-pairs.ensures in
-    (s.pre.0, (s.pre.1.0, (s.pre.1.1, (united (limits_at s.args.width) s.args.op (length (flat (W s))) (limits-fit s.args.width).united (rw m.0 at m.1) (sym (eight c.before.before.before.before.before.before.before.before.before) ∙ c.before.before.before.before.before.before.before.before.if1.false), rw (length_pairs s.args.op (C s) (D s)) at (roomy c.before.before.before.before.before)))))
+    let m = c.measure_pairs-m.ensures in
+    (s.requires.0, (s.requires.1.0, (s.requires.1.1, (united (limits_at s.args.width) s.args.op (length (flat (W s))) (limits-fit s.args.width).united (rw m.0 at m.1) (sym (eight c.before.before.before.before.before.before.before.before.before) ∙ c.if-long-ne0.false), rw (length_pairs s.args.op (C s) (D s)) at (roomy c.before.before.before.before.before)))))
 
-list-answer-requires : tie.Need-list-answer-requires
-list-answer-requires c κs =
+list_answer-requires : tie.Need-list_answer-requires
+list_answer-requires c κs =
     let e = c.before.before.before.before.before.before.before.before.before.before.before.before.before.before.before in
     let r = roomy e in
-    (omega (arith, r.rows, rows_are e.before, c.before.before.before.before.before.before.before.before.before.write-pairs.auto.1.1.1.1.1.1.1.1.1.1.1.1.1.1.0), omega (arith, r.elements, c.before.before.before.before.before.before.before.before.before.before.before.before.before.before.before.before.before.before.before.before.measure-pairs.ensures.0, c.before.before.before.before.before.before.before.before.before.write-pairs.auto.1.1.1.1.1.1.1.1.1.1.1.1.1.1.1.1.0))
+    (omega (arith, r.rows, rows_are e.before, c.write_pairs.auto.out_rows), omega (arith, r.elements, c.measure_pairs-m.ensures.0, c.write_pairs.auto.out_elements))
 
-same_length : tie.Need-same-length
-same_length c = search
+shape_of-out_offsets : tie.Need-shape_of-out_offsets
+shape_of-out_offsets c = search
 
-same-length-2 : tie.Need-same-length-2
-same-length-2 c = search
+shape_of-out_rows : tie.Need-shape_of-out_rows
+shape_of-out_rows c = search
 
-same-length-3 : tie.Need-same-length-3
-same-length-3 c = search
+shape_of-out_values : tie.Need-shape_of-out_values
+shape_of-out_values c = search
 
-same-length-4 : tie.Need-same-length-4
-same-length-4 c = search
+shape_of-out_elements : tie.Need-shape_of-out_elements
+shape_of-out_elements c = search
 
-same-length-5 : tie.Need-same-length-5
-same-length-5 c = search
+shape_of-out_large : tie.Need-shape_of-out_large
+shape_of-out_large c = search
 
-returns-3 : tie.Need-returns-3
-returns-3 c =
+returns : tie.Need-returns
+returns c =
     let e = c.before.before.before.before.before.before.before.before.before.before.before.before.before.before.before.before in
     let h = e.before in
     let s = S e.before.before.before.before in
-    list-made (W s) _ _ (goes c.before.before.before.before.before.before.before.before.before.before.before.before.before.before.before.before.before.before.before ∙ fitted-made (W s) (L s) (sym (room_is h) ∙ not-false _ e.if2.false)) (rows_are h) c.before.before.before.before.before.before.before.before.before.before.before.before.before.before.before.before.before.before.before.before.before.measure-pairs.ensures.0 c.before.before.before.before.before.before.before.before.before.before.write-pairs.ensures c.list-answer.ensures
+    list-made (W s) _ _ (goes c.before.before.before.before.before.before.before.before.before.before.before.before.before.before.before.before.before.before.before ∙ fitted-made (W s) (L s) (sym (room_is h) ∙ not-false _ e.if-not-has_room.false)) (rows_are h) c.measure_pairs-m.ensures.0 c.write_pairs.ensures c.list_answer.ensures
 
 pub after_three_spec : {M : Type 1} → statement M
 after_three_spec =
     tie.close
     (tie.spec
-    row-count-requires
-    measure-pairs-requires
-    union-refusal-requires
-    returns
+    row_count-n-requires
+    measure_pairs-m-requires
+    union_refusal-long-requires
+    returns-then-long-ne0
     pick-requires
-    has-room-requires
-    returns-2
-    write-pairs-requires
-    list-answer-requires
-    same_length
-    same-length-2
-    same-length-3
-    same-length-4
-    same-length-5
-    returns-3)
+    has_room-requires
+    returns-then-not-has_room
+    write_pairs-requires
+    list_answer-requires
+    shape_of-out_offsets
+    shape_of-out_rows
+    shape_of-out_values
+    shape_of-out_elements
+    shape_of-out_large
+    returns)

@@ -20,74 +20,74 @@ use Rattle.set_walk.proofs.lengths.Statement.{statement}
 use Rattle.set_walk.proofs.lengths.Tie as tie
 
 abbrev C : tie.Start → Column
-C s = let a = s.args in column (used a.width a.loffsets.now a.llarge.now) (from a.l-rstart a.lrows.now) a.lvalues.now (from a.l-estart a.lelements.now)
+C s = let a = s.args in column (used a.width a.loffsets.now a.llarge.now) (from a.l_rstart a.lrows.now) a.lvalues.now (from a.l_estart a.lelements.now)
 
 abbrev D : tie.Start → Column
-D s = let a = s.args in column (used a.width a.roffsets.now a.rlarge.now) (from a.r-rstart a.rrows.now) a.rvalues.now (from a.r-estart a.relements.now)
+D s = let a = s.args in column (used a.width a.roffsets.now a.rlarge.now) (from a.r_rstart a.rrows.now) a.rvalues.now (from a.r_estart a.relements.now)
 
 -- the elements made
 abbrev M : tie.Start → ℕ
 M s = length (flat (pair_rows s.args.op (C s) (D s)))
 
-abbrev S : tie.After-early → tie.Start
+abbrev S : tie.After-early-k → tie.Start
 S e = e.before.before.before.before.before
 
 -- the early refusals have passed
-begun : (e : tie.Else1) → let s = S e.before in Begun (C s) (D s)
-begun e = e.before.early.ensures.1 e.if1.false
+begun : (e : tie.Else-k-ne0) → let s = S e.before in Begun (C s) (D s)
+begun e = e.early-k.ensures.1 e.if-k-ne0.false
 
 -- what the test for 8 found
-eight : (u : tie.After-union-refusal) → let s = S u.before.before.before in u.union-refusal.result ≡ union_refusal (limits_at s.args.width) s.args.op (M s)
-eight u = u.union-refusal.ensures ∙ ap (union_refusal (limits_at (S u.before.before.before).args.width) (S u.before.before.before).args.op) u.before.measure-pairs.ensures.0
+eight : (u : tie.After-union_refusal-long) → let s = S u.before.before.before in u.union_refusal-long.result ≡ union_refusal (limits_at s.args.width) s.args.op (M s)
+eight u = u.union_refusal-long.ensures ∙ ap (union_refusal (limits_at (S u.before.before.before).args.width) (S u.before.before.before).args.op) u.measure_pairs-m.ensures.0
 
-goes : (e : tie.Else1) → let s = S e.before in list_lengths (limits_at s.args.width) (set_op_call s.args.op (C s) (D s)) ≡ gate (union_refusal (limits_at s.args.width) s.args.op (M s)) (made (room_for (row_count (C s).offsets) (M s)))
-goes e = let s = S e.before in lengths_go s.args.op (C s) (D s) (limits_at s.args.width) _ (e.before.early.ensures.0 s.args.op) e.if1.false (begun e).equal
+goes : (e : tie.Else-k-ne0) → let s = S e.before in list_lengths (limits_at s.args.width) (set_op_call s.args.op (C s) (D s)) ≡ gate (union_refusal (limits_at s.args.width) s.args.op (M s)) (made (room_for (row_count (C s).offsets) (M s)))
+goes e = let s = S e.before in lengths_go s.args.op (C s) (D s) (limits_at s.args.width) _ (e.early-k.ensures.0 s.args.op) e.if-k-ne0.false (begun e).equal
 
-early-requires : tie.Need-early-requires
-early-requires c κs = search
+early-k-requires : tie.Need-early-k-requires
+early-k-requires c κs = search
 
-returns : tie.Need-returns
+returns-then-k-ne0 : tie.Need-returns-then-k-ne0
 unfolding asked_list
-returns c = let s = S c.before in lengths_early s.args.op (C s) (D s) (limits_at s.args.width) _ (c.before.early.ensures.0 s.args.op) c.if1.true
+returns-then-k-ne0 c = let s = S c.before in lengths_early s.args.op (C s) (D s) (limits_at s.args.width) _ (c.early-k.ensures.0 s.args.op) c.if-k-ne0.true
 
-measure-pairs-requires : tie.Need-measure-pairs-requires
-measure-pairs-requires c κs = let b = begun c in (b.left, (b.right, b.equal))
+measure_pairs-m-requires : tie.Need-measure_pairs-m-requires
+measure_pairs-m-requires c κs = let b = begun c in (b.left, (b.right, b.equal))
 
-union-refusal-requires : tie.Need-union-refusal-requires
-union-refusal-requires c κs = search
+union_refusal-long-requires : tie.Need-union_refusal-long-requires
+union_refusal-long-requires c κs = search
 
-returns-2 : tie.Need-returns-2
+returns-then-long-ne0 : tie.Need-returns-then-long-ne0
 unfolding asked_list
-returns-2 c = sym (goes c.before.before.before ∙ rw (← eight c.before) (gate_shut _ _ c.if2.true))
+returns-then-long-ne0 c = sym (goes c.before.before.before ∙ rw (← eight c.before) (gate_shut _ _ c.if-long-ne0.true))
 
-row-count-requires : tie.Need-row-count-requires
-row-count-requires c κs = search
+row_count-requires : tie.Need-row_count-requires
+row_count-requires c κs = search
 
-lengths-for-requires : tie.Need-lengths-for-requires
-lengths-for-requires c κs =
+lengths_for-requires : tie.Need-lengths_for-requires
+lengths_for-requires c κs =
     let s = S c.before.before.before.before.before in
     let a = s.args in
     omega (arith, used-below 18446744073709551616 a.width a.loffsets.now a.llarge.now (omega (arith, s.good.1.0)) (omega (arith, s.good.1.1.1.1.1.1.1.1.1.1.1.1.1.1.0)), c.row_count.ensures)
 
-returns-3 : tie.Need-returns-3
-returns-3 c =
+returns : tie.Need-returns
+returns c =
     let e = c.before.before in
     let m = e.before.before in
     let s = S m.before.before in
-    c.lengths-for.ensures
-    ∙ ap (λ (n : ℕ). made (room_for n m.measure-pairs.result)) c.before.row_count.ensures
-    ∙ ap (λ (n : ℕ). made (room_for (row_count (C s).offsets) n)) m.measure-pairs.ensures.0
-    ∙ sym (goes m.before ∙ gate_open _ _ (sym (eight e.before) ∙ e.if2.false))
+    c.lengths_for.ensures
+    ∙ ap (λ (n : ℕ). made (room_for n m.measure_pairs-m.result)) c.row_count.ensures
+    ∙ ap (λ (n : ℕ). made (room_for (row_count (C s).offsets) n)) m.measure_pairs-m.ensures.0
+    ∙ sym (goes m.before ∙ gate_open _ _ (sym (eight e.before) ∙ e.if-long-ne0.false))
 
 pub lengths_spec : {M : Type 1} → statement M
 lengths_spec =
     tie.close
     (tie.spec
-    early-requires
-    returns
-    measure-pairs-requires
-    union-refusal-requires
-    returns-2
-    row-count-requires
-    lengths-for-requires
-    returns-3)
+    early-k-requires
+    returns-then-k-ne0
+    measure_pairs-m-requires
+    union_refusal-long-requires
+    returns-then-long-ne0
+    row_count-requires
+    lengths_for-requires
+    returns)

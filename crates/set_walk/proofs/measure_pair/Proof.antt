@@ -7,37 +7,37 @@ use Rattle.set_walk.proofs.SetLaws.{elems_pair}
 use Rattle.set_walk.proofs.measure_pair.Statement.{statement}
 use Rattle.set_walk.proofs.measure_pair.Tie as tie
 
-are-valid-requires : tie.Need-are-valid-requires
-are-valid-requires c κs = search
+are_valid-requires : tie.Need-are_valid-requires
+are_valid-requires c κs = search
 
-returns : tie.Need-returns
-returns c =
-    let a = c.before.before.before.before.before.before.args in
-    rw (elems_pair (set_elems a.op) (from a.l-rstart a.lrows.now) (from a.r-rstart a.rrows.now) (elem_at a.lvalues.now (from a.l-estart a.lelements.now)) (elem_at a.rvalues.now (from a.r-estart a.relements.now)) a.r a.a a.b a.c a.d c.before.are-valid.result c.before.are-valid.ensures, not-true c.before.are-valid.result c.if1.true)
+returns-then-not-are_valid : tie.Need-returns-then-not-are_valid
+returns-then-not-are_valid c =
+    let a = c.args in
+    rw (elems_pair (set_elems a.op) (from a.l_rstart a.lrows.now) (from a.r_rstart a.rrows.now) (elem_at a.lvalues.now (from a.l_estart a.lelements.now)) (elem_at a.rvalues.now (from a.r_estart a.relements.now)) a.r a.a a.b a.c a.d c.are_valid.result c.are_valid.ensures, not-true c.are_valid.result c.if-not-are_valid.true)
 
-sub-measure-set : tie.Need-overflow-sub-measure-set
-sub-measure-set c = search
+overflow_sub-b : tie.Need-overflow_sub-b
+overflow_sub-b c = search
 
-sub-measure-set-2 : tie.Need-overflow-sub-measure-set-2
-sub-measure-set-2 c = search
+overflow_sub-d : tie.Need-overflow_sub-d
+overflow_sub-d c = search
 
-measure-set-requires : tie.Need-measure-set-requires
-measure-set-requires c κs =
+measure_set-requires : tie.Need-measure_set-requires
+measure_set-requires c κs =
     let s = c.before.before.before.before.before.before in
     (record { inside = omega (arith, s.requires.0.rises, s.requires.0.inside); bits = s.requires.0.elements }, (record { inside = omega (arith, s.requires.1.0.rises, s.requires.1.0.inside); bits = s.requires.1.0.elements }, omega (arith, s.requires.1.1.0, s.requires.1.1.1)))
 
-returns-2 : tie.Need-returns-2
-returns-2 c =
-    let a = c.before.before.before.before.before.before.before.args in
-    rw (elems_pair (set_elems a.op) (from a.l-rstart a.lrows.now) (from a.r-rstart a.rrows.now) (elem_at a.lvalues.now (from a.l-estart a.lelements.now)) (elem_at a.rvalues.now (from a.r-estart a.relements.now)) a.r a.a a.b a.c a.d c.before.before.are-valid.result c.before.before.are-valid.ensures, not-false c.before.before.are-valid.result c.before.if1.false) c.measure-set.ensures
+returns : tie.Need-returns
+returns c =
+    let a = c.args in
+    rw (elems_pair (set_elems a.op) (from a.l_rstart a.lrows.now) (from a.r_rstart a.rrows.now) (elem_at a.lvalues.now (from a.l_estart a.lelements.now)) (elem_at a.rvalues.now (from a.r_estart a.relements.now)) a.r a.a a.b a.c a.d c.are_valid.result c.are_valid.ensures, not-false c.are_valid.result c.if-not-are_valid.false) c.measure_set.ensures
 
 pub measure_pair_spec : {M : Type 1} → statement M
 measure_pair_spec =
     tie.close
     (tie.spec
-    are-valid-requires
-    returns
-    sub-measure-set
-    sub-measure-set-2
-    measure-set-requires
-    returns-2)
+    are_valid-requires
+    returns-then-not-are_valid
+    overflow_sub-b
+    overflow_sub-d
+    measure_set-requires
+    returns)

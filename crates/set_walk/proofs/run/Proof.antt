@@ -11,70 +11,70 @@ use Rattle.set_walk.proofs.run.Statement.{statement}
 use Rattle.set_walk.proofs.run.Tie as tie
 
 abbrev C : tie.Start → Column
-C s = let a = s.args in column (used a.width a.loffsets.now a.llarge.now) (from a.l-rstart a.lrows.now) a.lvalues.now (from a.l-estart a.lelements.now)
+C s = let a = s.args in column (used a.width a.loffsets.now a.llarge.now) (from a.l_rstart a.lrows.now) a.lvalues.now (from a.l_estart a.lelements.now)
 
 abbrev D : tie.Start → Column
-D s = let a = s.args in column (used a.width a.roffsets.now a.rlarge.now) (from a.r-rstart a.rrows.now) a.rvalues.now (from a.r-estart a.relements.now)
+D s = let a = s.args in column (used a.width a.roffsets.now a.rlarge.now) (from a.r_rstart a.rrows.now) a.rvalues.now (from a.r_estart a.relements.now)
 
 abbrev L : tie.Start → Room
-L s = let a = s.args in room (length (used a.width a.out-offsets.now a.out-large.now)) (length a.out-rows.now) (length a.out-values.now) (length a.out-elements.now)
+L s = let a = s.args in room (length (used a.width a.out_offsets.now a.out_large.now)) (length a.out_rows.now) (length a.out_values.now) (length a.out_elements.now)
 
 -- ---- places: what is written, the early refusals passed and found; and the start
 
-abbrev wrote : tie.After-out-large → tie.After-after-three
+abbrev wrote : tie.After-out_large-1 → tie.After-after_three
 wrote c = c.before.before.before.before.before.before.before
 
-abbrev passed : tie.After-out-large → tie.Else1
+abbrev passed : tie.After-out_large-1 → tie.Else-k-ne0
 passed c = (wrote c).before.before.before.before.before.before
 
-abbrev S : tie.After-early → tie.Start
+abbrev S : tie.After-early-k → tie.Start
 S e = e.before.before.before.before.before.before.before
 
 -- ---- needs
 
-early-requires : tie.Need-early-requires
-early-requires c κs = search
+early-k-requires : tie.Need-early-k-requires
+early-k-requires c κs = search
 
-returns : tie.Need-returns
-returns c = let s = S c.before in list-refused _ (run_early s.args.op (C s) (D s) (limits_at s.args.width) _ (c.before.early.ensures.0 s.args.op) (L s) c.if1.true)
+returns-then-k-ne0 : tie.Need-returns-then-k-ne0
+returns-then-k-ne0 c = let s = S c.before in list-refused _ (run_early s.args.op (C s) (D s) (limits_at s.args.width) _ (c.early-k.ensures.0 s.args.op) (L s) c.if-k-ne0.true)
 
-after-three-requires : tie.Need-after-three-requires
-after-three-requires c κs =
+after_three-requires : tie.Need-after_three-requires
+after_three-requires c κs =
     let e = c.before.before.before.before.before in
-    let b = e.before.early.ensures.1 e.if1.false in
+    let b = e.early-k.ensures.1 e.if-k-ne0.false in
     (b.left, (b.right, b.equal))
 
-same_length : tie.Need-same-length
-same_length c = search
+shape_of-out_offsets : tie.Need-shape_of-out_offsets
+shape_of-out_offsets c = search
 
-same-length-2 : tie.Need-same-length-2
-same-length-2 c = search
+shape_of-out_rows : tie.Need-shape_of-out_rows
+shape_of-out_rows c = search
 
-same-length-3 : tie.Need-same-length-3
-same-length-3 c = search
+shape_of-out_values : tie.Need-shape_of-out_values
+shape_of-out_values c = search
 
-same-length-4 : tie.Need-same-length-4
-same-length-4 c = search
+shape_of-out_elements : tie.Need-shape_of-out_elements
+shape_of-out_elements c = search
 
-same-length-5 : tie.Need-same-length-5
-same-length-5 c = search
+shape_of-out_large : tie.Need-shape_of-out_large
+shape_of-out_large c = search
 
-returns-2 : tie.Need-returns-2
-returns-2 c =
+returns : tie.Need-returns
+returns c =
     let e = passed c in
     let s = S e.before in
-    rw (run_goes s.args.op (C s) (D s) (limits_at s.args.width) _ (e.before.early.ensures.0 s.args.op) (L s) e.if1.left) (wrote c).after-three.ensures
+    rw (run_goes s.args.op (C s) (D s) (limits_at s.args.width) _ (e.early-k.ensures.0 s.args.op) (L s) e.if-k-ne0.false) (wrote c).after-three.ensures
 
 pub run_spec : {M : Type 1} → statement M
 run_spec =
     tie.close
     (tie.spec
-    early-requires
-    returns
-    after-three-requires
-    same_length
-    same-length-2
-    same-length-3
-    same-length-4
-    same-length-5
-    returns-2)
+    early-k-requires
+    returns-then-k-ne0
+    after_three-requires
+    shape_of-out_offsets
+    shape_of-out_rows
+    shape_of-out_values
+    shape_of-out_elements
+    shape_of-out_large
+    returns)

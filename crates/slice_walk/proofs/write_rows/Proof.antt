@@ -32,273 +32,276 @@ use Rattle.slice_walk.proofs.SliceLaws.{op_by_lem, served_as, size_as, room_as, 
 use Rattle.slice_walk.proofs.write_rows.Statement.{statement}
 use Rattle.slice_walk.proofs.write_rows.Tie as tie
 
-abbrev invariant-loop : tie.invariant-loop
-invariant-loop offsets rows rstart values elements estart xs xbits xstart ys ybits ystart zs zbits zstart out-offsets₀ out-rows₀ out-values₀ out-elements₀ width large out-large₀ n columns by r₀ at₀ left₀ word₀ known₀ a₀ out-offsets out-rows out-values out-elements out-large r at left word known a =
+abbrev invariant-loop-left : tie.invariant-loop-left
+invariant-loop-left offsets rows rstart values elements estart xs xbits xstart ys ybits ystart zs zbits zstart out-offsets₀ out-rows₀ out-values₀ out-elements₀ width large out-large₀ n columns by r₀ at₀ left₀ word₀ known₀ a₀ out-offsets out-rows out-values out-elements out-large r at left word known a =
     Walking (row_made_at (limits_at width) (op_by by) (column (used width offsets large) (from rstart rows) values (from estart elements)) (arguments xs (from xstart xbits)) (arguments ys (from ystart ybits)) (arguments zs (from zstart zbits))) n (used width out-offsets₀ out-large₀) out-rows₀ out-values₀ out-elements₀ (used width out-offsets out-large) out-rows out-values out-elements r at left
     × (length out-offsets ≡ length out-offsets₀)
     × (length out-large ≡ length out-large₀)
     × (a ≡ offset_at (used width offsets large) r)
     × (low_bits word known ≡ tab (all_valid by (from rstart rows) (from xstart xbits) (from ystart ybits) (from zstart zbits)) r known)
 
-abbrev decreases-loop : tie.decreases-loop
-decreases-loop offsets rows rstart values elements estart xs xbits xstart ys ybits ystart zs zbits zstart out-offsets₀ out-rows₀ out-values₀ out-elements₀ width large out-large₀ n columns by r₀ at₀ left₀ word₀ known₀ a₀ out-offsets out-rows out-values out-elements out-large r at left word known a =
+abbrev decreases-loop-left : tie.decreases-loop-left
+decreases-loop-left offsets rows rstart values elements estart xs xbits xstart ys ybits ystart zs zbits zstart out-offsets₀ out-rows₀ out-values₀ out-elements₀ width large out-large₀ n columns by r₀ at₀ left₀ word₀ known₀ a₀ out-offsets out-rows out-values out-elements out-large r at left word known a =
     left
 
-abbrev N : tie.Start invariant-loop decreases-loop → Limits
+abbrev N : tie.Start invariant-loop-left decreases-loop-left → Limits
 N s = limits_at s.args.width
 
-abbrev C : tie.Start invariant-loop decreases-loop → Column
+abbrev C : tie.Start invariant-loop-left decreases-loop-left → Column
 C s = let a = s.args in column (used a.width a.offsets.now a.large.now) (from a.rstart a.rows.now) a.values.now (from a.estart a.elements.now)
 
 -- the offsets that are written, as the call began
-abbrev O : tie.Start invariant-loop decreases-loop → List ℤ
-O s = used s.args.width s.args.out-offsets.now s.args.out-large.now
+abbrev O : tie.Start invariant-loop-left decreases-loop-left → List ℤ
+O s = used s.args.width s.args.out_offsets.now s.args.out_large.now
 
-abbrev X : tie.Start invariant-loop decreases-loop → Arguments
+abbrev X : tie.Start invariant-loop-left decreases-loop-left → Arguments
 X s = arguments s.args.xs.now (from s.args.xstart s.args.xbits.now)
 
-abbrev Y : tie.Start invariant-loop decreases-loop → Arguments
+abbrev Y : tie.Start invariant-loop-left decreases-loop-left → Arguments
 Y s = arguments s.args.ys.now (from s.args.ystart s.args.ybits.now)
 
-abbrev Z : tie.Start invariant-loop decreases-loop → Arguments
+abbrev Z : tie.Start invariant-loop-left decreases-loop-left → Arguments
 Z s = arguments s.args.zs.now (from s.args.zstart s.args.zbits.now)
 
 -- ---- places: the first offset put, what the operation takes and the start, from the loop; a turn's row written, its plan and the loop,
 -- from what comes after
 
-abbrev put : tie.At-loop invariant-loop decreases-loop → tie.After-put-offset invariant-loop decreases-loop
+abbrev put : tie.At-loop-left invariant-loop-left decreases-loop-left → tie.After-put_offset invariant-loop-left decreases-loop-left
 put l = l.before.before.before.before
 
-abbrev takes : tie.At-loop invariant-loop decreases-loop → tie.After-takes invariant-loop decreases-loop
+abbrev takes : tie.At-loop-left invariant-loop-left decreases-loop-left → tie.After-takes-t invariant-loop-left decreases-loop-left
 takes l = (put l).before.before.before
 
-abbrev begun : tie.After-takes invariant-loop decreases-loop → tie.Start invariant-loop decreases-loop
+abbrev begun : tie.After-takes-t invariant-loop-left decreases-loop-left → tie.Start invariant-loop-left decreases-loop-left
 begun t = t.before.before.before.before.before.before.before.before.before
 
-abbrev S : tie.At-loop invariant-loop decreases-loop → tie.Start invariant-loop decreases-loop
+abbrev S : tie.At-loop-left invariant-loop-left decreases-loop-left → tie.Start invariant-loop-left decreases-loop-left
 S l = begun (takes l)
 
-abbrev written : tie.After-put-offset-arg4 invariant-loop decreases-loop → tie.After-put-slice invariant-loop decreases-loop
+abbrev written : tie.After-put_offset-arg-in-loop-left-2-1 invariant-loop-left decreases-loop-left → tie.After-put_slice-at invariant-loop-left decreases-loop-left
 written p = p.before.before.before.before.before.before.before
 
-abbrev turned : tie.After-out-large2 invariant-loop decreases-loop → tie.After-put-slice invariant-loop decreases-loop
+abbrev turned : tie.After-out_large-in-loop-left-1 invariant-loop-left decreases-loop-left → tie.After-put_slice-at invariant-loop-left decreases-loop-left
 turned p = written p.before.before.before
 
-abbrev planned : tie.After-put-slice invariant-loop decreases-loop → tie.After-plan-at invariant-loop decreases-loop
+abbrev planned : tie.After-put_slice-at invariant-loop-left decreases-loop-left → tie.After-plan_at-plan invariant-loop-left decreases-loop-left
 planned w = w.before.before.before.before
 
-abbrev second : tie.After-plan-at invariant-loop decreases-loop → tie.After-offset-at invariant-loop decreases-loop
+abbrev second : tie.After-plan_at-plan invariant-loop-left decreases-loop-left → tie.After-offset_at-b invariant-loop-left decreases-loop-left
 second p = p.before.before.before
 
-abbrev looped : tie.After-plan-at invariant-loop decreases-loop → tie.At-loop invariant-loop decreases-loop
+abbrev looped : tie.After-plan_at-plan invariant-loop-left decreases-loop-left → tie.At-loop-left invariant-loop-left decreases-loop-left
 looped p = (second p).before.before
 
 -- ---- the operation, by its test
 
-abbrev B : tie.At-loop invariant-loop decreases-loop → Bool
+abbrev B : tie.At-loop-left invariant-loop-left decreases-loop-left → Bool
 B l = ltb 2 (takes l).takes.result.columns
 
-abbrev OP : tie.At-loop invariant-loop decreases-loop → ListOp
+abbrev OP : tie.At-loop-left invariant-loop-left decreases-loop-left → ListOp
 OP l = op_by (B l)
 
-op_is : (l : tie.At-loop invariant-loop decreases-loop) → (S l).args.op ≡ OP l
+op_is : (l : tie.At-loop-left invariant-loop-left decreases-loop-left) → (S l).args.op ≡ OP l
 op_is l = op_by_lem (S l).args.op (S l).requires.1.1.0 ∙ ap (λ (t : Arity). op_by (ltb 2 t.columns)) (sym (takes l).takes.ensures)
 
-abbrev count : tie.At-loop invariant-loop decreases-loop → ℕ
+abbrev count : tie.At-loop-left invariant-loop-left decreases-loop-left → ℕ
 count l = (takes l).before.row_count.result
 
-rows_are : (l : tie.At-loop invariant-loop decreases-loop) → count l ≡ row_count (C (S l)).offsets
+rows_are : (l : tie.At-loop-left invariant-loop-left decreases-loop-left) → count l ≡ row_count (C (S l)).offsets
 rows_are l = (takes l).before.row_count.ensures
 
-serves : (l : tie.At-loop invariant-loop decreases-loop) → Served (OP l) (count l) (X (S l)) (Y (S l)) (Z (S l))
+serves : (l : tie.At-loop-left invariant-loop-left decreases-loop-left) → Served (OP l) (count l) (X (S l)) (Y (S l)) (Z (S l))
 serves l = served_as (op_is l) (rows_are l) (S l).requires.1.0
 
-abbrev W : tie.At-loop invariant-loop decreases-loop → ℕ → Row
+abbrev W : tie.At-loop-left invariant-loop-left decreases-loop-left → ℕ → Row
 W l = let s = S l in row_made_at (N s) (OP l) (C s) (X s) (Y s) (Z s)
 
 -- which rows are valid with their arguments
-abbrev G : tie.At-loop invariant-loop decreases-loop → ℕ → Bool
+abbrev G : tie.At-loop-left invariant-loop-left decreases-loop-left → ℕ → Bool
 G l = let s = S l in all_valid (B l) (C s).rows (X s).bits (Y s).bits (Z s).bits
 
 -- room for all rows, from the code's count
-roomy : (l : tie.At-loop invariant-loop decreases-loop) (lo : ℕ) → lo ≡ length (O (S l)) → let a = (S l).args in RoomInˡ (count l) (length (flat (tab (W l) 0 (count l)))) lo (length a.out-rows.now) (length a.out-values.now) (length a.out-elements.now)
-roomy l lo e = let s = S l in room_at (N s) (OP l) (C s) (X s) (Y s) (Z s) (count l) (rows_are l) (room_as (N s) (C s) (X s) (Y s) (Z s) (op_is l) s.pre.1.1.1.1) e
+roomy : (l : tie.At-loop-left invariant-loop-left decreases-loop-left) (lo : ℕ) → lo ≡ length (O (S l)) → let a = (S l).args in RoomInˡ (count l) (length (flat (tab (W l) 0 (count l)))) lo (length a.out_rows-1.now) (length a.out_values-1.now) (length a.out_elements-1.now)
+roomy l lo e = let s = S l in room_at (N s) (OP l) (C s) (X s) (Y s) (Z s) (count l) (rows_are l) (room_as (N s) (C s) (X s) (Y s) (Z s) (op_is l) s.requires.1.1.1.1) e
 
 -- row r of a turn can be read
-reads : (q : tie.After-offset-at invariant-loop decreases-loop) → let l = q.before.before in ReadableRowˡ (C (S l)).rows (count l) (C (S l)).values (C (S l)).elements l.loop.r l.loop.a q.offset_at.result
+reads : (q : tie.After-offset_at-b invariant-loop-left decreases-loop-left) → let l = q.before.before in ReadableRowˡ (C (S l)).rows (count l) (C (S l)).values (C (S l)).elements l.loop-left.r l.loop-left.a q.offset_at-b.result
 reads q =
     let l = q.before.before in
-    between (C (S l)) (count l) l.loop.r l.loop.a q.offset_at.result (S l).requires.0 (rows_are l) (omega (arith, l.loop.invariant.0.rows, q.before.loop-test.true)) l.loop.invariant.3 q.offset_at.ensures.0
+    between (C (S l)) (count l) l.loop-left.r l.loop-left.a q.offset_at-b.result (S l).requires.0 (rows_are l) (omega (arith, l.loop-left.invariant.0.rows, q.loop-left-test.true)) l.loop-left.invariant.3 q.offset_at-b.ensures.0
 
 -- the bits that a turn holds
-holds : (j : tie.Joined1 invariant-loop decreases-loop) → let l = j.before.before.before in Held (G l) l.loop.r j.if1.word j.if1.known
+holds : (j : tie.Joined-known-eq0 invariant-loop-left decreases-loop-left) → let l = j.before.before.before in Held (G l) l.loop-left.r j.if-known-eq0.word j.if-known-eq0.known
 holds j =
     let l = j.before.before.before in
     ⊎_elim
-    (λ w. held_anew (G l) l.loop.r l.loop.left w.3 w.4 w.2.ensures w.1.ensures)
-    (λ w. held_still (G l) l.loop.r w.1 w.2 (omega (arith, w.0.left)) l.loop.invariant.4)
-    j.if1.branch
+    (λ w. held_anew (G l) l.loop-left.r l.loop-left.left w.3 w.4 w.2.ensures w.1.ensures)
+    (λ w. held_still (G l) l.loop-left.r w.1 w.2 (omega (arith, w.0.left)) l.loop-left.invariant.4)
+    j.if-known-eq0.branch
 
 -- ---- what is done to it
 
-module _ (p : tie.After-plan-at invariant-loop decreases-loop) where
+module _ (p : tie.After-plan_at-plan invariant-loop-left decreases-loop-left) where
   abbrev valid : Bool
-  valid = eqb (p.before.before.if1.word % 2) 1
+  valid = eqb (p.if-known-eq0.word % 2) 1
 
   abbrev done : RowOp
-  done = op_if valid p.plan-at.result
+  done = op_if valid p.plan_at-plan.result
 
   abbrev len : ℕ
   len = (second p).offset_at.result - (looped p).loop.a
 
-  chosen : let l = looped p in let s = S l in done ≡ op_at (N s) (OP l) (C s).rows (X s) (Y s) (Z s) l.loop.r len
+  chosen : let l = looped p in let s = S l in done ≡ op_at (N s) (OP l) (C s).rows (X s) (Y s) (Z s) l.loop-left.r len
   chosen =
       let l = looped p in
       let s = S l in
-      op_chosen (N s) (C s).rows (X s) (Y s) (Z s) l.loop.r len (B l) valid p.plan-at.result (held_first (G l) p.before.before.if1.known (holds p.before.before)) p.plan-at.ensures
+      op_chosen (N s) (C s).rows (X s) (Y s) (Z s) l.loop-left.r len (B l) valid p.plan_at-plan.result (held_first (G l) p.if-known-eq0.known (holds p.before.before)) p.plan_at-plan.ensures
 
   -- the row that a turn makes is row r's
   abbrev made : Row
   made = let s = S (looped p) in row_made (op_made done (tab (elem_at (C s).values (C s).elements) (looped p).loop.a len))
 
-  same_row : let l = looped p in made ≡ W l l.loop.r
+  same_row : let l = looped p in made ≡ W l l.loop-left.r
   same_row =
       let l = looped p in
       let s = S l in
-      row_of_lem (N s) (OP l) (C s) (X s) (Y s) (Z s) l.loop.r l.loop.a (second p).offset_at.result done l.loop.inv.3 (second p).offset_at.ensures.0 chosen
+      row_of_lem (N s) (OP l) (C s) (X s) (Y s) (Z s) l.loop-left.r l.loop-left.a (second p).offset_at.result done l.loop-left.invariant.3 (second p).offset_at.ensures.0 chosen
 
-row-count-requires : tie.Need-row-count-requires invariant-loop decreases-loop
-row-count-requires c κs = search
+row_count-n-requires : tie.Need-row_count-n-requires invariant-loop-left decreases-loop-left
+row_count-n-requires c κs = search
 
-takes-requires : tie.Need-takes-requires invariant-loop decreases-loop
-takes-requires c κs = search
+takes-t-requires : tie.Need-takes-t-requires invariant-loop-left decreases-loop-left
+takes-t-requires c κs = search
 
-put-offset-requires : tie.Need-put-offset-requires invariant-loop decreases-loop
-put-offset-requires c κs = (omega (arith, (begun c.before.before).pre.1.1.1.1.offsets), omega arith)
+put_offset-requires : tie.Need-put_offset-requires invariant-loop-left decreases-loop-left
+put_offset-requires c κs = (omega (arith, (begun c.before.before).pre.1.1.1.1.offsets), omega arith)
 
-first-offset-requires : tie.Need-first-offset-requires invariant-loop decreases-loop
-first-offset-requires c κs = search
+first_offset-a-requires : tie.Need-first_offset-a-requires invariant-loop-left decreases-loop-left
+first_offset-a-requires c κs = search
 
-loop-holds : tie.Need-loop-init invariant-loop decreases-loop
-loop-holds c = (walk_begun _ _ _ _ _ _, refl, refl, c.first-offset.ensures, held_none _ 0 0)
+loop-left-init : tie.Need-loop-left-init invariant-loop-left decreases-loop-left
+loop-left-init c = (walk_begun _ _ _ _ _ _, refl, refl, c.first_offset-a.ensures, held_none _ 0 0)
 
-add-offset-at : tie.Need-overflow-add-offset-at invariant-loop decreases-loop
-add-offset-at c = omega (arith, c.before.loop.invariant.0.rows, c.loop-test.true)
+overflow_add-r : tie.Need-overflow_add-r invariant-loop-left decreases-loop-left
+overflow_add-r c = omega (arith, c.loop-left.invariant.0.rows, c.loop-left-test.true)
 
-offset-at-requires : tie.Need-offset-at-requires invariant-loop decreases-loop
-offset-at-requires c κs = omega (arith, rows_are c.before, c.before.loop.invariant.0.rows, c.loop-test.true)
+offset_at-b-requires : tie.Need-offset_at-b-requires invariant-loop-left decreases-loop-left
+offset_at-b-requires c κs = omega (arith, rows_are c.before, c.loop-left.invariant.0.rows, c.loop-left-test.true)
 
-sub-len : tie.Need-overflow-sub-len invariant-loop decreases-loop
-sub-len c = (reads c).rises
+overflow_sub-len : tie.Need-overflow_sub-len invariant-loop-left decreases-loop-left
+overflow_sub-len c = (reads c).rises
 
-valid-bits-requires : tie.Need-valid-bits-requires invariant-loop decreases-loop
-valid-bits-requires c κs =
+valid_bits-word-requires : tie.Need-valid_bits-word-requires invariant-loop-left decreases-loop-left
+valid_bits-word-requires c κs =
     let q = c.before in
     let l = q.before.before in
-    (known (B l) (C (S l)).rows (reads q).rows (serves l), (q.before.loop-test.true, omega (arith, l.loop.invariant.0.rows)))
+    (known (B l) (C (S l)).rows (reads q).rows (serves l), (q.loop-left-test.true, omega (arith, l.loop-left.invariant.0.rows)))
 
-batch-requires : tie.Need-batch-requires invariant-loop decreases-loop
-batch-requires c κs = search
+batch-known-requires : tie.Need-batch-known-requires invariant-loop-left decreases-loop-left
+batch-known-requires c κs = search
 
-plan-at-requires : tie.Need-plan-at-requires invariant-loop decreases-loop
-plan-at-requires c κs =
+plan_at-plan-requires : tie.Need-plan_at-plan-requires invariant-loop-left decreases-loop-left
+plan_at-plan-requires c κs =
     let q = c.before.before in
     let l = q.before.before in
     let s = S l in
-    (there (count l) (X s) (first-served (B l) (serves l)) l.loop.r (reads q).there, (there (count l) (Y s) (second-served (B l) (serves l)) l.loop.r (reads q).there, (λ h. there (count l) (Z s) (third-served (B l) (serves l) h) l.loop.r (reads q).there, omega (arith, q.offset_at.ensures.1))))
+    (there (count l) (X s) (first-served (B l) (serves l)) l.loop-left.r (reads q).there, (there (count l) (Y s) (second-served (B l) (serves l)) l.loop-left.r (reads q).there, (λ h. there (count l) (Z s) (third-served (B l) (serves l) h) l.loop-left.r (reads q).there, omega (arith, q.offset_at-b.ensures.1))))
 
-put-slice-requires : tie.Need-put-slice-requires invariant-loop decreases-loop
-put-slice-requires c κs =
+put_slice-at-requires : tie.Need-put_slice-at-requires invariant-loop-left decreases-loop-left
+put_slice-at-requires c κs =
     let p = c.before.before.before in
     let q = second p in
     let l = looped p in
     let s = S l in
-    (record { inside = omega (arith, (reads q).rises, (reads q).inside); bits = (reads q).elements }, (null_empty _ _ _ _ _ _ _ _ _ p.plan-at.ensures, (op_doable (N s) (OP l) (C s).rows (X s) (Y s) (Z s) l.loop.r _ (done p) (chosen p) (omega (arith, q.offset_at.ensures.1, (limits-fit s.args.width).offset)), walk_room (W l) (count l) (made p) q.before.loop-test.taken (same_row p) l.loop.inv.0 (roomy l _ (put_keeps (O s) 0 0 (put l).put-offset.ensures)))))
+    (record { inside = omega (arith, (reads q).rises, (reads q).inside); bits = (reads q).elements }, (null_empty _ _ _ _ _ _ _ _ _ p.plan_at-plan.ensures, (op_doable (N s) (OP l) (C s).rows (X s) (Y s) (Z s) l.loop-left.r _ (done p) (chosen p) (omega (arith, q.offset_at-b.ensures.1, (limits-fit s.args.width).offset)), walk_room (W l) (count l) (made p) q.loop-left-test.true (same_row p) l.loop-left.invariant.0 (roomy l _ (put_keeps (O s) 0 0 (put l).put-offset.ensures)))))
 
-add-put-offset : tie.Need-overflow-add-put-offset invariant-loop decreases-loop
-add-put-offset c = let p = planned (written c) in omega (arith, (second p).before, (looped p).loop.inv.0.rows, (second p).before.loop-test.taken)
+overflow_add-r-in-loop-left : tie.Need-overflow_add-r-in-loop-left invariant-loop-left decreases-loop-left
+overflow_add-r-in-loop-left c = let p = planned (written c) in omega (arith, (second p).before, (looped p).loop.inv.0.rows, (second p).before.loop-test.taken)
 
-put-offset-requires-2 : tie.Need-put-offset-requires-2 invariant-loop decreases-loop
-put-offset-requires-2 c κs =
+put_offset-requires-in-loop-left : tie.Need-put_offset-requires-in-loop-left invariant-loop-left decreases-loop-left
+put_offset-requires-in-loop-left c κs =
     let w = written c in
     let p = planned w in
     let l = looped p in
     let s = S l in
     let t = (second p).before.loop-test.taken in
-    let k = walk_small (W l) (count l) (made p) t (same_row p) l.loop.inv.0 w.put-slice.ensures in
-    (walk_slot (W l) (count l) (made p) t (same_row p) l.loop.inv.0 (roomy l _ (put_keeps (O s) 0 0 (put l).put-offset.ensures)), omega (arith, s.pre.1.1.1.0, size_as (N s) (C s) (X s) (Y s) (Z s) (op_is l), (rw (rows_at (N s) (OP l) (C s) (X s) (Y s) (Z s) (count l) (rows_are l)) at k)))
+    let k = walk_small (W l) (count l) (made p) t (same_row p) l.loop-left.invariant.0 w.put_slice-at.ensures in
+    (walk_slot (W l) (count l) (made p) t (same_row p) l.loop-left.invariant.0 (roomy l _ (put_keeps (O s) 0 0 (put l).put-offset.ensures)), omega (arith, s.requires.1.1.1.0, size_as (N s) (C s) (X s) (Y s) (Z s) (op_is l), (rw (rows_at (N s) (OP l) (C s) (X s) (Y s) (Z s) (count l) (rows_are l)) at k)))
 
-add_r : tie.Need-overflow-add-r invariant-loop decreases-loop
-add_r c = let p = planned (turned c) in omega (arith, (second p).before, (looped p).loop.inv.0.rows, (second p).before.loop-test.taken)
+overflow_add-r : tie.Need-overflow_add-r invariant-loop-left decreases-loop-left
+overflow_add-r c = let p = planned (turned c) in omega (arith, (second p).before, (looped p).loop.inv.0.rows, (second p).before.loop-test.taken)
 
-sub-left : tie.Need-overflow-sub-left invariant-loop decreases-loop
-sub-left c = omega (arith, (second (planned (turned c))).before.loop-test.taken)
+overflow_sub-left : tie.Need-overflow_sub-left invariant-loop-left decreases-loop-left
+overflow_sub-left c = omega (arith, (second (planned (turned c))).loop-left-test.true)
 
-sub-known : tie.Need-overflow-sub-known invariant-loop decreases-loop
-sub-known c = (holds (planned (turned c.before)).before.before).some
+overflow_sub-known : tie.Need-overflow_sub-known invariant-loop-left decreases-loop-left
+overflow_sub-known c = (holds (planned (turned c.before)).before.before).some
 
-loop-less : tie.Need-loop-smaller invariant-loop decreases-loop
-loop-less c = omega (arith, (second (planned (turned c.before))).before.loop-test.taken)
+loop-left-smaller : tie.Need-loop-left-smaller invariant-loop-left decreases-loop-left
+loop-left-smaller c = omega (arith, (second (planned (turned c.before))).loop-left-test.true)
 
-loop-again : tie.Need-loop-preserved invariant-loop decreases-loop
-loop-again c =
+loop-left-preserved : tie.Need-loop-left-preserved invariant-loop-left decreases-loop-left
+loop-left-preserved c =
     let m = c.before in
     let w = turned m in
     let p = planned w in
     let l = looped p in
-    let o = m.before.before.put-offset2 in
-    (walk_more (W l) (count l) (made p) (second p).before.loop-test.taken (same_row p) l.loop.inv.0 w.put-slice.ensures o.ensures, o.auto.1.0 ∙ l.loop.inv.1, o.auto.1.1.0 ∙ l.loop.inv.2, (second p).offset_at.ensures.0, held_rest (G l) p.before.before.if1.known (holds p.before.before))
+    let o = m.put_offset-in-loop-left in
+    (walk_more (W l) (count l) (made p) (second p).before.loop-test.taken (same_row p) l.loop-left.invariant.0 w.put_slice-at.ensures o.ensures, o.auto.narrow ∙ l.loop-left.invariant.1, o.auto.wide ∙ l.loop-left.invariant.2, (second p).offset_at.ensures.0, held_rest (G l) p.if-known-eq0.known (holds p.before.before))
 
-same_length : tie.Need-same-length invariant-loop decreases-loop
-same_length c = c.before.loop.invariant.1 ∙ (put c.before).put-offset.kept.1.0
+shape_of-out_offsets : tie.Need-shape_of-out_offsets invariant-loop-left decreases-loop-left
+shape_of-out_offsets c = c.loop-left.invariant.1 ∙ (put c.before).put-offset.kept.1.0
 
-same-length-2 : tie.Need-same-length-2 invariant-loop decreases-loop
-same-length-2 c = c.before.loop.invariant.0.lr
+shape_of-out_rows : tie.Need-shape_of-out_rows invariant-loop-left decreases-loop-left
+shape_of-out_rows c = c.loop-left.invariant.0.lr
 
-same-length-3 : tie.Need-same-length-3 invariant-loop decreases-loop
-same-length-3 c = c.before.loop.invariant.0.lv
+shape_of-out_values : tie.Need-shape_of-out_values invariant-loop-left decreases-loop-left
+shape_of-out_values c = c.loop-left.invariant.0.lv
 
-same-length-4 : tie.Need-same-length-4 invariant-loop decreases-loop
-same-length-4 c = c.before.loop.invariant.0.le
+shape_of-out_elements : tie.Need-shape_of-out_elements invariant-loop-left decreases-loop-left
+shape_of-out_elements c = c.loop-left.invariant.0.le
 
-same-length-5 : tie.Need-same-length-5 invariant-loop decreases-loop
-same-length-5 c = c.before.loop.invariant.2 ∙ (put c.before).put-offset.kept.1.1.0
+shape_of-out_large : tie.Need-shape_of-out_large invariant-loop-left decreases-loop-left
+shape_of-out_large c = c.loop-left.invariant.2 ∙ (put c.before).put-offset.kept.1.1.0
 
-returns : tie.Need-returns invariant-loop decreases-loop
+returns : tie.Need-returns invariant-loop-left decreases-loop-left
 returns c =
     let l = c.before in
     let s = S l in
     rw (op_is l, ← rows_at (N s) (OP l) (C s) (X s) (Y s) (Z s) (count l) (rows_are l))
-    (walk_done (W l) (count l) (O s) l.loop.invariant.0 (omega (arith, c.loop-test.false)) (put l).put-offset.ensures (roomy l _ refl))
+    (walk_done (W l) (count l) (O s) l.loop-left.invariant.0 (omega (arith, c.loop-left-test.false)) (put l).put-offset.ensures (roomy l _ refl))
+
+overflow_add-r-in-loop-left-2 : tie.Need-overflow_add-r-in-loop-left-2 invariant-loop-left decreases-loop-left
+overflow_add-r-in-loop-left-2 c = search rules
 
 pub write_rows_spec : {M : Type 1} → statement M
 write_rows_spec =
     tie.close
     (tie.spec
-    invariant-loop
-    decreases-loop
-    row-count-requires
-    takes-requires
-    put-offset-requires
-    first-offset-requires
-    loop-holds
-    add-offset-at
-    offset-at-requires
-    sub-len
-    valid-bits-requires
-    batch-requires
-    plan-at-requires
-    put-slice-requires
-    add-put-offset
-    put-offset-requires-2
-    add_r
-    sub-left
-    sub-known
-    loop-less
-    loop-again
-    same_length
-    same-length-2
-    same-length-3
-    same-length-4
-    same-length-5
+    invariant-loop-left
+    decreases-loop-left
+    row_count-n-requires
+    takes-t-requires
+    put_offset-requires
+    first_offset-a-requires
+    loop-left-init
+    overflow_add-r
+    offset_at-b-requires
+    overflow_sub-len
+    valid_bits-word-requires
+    batch-known-requires
+    plan_at-plan-requires
+    put_slice-at-requires
+    overflow_add-r-in-loop-left
+    put_offset-requires-in-loop-left
+    overflow_add-r-in-loop-left-2
+    overflow_sub-left
+    overflow_sub-known
+    loop-left-smaller
+    loop-left-preserved
+    shape_of-out_offsets
+    shape_of-out_rows
+    shape_of-out_values
+    shape_of-out_elements
+    shape_of-out_large
     returns)

@@ -10,23 +10,23 @@ use Rattle.step.proofs.step_at.Tie as tie
 
 -- ---- places: the slices known, the step's numbers read, the start
 
-abbrev entered : tie.After-slice-known2 → tie.After-shared-slice-known
+abbrev entered : tie.After-slice_known-2-1 → tie.After-shared_slice_known-1
 entered c = c.before.before.before.before.before.before.before.before.before
 
-abbrev S : tie.After-shared-slice-known12 → tie.Start
+abbrev S : tie.After-shared_slice_known-12-1 → tie.Start
 S c = (entered c.before.before.before.before).before
 
 -- a step from the list, and one from a tray: before its call and after it
-abbrev list : tie.After-step-arg5 → tie.Then1
+abbrev list : tie.After-step-arg-then-k-eq0-4-1 → tie.Then-k-eq0
 list c = c.before.before.before.before.before
 
-abbrev tray : tie.After-step-from-arg5 → tie.Else1
+abbrev tray : tie.After-step_from-arg-5-1 → tie.Else-k-eq0
 tray c = c.before.before.before.before.before
 
-abbrev listed : tie.After-out-large → tie.After-step
+abbrev listed : tie.After-out_large-1 → tie.After-step
 listed c = c.before.before.before.before.before.before.before
 
-abbrev drawn : tie.After-out-large2 → tie.After-step-from
+abbrev drawn : tie.After-out_large-2-1 → tie.After-step_from
 drawn c = c.before.before.before.before.before.before.before
 
 -- ---- columns
@@ -35,129 +35,129 @@ abbrev C : tie.Start → Column
 C s = let a = s.args in column (used a.width a.offsets.now a.large.now) (from a.rstart a.rows.now) a.values.now (from a.estart a.elements.now)
 
 abbrev F : tie.Start → Column
-F s = let a = s.args in front (used a.width a.from-offsets.now a.from-large.now) a.from-rows.now a.from-values.now a.from-elements.now a.n a.m
+F s = let a = s.args in front (used a.width a.from_offsets.now a.from_large.now) a.from_rows.now a.from_values.now a.from_elements.now a.n a.m
 
 -- ---- needs
 
-mul-i : tie.Need-overflow-mul-i
-mul-i c = omega arith
+overflow_mul-i : tie.Need-overflow_mul-i
+overflow_mul-i c = omega arith
 
-mul-code : tie.Need-overflow-mul-code
-mul-code c = omega arith
+offset_bounds-recipe-i : tie.Need-offset_bounds-recipe-i
+offset_bounds-recipe-i c = omega arith
 
-shared-slice-read-code : tie.Need-shared-slice-read-code
-shared-slice-read-code c = omega arith
+bounds-recipe-i : tie.Need-bounds-recipe-i
+bounds-recipe-i c = omega arith
 
-add-first : tie.Need-overflow-add-first
-add-first c = omega arith
+overflow_add-first : tie.Need-overflow_add-first
+overflow_add-first c = omega arith
 
-mul-first : tie.Need-overflow-mul-first
-mul-first c = omega arith
+offset_bounds-recipe-i-2 : tie.Need-offset_bounds-recipe-i-2
+offset_bounds-recipe-i-2 c = omega arith
 
-shared-slice-read-first : tie.Need-shared-slice-read-first
-shared-slice-read-first c = omega arith
+bounds-recipe-i-2 : tie.Need-bounds-recipe-i-2
+bounds-recipe-i-2 c = omega arith
 
-add-second : tie.Need-overflow-add-second
-add-second c = omega arith
+overflow_add-second : tie.Need-overflow_add-second
+overflow_add-second c = omega arith
 
-mul-second : tie.Need-overflow-mul-second
-mul-second c = omega arith
+offset_bounds-recipe-i-3 : tie.Need-offset_bounds-recipe-i-3
+offset_bounds-recipe-i-3 c = omega arith
 
-shared-slice-read-second : tie.Need-shared-slice-read-second
-shared-slice-read-second c = omega arith
+bounds-recipe-i-3 : tie.Need-bounds-recipe-i-3
+bounds-recipe-i-3 c = omega arith
 
-add-third : tie.Need-overflow-add-third
-add-third c = omega arith
+overflow_add-third : tie.Need-overflow_add-third
+overflow_add-third c = omega arith
 
-mul-third : tie.Need-overflow-mul-third
-mul-third c = omega arith
+offset_bounds-recipe-i-4 : tie.Need-offset_bounds-recipe-i-4
+offset_bounds-recipe-i-4 c = omega arith
 
-shared-slice-read-third : tie.Need-shared-slice-read-third
-shared-slice-read-third c = omega arith
+bounds-recipe-i-4 : tie.Need-bounds-recipe-i-4
+bounds-recipe-i-4 c = omega arith
 
 step-requires : tie.Need-step-requires
 step-requires c κs =
     let t = list c in
     let p = (S t.before).requires in
-    (p.1.0.first t.if1.taken, (p.1.0.rows t.if1.taken, p.1.1))
+    (p.1.0.first t.if-k-eq0.true, (p.1.0.rows t.if-k-eq0.true, p.1.1))
 
-same_length : tie.Need-same-length
-same_length c = search
+shape_of-out_offsets-then-k-eq0 : tie.Need-shape_of-out_offsets-then-k-eq0
+shape_of-out_offsets-then-k-eq0 c = search
 
-same-length-2 : tie.Need-same-length-2
-same-length-2 c = search
+shape_of-out_rows-then-k-eq0 : tie.Need-shape_of-out_rows-then-k-eq0
+shape_of-out_rows-then-k-eq0 c = search
 
-same-length-3 : tie.Need-same-length-3
-same-length-3 c = search
+shape_of-out_values-then-k-eq0 : tie.Need-shape_of-out_values-then-k-eq0
+shape_of-out_values-then-k-eq0 c = search
 
-same-length-4 : tie.Need-same-length-4
-same-length-4 c = search
+shape_of-out_elements-then-k-eq0 : tie.Need-shape_of-out_elements-then-k-eq0
+shape_of-out_elements-then-k-eq0 c = search
 
-same-length-5 : tie.Need-same-length-5
-same-length-5 c = search
+shape_of-out_large-then-k-eq0 : tie.Need-shape_of-out_large-then-k-eq0
+shape_of-out_large-then-k-eq0 c = search
 
-returns : tie.Need-returns
-returns c =
+returns-then-k-eq0 : tie.Need-returns-then-k-eq0
+returns-then-k-eq0 c =
     let w = listed c in
     let t = list w.before in
     let s = S t.before in
-    rw (taken-first s.args.k (C s) (F s) t.if1.taken) w.step.ensures
+    rw (taken-first s.args.k (C s) (F s) t.if-k-eq0.true) w.step.ensures
 
-step-from-requires : tie.Need-step-from-requires
-step-from-requires c κs =
+step_from-requires : tie.Need-step_from-requires
+step_from-requires c κs =
     let t = tray c in
     let p = (S t.before).requires in
-    (p.1.0.later t.if1.left, p.1.1)
+    (p.1.0.later t.if-k-eq0.false, p.1.1)
 
-same-length-6 : tie.Need-same-length-6
-same-length-6 c = search
+shape_of-out_offsets : tie.Need-shape_of-out_offsets
+shape_of-out_offsets c = search
 
-same-length-7 : tie.Need-same-length-7
-same-length-7 c = search
+shape_of-out_rows : tie.Need-shape_of-out_rows
+shape_of-out_rows c = search
 
-same-length-8 : tie.Need-same-length-8
-same-length-8 c = search
+shape_of-out_values : tie.Need-shape_of-out_values
+shape_of-out_values c = search
 
-same-length-9 : tie.Need-same-length-9
-same-length-9 c = search
+shape_of-out_elements : tie.Need-shape_of-out_elements
+shape_of-out_elements c = search
 
-same-length-10 : tie.Need-same-length-10
-same-length-10 c = search
+shape_of-out_large : tie.Need-shape_of-out_large
+shape_of-out_large c = search
 
-returns-2 : tie.Need-returns-2
-returns-2 c =
+returns : tie.Need-returns
+returns c =
     let w = drawn c in
     let t = tray w.before in
     let s = S t.before in
-    rw (taken-later s.args.k (C s) (F s) t.if1.left) w.step_from.ensures
+    rw (taken-later s.args.k (C s) (F s) t.if-k-eq0.false) w.step_from.ensures
 
-pub step-at_spec : {M : Type 1} → statement M
-step-at_spec =
+pub step_at_spec : {M : Type 1} → statement M
+step_at_spec =
     tie.close
     (tie.spec
-    mul-i
-    mul-code
-    shared-slice-read-code
-    add-first
-    mul-first
-    shared-slice-read-first
-    add-second
-    mul-second
-    shared-slice-read-second
-    add-third
-    mul-third
-    shared-slice-read-third
+    overflow_mul-i
+    offset_bounds-recipe-i
+    bounds-recipe-i
+    overflow_add-first
+    offset_bounds-recipe-i-2
+    bounds-recipe-i-2
+    overflow_add-second
+    offset_bounds-recipe-i-3
+    bounds-recipe-i-3
+    overflow_add-third
+    offset_bounds-recipe-i-4
+    bounds-recipe-i-4
     step-requires
-    same_length
-    same-length-2
-    same-length-3
-    same-length-4
-    same-length-5
-    returns
-    step-from-requires
-    same-length-6
-    same-length-7
-    same-length-8
-    same-length-9
-    same-length-10
-    returns-2)
+    shape_of-out_offsets-then-k-eq0
+    shape_of-out_rows-then-k-eq0
+    shape_of-out_values-then-k-eq0
+    shape_of-out_elements-then-k-eq0
+    shape_of-out_large-then-k-eq0
+    returns-then-k-eq0
+    step_from-requires
+    shape_of-out_offsets
+    shape_of-out_rows
+    shape_of-out_values
+    shape_of-out_elements
+    shape_of-out_large
+    returns)

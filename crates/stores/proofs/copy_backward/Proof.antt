@@ -8,113 +8,113 @@ use Rattle.stores.proofs.StoreLaws.{Turned, turned_none, turned_more, turned_one
 use Rattle.stores.proofs.copy_backward.Statement.{statement}
 use Rattle.stores.proofs.copy_backward.Tie as tie
 
-abbrev invariant-loop : tie.invariant-loop
-invariant-loop values a n out₀ at k₀ left₀ out k left = Turned (λ i. get_or values i (pos 0)) a n at out₀ out k left
+abbrev invariant-loop-left : tie.invariant-loop-left
+invariant-loop-left values a n out₀ at k₀ left₀ out k left = Turned (λ i. get_or values i (pos 0)) a n at out₀ out k left
 
-abbrev decreases-loop : tie.decreases-loop
-decreases-loop values a n out₀ at k₀ left₀ out k left = left
+abbrev decreases-loop-left : tie.decreases-loop-left
+decreases-loop-left values a n out₀ at k₀ left₀ out k left = left
 
-abbrev invariant-loop2 : tie.invariant-loop2
-invariant-loop2 values a n out₀ at k₀ left₀ out k left = Turned (λ i. get_or values i (pos 0)) a left₀ k₀ out₀ out k left
+abbrev invariant-loop-left-2 : tie.invariant-loop-left-2
+invariant-loop-left-2 values a n out₀ at k₀ left₀ out k left = Turned (λ i. get_or values i (pos 0)) a left₀ k₀ out₀ out k left
 
-abbrev decreases-loop2 : tie.decreases-loop2
-decreases-loop2 values a n out₀ at k₀ left₀ out k left = left
+abbrev decreases-loop-left-2 : tie.decreases-loop-left-2
+decreases-loop-left-2 values a n out₀ at k₀ left₀ out k left = left
 
 -- a turn of each loop
-module _ (i : tie.In-loop invariant-loop decreases-loop invariant-loop2 decreases-loop2) where
-  inside : (i.before.before.args.a + (i.before.loop.left - 8) + 8 ≤ length i.before.before.args.values.now) × (i.before.loop.k + 8 ≤ length i.before.loop.out)
+module _ (i : tie.In-loop-left invariant-loop-left decreases-loop-left invariant-loop-left-2 decreases-loop-left-2) where
+  inside : (i.args.a + (i.loop-left.left - 8) + 8 ≤ length i.args.values.now) × (i.loop-left.k + 8 ≤ length i.loop-left.out)
   inside =
       let s = i.before.before in
-      let v = i.before.loop.invariant in
-      (omega (arith, i.loop-test, v.fewer, s.requires.0), omega (arith, i.loop-test, v.place, v.fewer, v.same, s.requires.1))
+      let v = i.loop-left.invariant in
+      (omega (arith, i.loop-left-test, v.fewer, s.requires.0), omega (arith, i.loop-left-test, v.place, v.fewer, v.same, s.requires.1))
 
-module _ (i : tie.In-loop2 invariant-loop decreases-loop invariant-loop2 decreases-loop2) where
-  abbrev start : tie.Start invariant-loop decreases-loop invariant-loop2 decreases-loop2
+module _ (i : tie.In-loop-left-2 invariant-loop-left decreases-loop-left invariant-loop-left-2 decreases-loop-left-2) where
+  abbrev start : tie.Start invariant-loop-left decreases-loop-left invariant-loop-left-2 decreases-loop-left-2
   start = i.before.before.before.before
 
-  inside2 : (start.args.a + (i.before.loop2.left - 1) < length start.args.values.now) × (i.before.loop2.k < length i.before.loop2.out)
+  inside2 : (start.args.a + (i.loop-left-2.left - 1) < length start.args.values.now) × (i.loop-left-2.k < length i.loop-left-2.out)
   inside2 =
-      let v = i.before.loop2.inv in
-      let w = i.before.before.before.loop.inv in
-      (omega (arith, i.loop2-test, v.fewer, w.fewer, start.pre.0), omega (arith, i.loop2-test, v.place, v.fewer, v.same, w.place, w.fewer, w.same, start.pre.1))
+      let v = i.loop-left-2.invariant in
+      let w = i.loop-left.invariant in
+      (omega (arith, i.loop-left-2-test, v.fewer, w.fewer, start.requires.0), omega (arith, i.loop-left-2-test, v.place, v.fewer, v.same, w.place, w.fewer, w.same, start.requires.1))
 
-loop-holds : tie.Need-loop-init invariant-loop decreases-loop invariant-loop2 decreases-loop2
-loop-holds c = turned_none _ _ _ _ _
+loop-left-init : tie.Need-loop-left-init invariant-loop-left decreases-loop-left invariant-loop-left-2 decreases-loop-left-2
+loop-left-init c = turned_none _ _ _ _ _
 
-add-turn-eight : tie.Need-overflow-add-turn-eight invariant-loop decreases-loop invariant-loop2 decreases-loop2
-add-turn-eight c = omega (arith, (inside c).0, c.before.before)
+overflow_add-a : tie.Need-overflow_add-a invariant-loop-left decreases-loop-left invariant-loop-left-2 decreases-loop-left-2
+overflow_add-a c = omega (arith, (inside c).0, c.before.before)
 
-turn-eight-requires : tie.Need-turn-eight-requires invariant-loop decreases-loop invariant-loop2 decreases-loop2
-turn-eight-requires c κs = inside c.before
+turn_eight-requires : tie.Need-turn_eight-requires invariant-loop-left decreases-loop-left invariant-loop-left-2 decreases-loop-left-2
+turn_eight-requires c κs = inside c.before
 
-add-k : tie.Need-overflow-add-k invariant-loop decreases-loop invariant-loop2 decreases-loop2
-add-k c = let i = c.before.before.before in omega (arith, (inside i).1, i.before.before, i.before.loop.invariant.same)
+overflow_add-k : tie.Need-overflow_add-k invariant-loop-left decreases-loop-left invariant-loop-left-2 decreases-loop-left-2
+overflow_add-k c = let i = c.before.before.before in omega (arith, (inside i).1, i.before.before, i.loop-left.invariant.same)
 
-loop-less : tie.Need-loop-smaller invariant-loop decreases-loop invariant-loop2 decreases-loop2
-loop-less c = let t = c.before.before.before.loop-test in omega arith
+loop-left-smaller : tie.Need-loop-left-smaller invariant-loop-left decreases-loop-left invariant-loop-left-2 decreases-loop-left-2
+loop-left-smaller c = let t = c.loop-left-test in omega arith
 
-loop-again : tie.Need-loop-preserved invariant-loop decreases-loop invariant-loop2 decreases-loop2
-loop-again c = let i = c.before.before.before in turned_more _ _ _ _ _ i.before.loop.invariant 8 i.loop-test.true c.before.turn-eight.ensures
+loop-left-preserved : tie.Need-loop-left-preserved invariant-loop-left decreases-loop-left invariant-loop-left-2 decreases-loop-left-2
+loop-left-preserved c = let i = c.before.before.before in turned_more _ _ _ _ _ i.loop-left.invariant 8 i.loop-left-test.true c.turn_eight.ensures
 
-loop2-holds : tie.Need-loop2-init invariant-loop decreases-loop invariant-loop2 decreases-loop2
-loop2-holds c = turned_none _ _ _ _ _
+loop-left-2-init : tie.Need-loop-left-2-init invariant-loop-left decreases-loop-left invariant-loop-left-2 decreases-loop-left-2
+loop-left-2-init c = turned_none _ _ _ _ _
 
-sub-left : tie.Need-overflow-sub-left invariant-loop decreases-loop invariant-loop2 decreases-loop2
-sub-left c = let t = c.loop2-test in omega arith
+overflow_sub-left-in-loop-left-2 : tie.Need-overflow_sub-left-in-loop-left-2 invariant-loop-left decreases-loop-left invariant-loop-left-2 decreases-loop-left-2
+overflow_sub-left-in-loop-left-2 c = let t = c.loop-left-2-test in omega arith
 
-add-out : tie.Need-overflow-add-out invariant-loop decreases-loop invariant-loop2 decreases-loop2
-add-out c = omega (arith, (inside2 c).0, start c)
+overflow_add-out : tie.Need-overflow_add-out invariant-loop-left decreases-loop-left invariant-loop-left-2 decreases-loop-left-2
+overflow_add-out c = omega (arith, (inside2 c).0, start c)
 
-mul-out : tie.Need-overflow-mul-out invariant-loop decreases-loop invariant-loop2 decreases-loop2
-mul-out c = omega (arith, (inside2 c).0, start c)
+offset_bounds-values-a : tie.Need-offset_bounds-values-a invariant-loop-left decreases-loop-left invariant-loop-left-2 decreases-loop-left-2
+offset_bounds-values-a c = omega (arith, (inside2 c).0, start c)
 
-shared-slice-copy-out-out : tie.Need-shared-slice-copy-out-out invariant-loop decreases-loop invariant-loop2 decreases-loop2
-shared-slice-copy-out-out c = (inside2 c).0
+bounds-values-a : tie.Need-bounds-values-a invariant-loop-left decreases-loop-left invariant-loop-left-2 decreases-loop-left-2
+bounds-values-a c = (inside2 c).0
 
-mul-t18 : tie.Need-overflow-mul-t18 invariant-loop decreases-loop invariant-loop2 decreases-loop2
-mul-t18 c = omega (arith, (inside2 c.before).1, start c.before, c.before.before.loop2.invariant.same, c.before.before.before.before.loop.invariant.same)
+offset_bounds-out-k : tie.Need-offset_bounds-out-k invariant-loop-left decreases-loop-left invariant-loop-left-2 decreases-loop-left-2
+offset_bounds-out-k c = omega (arith, (inside2 c.before).1, start c.before, c.loop-left-2.invariant.same, c.loop-left.invariant.same)
 
-slice-set-from-out : tie.Need-slice-set-from-out invariant-loop decreases-loop invariant-loop2 decreases-loop2
-slice-set-from-out c = (inside2 c.before).1
+bounds-out-k : tie.Need-bounds-out-k invariant-loop-left decreases-loop-left invariant-loop-left-2 decreases-loop-left-2
+bounds-out-k c = (inside2 c.before).1
 
-add-k-2 : tie.Need-overflow-add-k-2 invariant-loop decreases-loop invariant-loop2 decreases-loop2
-add-k-2 c = omega (arith, (inside2 c.before).1, start c.before, c.before.before.loop2.invariant.same, c.before.before.before.before.loop.invariant.same)
+overflow_add-k-in-loop-left-2 : tie.Need-overflow_add-k-in-loop-left-2 invariant-loop-left decreases-loop-left invariant-loop-left-2 decreases-loop-left-2
+overflow_add-k-in-loop-left-2 c = omega (arith, (inside2 c.before).1, start c.before, c.loop-left-2.invariant.same, c.loop-left.invariant.same)
 
-loop2-less : tie.Need-loop2-smaller invariant-loop decreases-loop invariant-loop2 decreases-loop2
-loop2-less c = let t = c.before.loop2-test in omega arith
+loop-left-2-smaller : tie.Need-loop-left-2-smaller invariant-loop-left decreases-loop-left invariant-loop-left-2 decreases-loop-left-2
+loop-left-2-smaller c = let t = c.loop-left-2-test in omega arith
 
-loop2-again : tie.Need-loop2-preserved invariant-loop decreases-loop invariant-loop2 decreases-loop2
-loop2-again c = turned_one _ _ _ _ _ c.before.before.loop2.invariant c.before.loop2-test.true (rw (back64 _ c.out2.given))
+loop-left-2-preserved : tie.Need-loop-left-2-preserved invariant-loop-left decreases-loop-left invariant-loop-left-2 decreases-loop-left-2
+loop-left-2-preserved c = turned_one _ _ _ _ _ c.loop-left-2.invariant c.loop-left-2-test.true (rw (back64 _ c.out-in-loop-left-2-1.given))
 
-same_length : tie.Need-same-length invariant-loop decreases-loop invariant-loop2 decreases-loop2
-same_length c = c.before.loop2.invariant.same ∙ c.before.before.before.loop.invariant.same
+shape_of-out : tie.Need-shape_of-out invariant-loop-left decreases-loop-left invariant-loop-left-2 decreases-loop-left-2
+shape_of-out c = c.loop-left-2.invariant.same ∙ c.loop-left.invariant.same
 
-returns : tie.Need-returns invariant-loop decreases-loop invariant-loop2 decreases-loop2
-returns c = turned_all _ _ _ _ _ c.before.loop2.invariant c.loop2-test.false ∙ c.before.before.before.loop.invariant.rest
+returns : tie.Need-returns invariant-loop-left decreases-loop-left invariant-loop-left-2 decreases-loop-left-2
+returns c = turned_all _ _ _ _ _ c.loop-left-2.invariant c.loop-left-2-test.false ∙ c.loop-left.invariant.rest
 
 pub copy_backward_spec : {M : Type 1} → statement M
 copy_backward_spec =
     tie.close
     (tie.spec
-    invariant-loop
-    decreases-loop
-    invariant-loop2
-    decreases-loop2
-    loop-holds
-    add-turn-eight
-    turn-eight-requires
-    add-k
-    loop-less
-    loop-again
-    loop2-holds
-    sub-left
-    add-out
-    mul-out
-    shared-slice-copy-out-out
-    mul-t18
-    slice-set-from-out
-    add-k-2
-    loop2-less
-    loop2-again
-    same_length
+    invariant-loop-left
+    decreases-loop-left
+    invariant-loop-left-2
+    decreases-loop-left-2
+    loop-left-init
+    overflow_add-a
+    turn_eight-requires
+    overflow_add-k
+    loop-left-smaller
+    loop-left-preserved
+    loop-left-2-init
+    overflow_sub-left-in-loop-left-2
+    overflow_add-out
+    offset_bounds-values-a
+    bounds-values-a
+    offset_bounds-out-k
+    bounds-out-k
+    overflow_add-k-in-loop-left-2
+    loop-left-2-smaller
+    loop-left-2-preserved
+    shape_of-out
     returns)

@@ -11,78 +11,78 @@ use Rattle.stores.proofs.StoreLaws.{Storing, begun, more, room, done}
 use Rattle.stores.proofs.copy_each.Statement.{statement}
 use Rattle.stores.proofs.copy_each.Tie as tie
 
-abbrev invariant-loop : tie.invariant-loop
-invariant-loop values a n out₀ at p₀ k₀ left₀ out p k left =
+abbrev invariant-loop-left : tie.invariant-loop-left
+invariant-loop-left values a n out₀ at p₀ k₀ left₀ out p k left =
     Storing (tab (λ i. get_or values i (pos 0)) a n) at out₀ (tab (λ i. get_or values i (pos 0)) p left) k out
     × (p + left ≡ a + n)
 
-abbrev decreases-loop : tie.decreases-loop
-decreases-loop values a n out₀ at p₀ k₀ left₀ out p k left = left
+abbrev decreases-loop-left : tie.decreases-loop-left
+decreases-loop-left values a n out₀ at p₀ k₀ left₀ out p k left = left
 
-module _ (i : tie.In-loop invariant-loop decreases-loop) where
+module _ (i : tie.In-loop-left invariant-loop-left decreases-loop-left) where
   abbrev G : ℕ → ℤ
-  G j = get_or i.before.before.args.values.now j (pos 0)
+  G j = get_or i.args.values.now j (pos 0)
 
-  next : tab G i.before.loop.p i.before.loop.left ≡ G i.before.loop.p ∷ tab G (i.before.loop.p + 1) (i.before.loop.left - 1)
-  next = tab-step G i.before.loop.p i.before.loop.left i.loop-test.taken
+  next : tab G i.loop-left.p i.loop-left.left ≡ G i.loop-left.p ∷ tab G (i.loop-left.p + 1) (i.loop-left.left - 1)
+  next = tab-step G i.loop-left.p i.loop-left.left i.loop-left-test.true
 
-  here : i.before.loop.p < length i.before.before.args.values.now
-  here = omega (arith, i, i.before.before.pre.0)
+  here : i.loop-left.p < length i.args.values.now
+  here = omega (arith, i, i.requires.0)
 
-  room_at : i.before.loop.k < length i.before.loop.out
-  room_at = room i.before.loop.inv.0 _ _ next (omega (arith, i.before.before.pre.1, length-tab G i.before.before.args.a i.before.before.args.n))
+  room_at : i.loop-left.k < length i.loop-left.out
+  room_at = room i.loop-left.invariant.0 _ _ next (omega (arith, i.requires.1, length-tab G i.args.a i.args.n))
 
-loop-holds : tie.Need-loop-init invariant-loop decreases-loop
-loop-holds c = (begun, refl)
+loop-left-init : tie.Need-loop-left-init invariant-loop-left decreases-loop-left
+loop-left-init c = (begun, refl)
 
-mul-out : tie.Need-overflow-mul-out invariant-loop decreases-loop
-mul-out c = let h = here c in omega (arith, c, c.before.before)
+offset_bounds-values-p : tie.Need-offset_bounds-values-p invariant-loop-left decreases-loop-left
+offset_bounds-values-p c = let h = here c in omega (arith, c, c.before.before)
 
-shared-slice-copy-out-out : tie.Need-shared-slice-copy-out-out invariant-loop decreases-loop
-shared-slice-copy-out-out c = here c
+bounds-values-p : tie.Need-bounds-values-p invariant-loop-left decreases-loop-left
+bounds-values-p c = here c
 
-mul-t13 : tie.Need-overflow-mul-t13 invariant-loop decreases-loop
-mul-t13 c = let r = room_at c.before in omega (arith, c.before, c.before.before.before)
+offset_bounds-out-k : tie.Need-offset_bounds-out-k invariant-loop-left decreases-loop-left
+offset_bounds-out-k c = let r = room_at c.before in omega (arith, c.before, c.before.before.before)
 
-slice-set-from-out : tie.Need-slice-set-from-out invariant-loop decreases-loop
-slice-set-from-out c = room_at c.before
+bounds-out-k : tie.Need-bounds-out-k invariant-loop-left decreases-loop-left
+bounds-out-k c = room_at c.before
 
-add-p : tie.Need-overflow-add-p invariant-loop decreases-loop
-add-p c = let h = here c.before in omega (arith, c.before, c.before.before.before)
+overflow_add-p : tie.Need-overflow_add-p invariant-loop-left decreases-loop-left
+overflow_add-p c = let h = here c.before in omega (arith, c.before, c.before.before.before)
 
-add-k : tie.Need-overflow-add-k invariant-loop decreases-loop
-add-k c = let r = room_at c.before in omega (arith, c.before, c.before.before.before)
+overflow_add-k : tie.Need-overflow_add-k invariant-loop-left decreases-loop-left
+overflow_add-k c = let r = room_at c.before in omega (arith, c.before, c.before.before.before)
 
-sub-left : tie.Need-overflow-sub-left invariant-loop decreases-loop
-sub-left c = omega (arith, c.before)
+overflow_sub-left : tie.Need-overflow_sub-left invariant-loop-left decreases-loop-left
+overflow_sub-left c = omega (arith, c.before)
 
-loop-less : tie.Need-loop-smaller invariant-loop decreases-loop
-loop-less c = omega (arith, c.before)
+loop-left-smaller : tie.Need-loop-left-smaller invariant-loop-left decreases-loop-left
+loop-left-smaller c = omega (arith, c.before)
 
-loop-again : tie.Need-loop-preserved invariant-loop decreases-loop
-loop-again c = (more c.before.before.loop.invariant.0 _ _ (next c.before) (rw (back64 _ c.out.given)), omega (arith, c.before))
+loop-left-preserved : tie.Need-loop-left-preserved invariant-loop-left decreases-loop-left
+loop-left-preserved c = (more c.loop-left.invariant.0 _ _ (next c.before) (rw (back64 _ c.out-1.given)), omega (arith, c.before))
 
-same_length : tie.Need-same-length invariant-loop decreases-loop
-same_length c = c.before.loop.invariant.0.same
+shape_of-out : tie.Need-shape_of-out invariant-loop-left decreases-loop-left
+shape_of-out c = c.loop-left.invariant.0.same
 
-returns : tie.Need-returns invariant-loop decreases-loop
-returns c = done c.before.loop.invariant.0 (tab-none _ _ _ c.loop-test.false)
+returns : tie.Need-returns invariant-loop-left decreases-loop-left
+returns c = done c.loop-left.invariant.0 (tab-none _ _ _ c.loop-left-test.false)
 
 pub copy_each_spec : {M : Type 1} → statement M
 copy_each_spec =
     tie.close
     (tie.spec
-    invariant-loop
-    decreases-loop
-    loop-holds
-    mul-out
-    shared-slice-copy-out-out
-    mul-t13
-    slice-set-from-out
-    add-p
-    add-k
-    sub-left
-    loop-less
-    loop-again
-    same_length
+    invariant-loop-left
+    decreases-loop-left
+    loop-left-init
+    offset_bounds-values-p
+    bounds-values-p
+    offset_bounds-out-k
+    bounds-out-k
+    overflow_add-p
+    overflow_add-k
+    overflow_sub-left
+    loop-left-smaller
+    loop-left-preserved
+    shape_of-out
     returns)

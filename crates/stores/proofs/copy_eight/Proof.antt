@@ -11,42 +11,42 @@ use Rattle.stores.proofs.copy_eight.Statement.{statement}
 use Rattle.stores.proofs.copy_eight.Tie as tie
 
 -- after the first four were copied
-abbrev start : tie.After-copy-four → tie.Start
+abbrev start : tie.After-copy_four → tie.Start
 start f = f.before.before
 
-copy-four-requires : tie.Need-copy-four-requires
-copy-four-requires c κs = let s = c.before in (omega (arith, s.requires.0), omega (arith, s.requires.1))
+copy_four-requires : tie.Need-copy_four-requires
+copy_four-requires c κs = let s = c.before in (omega (arith, s.requires.0), omega (arith, s.requires.1))
 
-add-copy-four : tie.Need-overflow-add-copy-four
-add-copy-four c = let s = start c.before in omega (arith, s, s.pre.0)
+overflow_add-p : tie.Need-overflow_add-p
+overflow_add-p c = let s = start c.before in omega (arith, s, s.requires.0)
 
-add-copy-four-2 : tie.Need-overflow-add-copy-four-2
-add-copy-four-2 c = let s = start c.before.before in omega (arith, s, s.pre.1)
+overflow_add-k : tie.Need-overflow_add-k
+overflow_add-k c = let s = start c.before.before in omega (arith, s, s.requires.1)
 
-copy-four-requires-2 : tie.Need-copy-four-requires-2
-copy-four-requires-2 c κs =
+copy_four-requires-2 : tie.Need-copy_four-requires-2
+copy_four-requires-2 c κs =
     let f = c.before.before in
-    (omega (arith, (start f).requires.0), omega (arith, (start f).requires.1, f.copy-four.auto.1.1.0))
+    (omega (arith, (start f).requires.0), omega (arith, (start f).requires.1, f.copy_four.auto.out))
 
-same_length : tie.Need-same-length
-same_length c = c.before.copy-four2.auto.1.1.0 ∙ c.before.before.before.before.copy-four.auto.1.1.0
+shape_of-out : tie.Need-shape_of-out
+shape_of-out c = c.copy_four-2.auto.out ∙ c.copy_four.auto.out
 
 returns : tie.Need-returns
 returns c =
     let f = c.before.before.before.before in
     let a = (start f).args in
     let G : ℕ → ℤ = λ i. get_or a.values.now i (pos 0) in
-    c.before.copy-four2.ensures
-    ∙ ap (λ (l : List ℤ). sets l (a.k + 4) (tab G (a.p + 4) 4)) f.copy-four.ensures
-    ∙ sets_tab G a.p 4 4 4 a.out.now a.k (omega arith) (omega arith)
+    c.copy_four-2.ensures
+    ∙ ap (λ (l : List ℤ). sets l (a.k + 4) (tab G (a.p + 4) 4)) f.copy_four.ensures
+    ∙ sets_tab G a.p 4 4 4 a.out-1.now a.k (omega arith) (omega arith)
 
 pub copy_eight_spec : {M : Type 1} → statement M
 copy_eight_spec =
     tie.close
     (tie.spec
-    copy-four-requires
-    add-copy-four
-    add-copy-four-2
-    copy-four-requires-2
-    same_length
+    copy_four-requires
+    overflow_add-p
+    overflow_add-k
+    copy_four-requires-2
+    shape_of-out
     returns)

@@ -11,62 +11,62 @@ use Rattle.stores.proofs.copy_short.Statement.{statement}
 use Rattle.stores.proofs.copy_short.Tie as tie
 
 -- where four values are there, and after the first of these were copied
-abbrev many : tie.After-copy-four → tie.Else1
+abbrev many : tie.After-copy_four → tie.Else-n-lt4
 many c = c.before.before
 
-abbrev first : tie.After-out3 → tie.After-copy-four
+abbrev first : tie.After-out-3-1 → tie.After-copy_four
 first c = c.before.before.before.before
 
-copy-each-requires : tie.Need-copy-each-requires
-copy-each-requires c κs = c.before.before.requires.1
+copy_each-requires : tie.Need-copy_each-requires
+copy_each-requires c κs = c.requires.1
 
-same_length : tie.Need-same-length
-same_length c = c.before.copy-each.auto.1.1.1.0
+shape_of-out-then-n-lt4 : tie.Need-shape_of-out-then-n-lt4
+shape_of-out-then-n-lt4 c = c.copy_each.auto.out
 
-returns : tie.Need-returns
-returns c = c.before.copy-each.ensures
+returns-then-n-lt4 : tie.Need-returns-then-n-lt4
+returns-then-n-lt4 c = c.copy_each.ensures
 
-copy-four-requires : tie.Need-copy-four-requires
-copy-four-requires c κs = let e = c.before in (omega (arith, e, e.before.requires.1.0), omega (arith, e, e.before.requires.1.1))
+copy_four-requires : tie.Need-copy_four-requires
+copy_four-requires c κs = let e = c.before in (omega (arith, e, e.requires.1.0), omega (arith, e, e.requires.1.1))
 
-add-copy-four : tie.Need-overflow-add-copy-four
-add-copy-four c = let e = many c.before in omega (arith, e, e.before, e.before.pre.1.0)
+overflow_add-a : tie.Need-overflow_add-a
+overflow_add-a c = let e = many c.before in omega (arith, e, e.before, e.requires.1.0)
 
-add-copy-four-2 : tie.Need-overflow-add-copy-four-2
-add-copy-four-2 c = let e = many c.before.before in omega (arith, e, e.before, e.before.pre.1.1)
+overflow_add-at : tie.Need-overflow_add-at
+overflow_add-at c = let e = many c.before.before in omega (arith, e, e.before, e.requires.1.1)
 
-copy-four-requires-2 : tie.Need-copy-four-requires-2
-copy-four-requires-2 c κs =
+copy_four-requires-2 : tie.Need-copy_four-requires-2
+copy_four-requires-2 c κs =
     let f = c.before.before in
     let e = many f in
-    (omega (arith, e, e.before.pre.1.0), omega (arith, e, e.before.pre.1.1, f.copy-four.auto.1.1.0))
+    (omega (arith, e, e.requires.1.0), omega (arith, e, e.requires.1.1, f.copy_four.auto.out))
 
-same-length-2 : tie.Need-same-length-2
-same-length-2 c = c.before.copy-four2.auto.1.1.0 ∙ (first c).copy-four.auto.1.1.0
+shape_of-out : tie.Need-shape_of-out
+shape_of-out c = c.copy_four-2.auto.out ∙ (first c).copy-four.auto.1.1.0
 
-returns-2 : tie.Need-returns-2
-returns-2 c =
+returns : tie.Need-returns
+returns c =
     let f = first c in
     let e = many f in
-    let a = e.before.args in
+    let a = e.args in
     let G : ℕ → ℤ = λ i. get_or a.values.now i (pos 0) in
     let last : ℕ = a.n - 4 in
     let all : last + 4 ≡ a.n = omega (arith, e) in
-    c.before.copy-four2.ensures
-    ∙ ap (λ (l : List ℤ). sets l (a.at + last) (tab G (a.a + last) 4)) f.copy-four.ensures
-    ∙ sets_tab G a.a 4 last 4 a.out.now a.at (omega (arith, e, e.before.pre.0)) (omega arith)
+    c.copy_four-2.ensures
+    ∙ ap (λ (l : List ℤ). sets l (a.at + last) (tab G (a.a + last) 4)) f.copy_four.ensures
+    ∙ sets_tab G a.a 4 last 4 a.out.now a.at (omega (arith, e, e.requires.0)) (omega arith)
     ∙ ap (λ (i : ℕ). sets a.out.now a.at (tab G a.a i)) all
 
 pub copy_short_spec : {M : Type 1} → statement M
 copy_short_spec =
     tie.close
     (tie.spec
-    copy-each-requires
-    same_length
-    returns
-    copy-four-requires
-    add-copy-four
-    add-copy-four-2
-    copy-four-requires-2
-    same-length-2
-    returns-2)
+    copy_each-requires
+    shape_of-out-then-n-lt4
+    returns-then-n-lt4
+    copy_four-requires
+    overflow_add-a
+    overflow_add-at
+    copy_four-requires-2
+    shape_of-out
+    returns)

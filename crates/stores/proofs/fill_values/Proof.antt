@@ -11,62 +11,62 @@ use Rattle.stores.proofs.StoreLaws.{Storing, begun, more, room, done, same_step,
 use Rattle.stores.proofs.fill_values.Statement.{statement}
 use Rattle.stores.proofs.fill_values.Tie as tie
 
-abbrev invariant-loop : tie.invariant-loop
-invariant-loop v n out₀ at k₀ left₀ out k left =
+abbrev invariant-loop-left : tie.invariant-loop-left
+invariant-loop-left v n out₀ at k₀ left₀ out k left =
     Storing (replicate n (to_z w64 v)) at out₀ (replicate left (to_z w64 v)) k out
 
-abbrev decreases-loop : tie.decreases-loop
-decreases-loop v n out₀ at k₀ left₀ out k left = left
+abbrev decreases-loop-left : tie.decreases-loop-left
+decreases-loop-left v n out₀ at k₀ left₀ out k left = left
 
-module _ (i : tie.In-loop invariant-loop decreases-loop) where
+module _ (i : tie.In-loop-left invariant-loop-left decreases-loop-left) where
   abbrev x : ℤ
-  x = to_z w64 (of_z w64 i.before.before.args.v)
+  x = to_z w64 (of_z w64 i.args.v)
 
-  next : replicate i.before.loop.left x ≡ x ∷ replicate (i.before.loop.left - 1) x
-  next = same_step x i.before.loop.left i.loop-test.taken
+  next : replicate i.loop-left.left x ≡ x ∷ replicate (i.loop-left.left - 1) x
+  next = same_step x i.loop-left.left i.loop-left-test.true
 
-  room_at : i.before.loop.k < length i.before.loop.out
-  room_at = room i.before.loop.inv _ _ next (omega (arith, i.before.before.pre, length-replicate i.before.before.args.n x))
+  room_at : i.loop-left.k < length i.loop-left.out
+  room_at = room i.loop-left.invariant _ _ next (omega (arith, i.requires, length-replicate i.args.n x))
 
-loop-holds : tie.Need-loop-init invariant-loop decreases-loop
-loop-holds c = begun
+loop-left-init : tie.Need-loop-left-init invariant-loop-left decreases-loop-left
+loop-left-init c = begun
 
-mul-v : tie.Need-overflow-mul-v invariant-loop decreases-loop
-mul-v c = let r = room_at c in omega (arith, c, c.before.before)
+offset_bounds-out-k : tie.Need-offset_bounds-out-k invariant-loop-left decreases-loop-left
+offset_bounds-out-k c = let r = room_at c in omega (arith, c, c.before.before)
 
-slice-set-from-v : tie.Need-slice-set-from-v invariant-loop decreases-loop
-slice-set-from-v c = room_at c
+bounds-out-k : tie.Need-bounds-out-k invariant-loop-left decreases-loop-left
+bounds-out-k c = room_at c
 
-add-k : tie.Need-overflow-add-k invariant-loop decreases-loop
-add-k c = let r = room_at c in omega (arith, c, c.before.before)
+overflow_add-k : tie.Need-overflow_add-k invariant-loop-left decreases-loop-left
+overflow_add-k c = let r = room_at c in omega (arith, c, c.before.before)
 
-sub-left : tie.Need-overflow-sub-left invariant-loop decreases-loop
-sub-left c = omega (arith, c)
+overflow_sub-left : tie.Need-overflow_sub-left invariant-loop-left decreases-loop-left
+overflow_sub-left c = omega (arith, c)
 
-loop-less : tie.Need-loop-smaller invariant-loop decreases-loop
-loop-less c = omega (arith, c)
+loop-left-smaller : tie.Need-loop-left-smaller invariant-loop-left decreases-loop-left
+loop-left-smaller c = omega (arith, c)
 
-loop-again : tie.Need-loop-preserved invariant-loop decreases-loop
-loop-again c = more c.before.loop.invariant _ _ (next c) refl
+loop-left-preserved : tie.Need-loop-left-preserved invariant-loop-left decreases-loop-left
+loop-left-preserved c = more c.loop-left.invariant _ _ (next c) refl
 
-same_length : tie.Need-same-length invariant-loop decreases-loop
-same_length c = c.before.loop.invariant.same
+shape_of-out : tie.Need-shape_of-out invariant-loop-left decreases-loop-left
+shape_of-out c = c.loop-left.invariant.same
 
-returns : tie.Need-returns invariant-loop decreases-loop
-returns c = rw (back64 _ c.before.before.ranges.v.sfits) at (done c.before.loop.invariant (same_none _ _ c.loop-test.false))
+returns : tie.Need-returns invariant-loop-left decreases-loop-left
+returns c = rw (back64 _ c.ranges.v.sfits) at (done c.loop-left.invariant (same_none _ _ c.loop-left-test.false))
 
 pub fill_values_spec : {M : Type 1} → statement M
 fill_values_spec =
     tie.close
     (tie.spec
-    invariant-loop
-    decreases-loop
-    loop-holds
-    mul-v
-    slice-set-from-v
-    add-k
-    sub-left
-    loop-less
-    loop-again
-    same_length
+    invariant-loop-left
+    decreases-loop-left
+    loop-left-init
+    offset_bounds-out-k
+    bounds-out-k
+    overflow_add-k
+    overflow_sub-left
+    loop-left-smaller
+    loop-left-preserved
+    shape_of-out
     returns)

@@ -11,42 +11,42 @@ use Rattle.stores.proofs.turn_eight.Statement.{statement}
 use Rattle.stores.proofs.turn_eight.Tie as tie
 
 -- after the first four were copied
-abbrev start : tie.After-turn-four → tie.Start
+abbrev start : tie.After-turn_four → tie.Start
 start f = f.before.before
 
-add-turn-four : tie.Need-overflow-add-turn-four
-add-turn-four c = omega (arith, c, c.requires.0)
+overflow_add-p : tie.Need-overflow_add-p
+overflow_add-p c = omega (arith, c, c.requires.0)
 
-turn-four-requires : tie.Need-turn-four-requires
-turn-four-requires c κs = let s = c.before in (omega (arith, s.requires.0), omega (arith, s.requires.1))
+turn_four-requires : tie.Need-turn_four-requires
+turn_four-requires c κs = let s = c.before in (omega (arith, s.requires.0), omega (arith, s.requires.1))
 
-add-turn-four-2 : tie.Need-overflow-add-turn-four-2
-add-turn-four-2 c = let s = start c.before.before in omega (arith, s, s.pre.1)
+overflow_add-k : tie.Need-overflow_add-k
+overflow_add-k c = let s = start c.before.before in omega (arith, s, s.requires.1)
 
-turn-four-requires-2 : tie.Need-turn-four-requires-2
-turn-four-requires-2 c κs =
+turn_four-requires-2 : tie.Need-turn_four-requires-2
+turn_four-requires-2 c κs =
     let f = c.before.before in
-    (omega (arith, (start f).requires.0), omega (arith, (start f).requires.1, f.turn-four.auto.1.1.0))
+    (omega (arith, (start f).requires.0), omega (arith, (start f).requires.1, f.turn_four.auto.out))
 
-same_length : tie.Need-same-length
-same_length c = c.before.turn-four2.auto.1.1.0 ∙ c.before.before.before.before.turn-four.auto.1.1.0
+shape_of-out : tie.Need-shape_of-out
+shape_of-out c = c.turn_four-2.auto.out ∙ c.turn_four.auto.out
 
 returns : tie.Need-returns
 returns c =
     let f = c.before.before.before.before in
     let a = (start f).args in
     let G : ℕ → ℤ = λ i. get_or a.values.now i (pos 0) in
-    c.before.turn-four2.ensures
-    ∙ ap (λ (l : List ℤ). sets l (a.k + 4) (reverse (tab G a.p 4))) f.turn-four.ensures
-    ∙ back_up G a.p 4 4 a.out.now a.k
+    c.turn_four-2.ensures
+    ∙ ap (λ (l : List ℤ). sets l (a.k + 4) (reverse (tab G a.p 4))) f.turn_four.ensures
+    ∙ back_up G a.p 4 4 a.out-1.now a.k
 
 pub turn_eight_spec : {M : Type 1} → statement M
 turn_eight_spec =
     tie.close
     (tie.spec
-    add-turn-four
-    turn-four-requires
-    add-turn-four-2
-    turn-four-requires-2
-    same_length
+    overflow_add-p
+    turn_four-requires
+    overflow_add-k
+    turn_four-requires-2
+    shape_of-out
     returns)

@@ -8,52 +8,52 @@ use borrow.Author.Rules.{rules}
 use Rattle.sums.proofs.plus_count.Statement.{statement}
 use Rattle.sums.proofs.plus_count.Tie as tie
 
-returns : tie.Need-returns
+returns-then-not-valid : tie.Need-returns-then-not-valid
 unfolding count_if plus summed
-returns c = rw (not-true c.before.args.valid c.if1.true)
+returns-then-not-valid c = rw (not-true c.args.valid c.if-not-valid.true)
 
-enum_told : tie.Need-enum-told
-enum_told c = search
+enum_told-1 : tie.Need-enum_told-1
+enum_told-1 c = search
 
-enum-known-count : tie.Need-enum-known-count
-enum-known-count c = search
+enum_known-count : tie.Need-enum_known-count
+enum_known-count c = search
 
-returns-2 : tie.Need-returns-2
+returns-then-n-lt0 : tie.Need-returns-then-n-lt0
 unfolding count_if summed
-returns-2 c = rw (not-false c.before.before.before.before.before.args.valid c.before.before.before.before.if1.false, c.before.before.count.given.1, plus_negative c.before.before.before.before.before.args.sum c.before.before.count.given.0.0 (rw (back64 _ c.before.known-told.given.0.1) at c.if2.true))
+returns-then-n-lt0 c = rw (not-false c.args.valid c.if-not-valid.false, c.in-Value.is, plus_negative c.args.sum c.in-Value.n (rw (back64 _ c.in-Value.known_told-1-own.given.0.1) at c.if-n-lt0.true))
 
-limit-of-requires : tie.Need-limit-of-requires
-limit-of-requires c κs = search
+limit_of-k-requires : tie.Need-limit_of-k-requires
+limit_of-k-requires c κs = search
 
-sub-if3 : tie.Need-overflow-sub-if3
-sub-if3 c = search rules
+overflow_sub-sum : tie.Need-overflow_sub-sum
+overflow_sub-sum c = search rules
 
-returns-3 : tie.Need-returns-3
+returns-then-sum-k : tie.Need-returns-then-sum-k
 unfolding count_if summed
-returns-3 c = rw (not-false c.before.before.before.before.before.before.before.args.valid c.before.before.before.before.before.before.if1.false, c.before.before.before.before.count.given.1, plus-over c.before.before.before.before.before.before.before.args.sum c.before.before.before.before.count.given.0.0 (rw (back64 _ c.before.before.before.known-told.given.0.1) at c.before.before.if2.false) (omega (arith, c.if3.true, rw (back64 _ c.before.before.before.known-told.given.0.1) at c.before.limit-of.ensures)))
+returns-then-sum-k c = rw (not-false c.args.valid c.if-not-valid.false, c.in-Value.is, plus-over c.args.sum c.in-Value.n (rw (back64 _ c.in-Value.known_told-1-own.given.0.1) at c.if-n-lt0.false) (omega (arith, c.if-sum-k.true, rw (back64 _ c.in-Value.known_told-1-own.given.0.1) at c.limit_of-k.ensures)))
 
-add-t9 : tie.Need-overflow-add-t9
-add-t9 c = search rules
+overflow_add-result : tie.Need-overflow_add-result
+overflow_add-result c = search rules
 
-returns-4 : tie.Need-returns-4
+returns-in-Null : tie.Need-returns-in-Null
 unfolding count_if plus summed
-returns-4 c = rw (not-false c.before.before.before.args.valid c.before.before.if1.false, c.enum_told.given.1)
+returns-in-Null c = rw (not-false c.args.valid c.if-not-valid.false, c.in-Null.is)
 
-returns-5 : tie.Need-returns-5
+returns-else-sum-k : tie.Need-returns-else-sum-k
 unfolding count_if summed
-returns-5 c = rw (not-false c.before.before.before.before.before.before.before.args.valid c.before.before.before.before.before.before.if1.false, c.before.before.before.before.count.given.1, plus-sum c.before.before.before.before.before.before.before.args.sum c.before.before.before.before.count.given.0.0 c.before.limit-of.result (rw (back64 _ c.before.before.before.known-told.given.0.1) at c.before.before.if2.false) (rw (back64 _ c.before.before.before.known-told.given.0.1) at c.before.limit-of.ensures) (omega (arith, c.if3.false)))
+returns-else-sum-k c = rw (not-false c.args.valid c.if-not-valid.false, c.in-Value.is, plus-sum c.args.sum c.in-Value.n c.limit_of-k.result (rw (back64 _ c.in-Value.known_told-1-own.given.0.1) at c.if-n-lt0.false) (rw (back64 _ c.in-Value.known_told-1-own.given.0.1) at c.limit_of-k.ensures) (omega (arith, c.if-sum-k.false)))
 
-pub plus-count_spec : {M : Type 1} → statement M
-plus-count_spec =
+pub plus_count_spec : {M : Type 1} → statement M
+plus_count_spec =
     tie.close
     (tie.spec
-    returns
-    enum_told
-    enum-known-count
-    returns-2
-    limit-of-requires
-    sub-if3
-    returns-3
-    add-t9
-    returns-4
-    returns-5)
+    returns-then-not-valid
+    enum_told-1
+    enum_known-count
+    returns-then-n-lt0
+    limit_of-k-requires
+    overflow_sub-sum
+    returns-then-sum-k
+    overflow_add-result
+    returns-in-Null
+    returns-else-sum-k)

@@ -6,27 +6,33 @@ use borrow.Author.Rules.{rules}
 use Rattle.tally.proofs.settle.Statement.{statement}
 use Rattle.tally.proofs.settle.Tie as tie
 
-enum_told : tie.Need-enum-told
-enum_told c = search rules
+enum_told-1 : tie.Need-enum_told-1
+enum_told-1 c = search rules
 
-with-refused-requires : tie.Need-with-refused-requires
-with-refused-requires c κs = search rules
+with_refused-requires : tie.Need-with_refused-requires
+with_refused-requires c κs = search rules
 
-enum-told-2 : tie.Need-enum-told-2
-enum-told-2 c = search rules
+enum_told-in-Counts : tie.Need-enum_told-in-Counts
+enum_told-in-Counts c = search rules
 
-with-finished-requires : tie.Need-with-finished-requires
-with-finished-requires c κs = search rules
+with_finished-requires : tie.Need-with_finished-requires
+with_finished-requires c κs = search rules
 
-returns : tie.Need-returns
+returns-in-Refused : tie.Need-returns-in-Refused
 unfolding told outcome_of move_of outcome_at
-returns c = (refl, rw (c.with-refused.ensures, c.before.enum_told.given.1))
+returns-in-Refused c = (refl, rw (c.with_refused.ensures, c.in-Refused.is))
 
-returns-2 : tie.Need-returns-2
+returns-in-Counts : tie.Need-returns-in-Counts
 unfolding told outcome_of move_of outcome_at
-returns-2 c = (refl, rw (c.with-finished.ensures, c.before.enum-told2.given.1))
+returns-in-Counts c = (refl, rw (c.with_finished.ensures, c.in-Counts.is))
 
 pub settle_spec : {M : Type 1} → statement M
 settle_spec =
     tie.close
-    (tie.spec enum_told with-refused-requires enum-told-2 with-finished-requires returns returns-2)
+    (tie.spec
+    enum_told-1
+    with_refused-requires
+    enum_told-in-Counts
+    with_finished-requires
+    returns-in-Refused
+    returns-in-Counts)

@@ -15,56 +15,56 @@ use Rattle.tally_bytes.proofs.get_counts.Tie as tie
 abbrev count : List ℕ → ℕ → ℕ → ℕ
 count s at k = number 8 s (at + k * 8)
 
-abbrev invariant-loop : tie.invariant-loop
-invariant-loop bytes at counts₀ i₀ counts i = Reading (count bytes at) 16 counts₀ counts i
+abbrev invariant-loop-i : tie.invariant-loop-i
+invariant-loop-i bytes at counts₀ i₀ counts i = Reading (count bytes at) 16 counts₀ counts i
 
-abbrev decreases-loop : tie.decreases-loop
-decreases-loop bytes at counts₀ i₀ counts i = 16 - i
+abbrev decreases-loop-i : tie.decreases-loop-i
+decreases-loop-i bytes at counts₀ i₀ counts i = 16 - i
 
-loop-holds : tie.Need-loop-init invariant-loop decreases-loop
-loop-holds c = begun (count _ _) _ _
+loop-i-init : tie.Need-loop-i-init invariant-loop-i decreases-loop-i
+loop-i-init c = begun (count _ _) _ _
 
-mul-get-u64 : tie.Need-overflow-mul-get-u64 invariant-loop decreases-loop
-mul-get-u64 c = omega arith
+overflow_mul-i : tie.Need-overflow_mul-i invariant-loop-i decreases-loop-i
+overflow_mul-i c = omega arith
 
-add-get-u64 : tie.Need-overflow-add-get-u64 invariant-loop decreases-loop
-add-get-u64 c = omega (arith, c.before.before.before.requires, c.before.before)
+overflow_add-at : tie.Need-overflow_add-at invariant-loop-i decreases-loop-i
+overflow_add-at c = omega (arith, c.requires, c.before.before)
 
-get-u64-requires : tie.Need-get-u64-requires invariant-loop decreases-loop
-get-u64-requires c κs = omega (arith, c.before.before.before.requires)
+get_u64-requires : tie.Need-get_u64-requires invariant-loop-i decreases-loop-i
+get_u64-requires c κs = omega (arith, c.requires)
 
-mul-counts : tie.Need-overflow-mul-counts invariant-loop decreases-loop
-mul-counts c = omega arith
+offset_bounds-counts-i : tie.Need-offset_bounds-counts-i invariant-loop-i decreases-loop-i
+offset_bounds-counts-i c = omega arith
 
-array-write-counts : tie.Need-array-write-counts invariant-loop decreases-loop
-array-write-counts c = c.before.loop-test.true
+bounds-counts-i : tie.Need-bounds-counts-i invariant-loop-i decreases-loop-i
+bounds-counts-i c = c.loop-i-test.true
 
-add-i : tie.Need-overflow-add-i invariant-loop decreases-loop
-add-i c = omega arith
+overflow_add-i : tie.Need-overflow_add-i invariant-loop-i decreases-loop-i
+overflow_add-i c = omega arith
 
-loop-less : tie.Need-loop-smaller invariant-loop decreases-loop
-loop-less c = omega arith
+loop-i-smaller : tie.Need-loop-i-smaller invariant-loop-i decreases-loop-i
+loop-i-smaller c = omega arith
 
-loop-again : tie.Need-loop-preserved invariant-loop decreases-loop
-loop-again c = turned (count _ _) _ _ _ _ _ c.before.before.loop.invariant c.before.loop-test.true (omega arith) c.get-u64.ensures
+loop-i-preserved : tie.Need-loop-i-preserved invariant-loop-i decreases-loop-i
+loop-i-preserved c = turned (count _ _) _ _ _ _ _ c.loop-i.invariant c.loop-i-test.true (omega arith) c.get_u64.ensures
 
-returns : tie.Need-returns invariant-loop decreases-loop
+returns : tie.Need-returns invariant-loop-i decreases-loop-i
 unfolding counts_from
-returns c = done (count _ _) _ _ _ _ c.before.loop.invariant c.loop-test.false ∙ whole _ _ (sym (length-tab (count _ _) 0 16))
+returns c = done (count _ _) _ _ _ _ c.loop-i.invariant c.loop-i-test.false ∙ whole _ _ (sym (length-tab (count _ _) 0 16))
 
 pub get_counts_spec : {M : Type 1} → statement M
 get_counts_spec =
     tie.close
     (tie.spec
-    invariant-loop
-    decreases-loop
-    loop-holds
-    mul-get-u64
-    add-get-u64
-    get-u64-requires
-    mul-counts
-    array-write-counts
-    add-i
-    loop-less
-    loop-again
+    invariant-loop-i
+    decreases-loop-i
+    loop-i-init
+    overflow_mul-i
+    overflow_add-at
+    get_u64-requires
+    offset_bounds-counts-i
+    bounds-counts-i
+    overflow_add-i
+    loop-i-smaller
+    loop-i-preserved
     returns)

@@ -15,58 +15,58 @@ use Rattle.typed.proofs.put_counts.Tie as tie
 abbrev number : List ℕ → ℕ → ℕ
 number ns k = get_or ns k 0
 
-abbrev invariant-loop : tie.invariant-loop
-invariant-loop ns s₀ i₀ s i = Reading (number ns) (length ns) s₀ s i
+abbrev invariant-loop-i : tie.invariant-loop-i
+invariant-loop-i ns s₀ i₀ s i = Reading (number ns) (length ns) s₀ s i
 
-abbrev decreases-loop : tie.decreases-loop
-decreases-loop ns s₀ i₀ s i = length ns - i
+abbrev decreases-loop-i : tie.decreases-loop-i
+decreases-loop-i ns s₀ i₀ s i = length ns - i
 
-loop-holds : tie.Need-loop-init invariant-loop decreases-loop
-loop-holds c = begun (number c.args.ns.now) _ _
+loop-i-init : tie.Need-loop-i-init invariant-loop-i decreases-loop-i
+loop-i-init c = begun (number c.args.ns.now) _ _
 
-mul-s : tie.Need-overflow-mul-s invariant-loop decreases-loop
-mul-s c = search rules
+offset_bounds-ns-i : tie.Need-offset_bounds-ns-i invariant-loop-i decreases-loop-i
+offset_bounds-ns-i c = search rules
 
-shared-slice-read-s : tie.Need-shared-slice-read-s invariant-loop decreases-loop
-shared-slice-read-s c = c.before.loop-test.true
+bounds-ns-i : tie.Need-bounds-ns-i invariant-loop-i decreases-loop-i
+bounds-ns-i c = c.loop-i-test.true
 
-mul-s-2 : tie.Need-overflow-mul-s-2 invariant-loop decreases-loop
-mul-s-2 c = search rules
+offset_bounds-s-i : tie.Need-offset_bounds-s-i invariant-loop-i decreases-loop-i
+offset_bounds-s-i c = search rules
 
-slice-write-s : tie.Need-slice-write-s invariant-loop decreases-loop
-slice-write-s c = let s = c.before.before in omega (arith, c.before.loop-test.true, s.before.requires, s.loop.invariant.same)
+bounds-s-i : tie.Need-bounds-s-i invariant-loop-i decreases-loop-i
+bounds-s-i c = let s = c.before.before in omega (arith, c.loop-i-test.true, s.requires, s.loop-i.invariant.same)
 
-add-i : tie.Need-overflow-add-i invariant-loop decreases-loop
-add-i c = search rules
+overflow_add-i : tie.Need-overflow_add-i invariant-loop-i decreases-loop-i
+overflow_add-i c = search rules
 
-loop-less : tie.Need-loop-smaller invariant-loop decreases-loop
-loop-less c = omega arith
+loop-i-smaller : tie.Need-loop-i-smaller invariant-loop-i decreases-loop-i
+loop-i-smaller c = omega arith
 
-loop-again : tie.Need-loop-preserved invariant-loop decreases-loop
-loop-again c = let s = c.before.before in turned (number s.before.args.ns.now) _ _ _ _ _ s.loop.invariant c.before.loop-test.true s.before.requires refl
+loop-i-preserved : tie.Need-loop-i-preserved invariant-loop-i decreases-loop-i
+loop-i-preserved c = let s = c.before.before in turned (number s.args.ns.now) _ _ _ _ _ s.loop-i.invariant c.loop-i-test.true s.requires refl
 
-same_length : tie.Need-same-length invariant-loop decreases-loop
-same_length c = c.before.loop.invariant.same
+shape_of-s : tie.Need-shape_of-s invariant-loop-i decreases-loop-i
+shape_of-s c = c.loop-i.invariant.same
 
-returns : tie.Need-returns invariant-loop decreases-loop
+returns : tie.Need-returns invariant-loop-i decreases-loop-i
 returns c =
-    let a = c.before.before.args in
+    let a = c.args in
     let ns = a.ns.now in
-    done (number ns) _ _ _ _ c.before.loop.invariant c.loop-test.false ∙ ap (λ w. over w a.s.now) (tab-get_or (number ns) 0 ns 0 (λ i _. ap (λ (k : ℕ). get_or ns k 0) (zero-add i)))
+    done (number ns) _ _ _ _ c.loop-i.invariant c.loop-i-test.false ∙ ap (λ w. over w a.s.now) (tab-get_or (number ns) 0 ns 0 (λ i _. ap (λ (k : ℕ). get_or ns k 0) (zero-add i)))
 
 pub put_counts_spec : {M : Type 1} → statement M
 put_counts_spec =
     tie.close
     (tie.spec
-    invariant-loop
-    decreases-loop
-    loop-holds
-    mul-s
-    shared-slice-read-s
-    mul-s-2
-    slice-write-s
-    add-i
-    loop-less
-    loop-again
-    same_length
+    invariant-loop-i
+    decreases-loop-i
+    loop-i-init
+    offset_bounds-ns-i
+    bounds-ns-i
+    offset_bounds-s-i
+    bounds-s-i
+    overflow_add-i
+    loop-i-smaller
+    loop-i-preserved
+    shape_of-s
     returns)

@@ -4,39 +4,39 @@ use Rattle.typed.proofs.TypedLaws.{list-refused, list-made}
 use Rattle.typed.proofs.put_list.Statement.{statement}
 use Rattle.typed.proofs.put_list.Tie as tie
 
-enum-known-answer : tie.Need-enum-known-answer
-enum-known-answer c = search rules
+enum_known-answer : tie.Need-enum_known-answer
+enum_known-answer c = search rules
 
-cast-result : tie.Need-overflow-cast-result
-cast-result c = search rules
+overflow_cast-result : tie.Need-overflow_cast-result
+overflow_cast-result c = search rules
 
-enum-known-answer-2 : tie.Need-enum-known-answer-2
-enum-known-answer-2 c = search rules
+enum_known-answer-in-Counts-1 : tie.Need-enum_known-answer-in-Counts-1
+enum_known-answer-in-Counts-1 c = search rules
 
-slice-aggregate-put-counts : tie.Need-slice-aggregate-put-counts
-slice-aggregate-put-counts c = search rules
+slice_bounds-put_counts-end : tie.Need-slice_bounds-put_counts-end
+slice_bounds-put_counts-end c = search rules
 
-put-counts-requires : tie.Need-put-counts-requires
-put-counts-requires c κs = search rules
+put_counts-requires : tie.Need-put_counts-requires
+put_counts-requires c κs = search rules
 
-returns : tie.Need-returns
-returns c = list-refused _ c.before.answer.given.1
+returns-in-Refused : tie.Need-returns-in-Refused
+returns-in-Refused c = list-refused _ c.in-Refused.is
 
-same_length : tie.Need-same-length
-same_length c = search rules
+shape_of-counts : tie.Need-shape_of-counts
+shape_of-counts c = search rules
 
-returns-2 : tie.Need-returns-2
-returns-2 c = let p = c.before.before in list-made p.before.before.before.before.answer2.given.1 p.put-counts.ensures
+returns-in-Counts : tie.Need-returns-in-Counts
+returns-in-Counts c = let p = c.before.before in list-made p.in-Counts.is p.put_counts.ensures
 
 pub put_list_spec : {M : Type 1} → statement M
 put_list_spec =
     tie.close
     (tie.spec
-    enum-known-answer
-    cast-result
-    enum-known-answer-2
-    slice-aggregate-put-counts
-    put-counts-requires
-    returns
-    same_length
-    returns-2)
+    enum_known-answer
+    overflow_cast-result
+    enum_known-answer-in-Counts-1
+    slice_bounds-put_counts-end
+    put_counts-requires
+    returns-in-Refused
+    shape_of-counts
+    returns-in-Counts)

@@ -32,132 +32,132 @@ abbrev N : tie.Start → Limits
 N s = limits_at s.args.width
 
 abbrev A : tie.Start → Arguments
-A s = arguments s.args.indexes.now (from s.args.istart s.args.index-bits.now)
+A s = arguments s.args.indexes.now (from s.args.istart s.args.index_bits.now)
 
-abbrev S : tie.After-list-refusal → tie.Start
+abbrev S : tie.After-list_refusal-k → tie.Start
 S f = f.before.before.before.before.before
 
 -- the indexes' starting bit is not over 7
-in_byte : (f : tie.After-list-refusal) → (S f).args.istart ≤ 7
+in_byte : (f : tie.After-list_refusal-k) → (S f).args.istart ≤ 7
 in_byte f = omega (arith, f.before)
 
-in_byteᵇ : (f : tie.After-list-refusal) → ltb 7 (S f).args.istart ≡ false
+in_byteᵇ : (f : tie.After-list_refusal-k) → ltb 7 (S f).args.istart ≡ false
 in_byteᵇ f = le-ltb 7 (S f).args.istart (in_byte f)
 
 -- the place after 1 and 2 of the list, of 2 of the indexes, and of 3
-abbrev S₂ : tie.Else3 → tie.Start
+abbrev S₂ : tie.Else-is_short → tie.Start
 S₂ e = S e.before.before.before
 
-abbrev S₃ : tie.Else4 → tie.Start
+abbrev S₃ : tie.Else-indexes-n → tie.Start
 S₃ e = S₂ e.before.before
 
 by_count : {b : Bits} {n m : ℕ} → n ≡ m → Covers b m → Covers b n
 by_count e h = rw e h
 
-list-formed : (e : tie.Else2) → Readable (C (S e.before))
-list-formed e = let s = S e.before in readable (C s) (sym e.before.list-refusal.ensures ∙ e.if2.false)
+list-formed : (e : tie.Else-k-ne0) → Readable (C (S e.before))
+list-formed e = let s = S e.before in readable (C s) (sym e.list_refusal-k.ensures ∙ e.if-k-ne0.false)
 
-bits-formed : (e : tie.Else3) → Covers (A (S₂ e)).bits (length (A (S₂ e)).values)
-bits-formed e = record { small = omega (arith, in_byte e.before.before.before); long = sym e.before.is-short.ensures ∙ e.if3.false }
+bits-formed : (e : tie.Else-is_short) → Covers (A (S₂ e)).bits (length (A (S₂ e)).values)
+bits-formed e = record { small = omega (arith, in_byte e.before.before.before); long = sym e.is_short.ensures ∙ e.if-is_short.false }
 
-shows : (e : tie.Else3) (l : ValueRoom) → element_outcome (N (S₂ e)) (C (S₂ e)) (A (S₂ e)) l ≡ element_shown (N (S₂ e)) (rows_of (C (S₂ e))) (shown_by (A (S₂ e))) l
+shows : (e : tie.Else-is_short) (l : ValueRoom) → element_outcome (N (S₂ e)) (C (S₂ e)) (A (S₂ e)) l ≡ element_shown (N (S₂ e)) (rows_of (C (S₂ e))) (shown_by (A (S₂ e))) l
 shows e l =
     let f = e.before.before.before in
-    element-shown (N (S f)) (C (S f)) (A (S f)) l (in_byteᵇ f) _ f.list-refusal.ensures e.before.before.if2.false (sym e.before.is-short.ensures ∙ e.if3.false)
+    element-shown (N (S f)) (C (S f)) (A (S f)) l (in_byteᵇ f) _ f.list_refusal-k.ensures e.if-k-ne0.false (sym e.is_short.ensures ∙ e.if-is_short.false)
 
-counted : (e : tie.Else4) → length (A (S₃ e)).values ≡ row_count (C (S₃ e)).offsets
-counted e = e.if4.false ∙ e.before.row_count.ensures
+counted : (e : tie.Else-indexes-n) → length (A (S₃ e)).values ≡ row_count (C (S₃ e)).offsets
+counted e = e.if-indexes-n.false ∙ e.row_count-n.ensures
 
 -- the call, once none of 1, 2 and 3 applies
-goes : (e : tie.Else4) (l : ValueRoom) → let s = S₃ e in element_outcome (N s) (C s) (A s) l ≡ gate (first_of (tab (four_at (N s) (C s).rows (A s).values (A s).bits) 0 (row_count (C s).offsets))) (fitted_values (values_made V'.Element (C s) (A s)) l)
+goes : (e : tie.Else-indexes-n) (l : ValueRoom) → let s = S₃ e in element_outcome (N s) (C s) (A s) l ≡ gate (first_of (tab (four_at (N s) (C s).rows (A s).values (A s).bits) 0 (row_count (C s).offsets))) (fitted_values (values_made V'.Element (C s) (A s)) l)
 goes e l = let s = S₃ e in shows e.before.before l ∙ element_goes (N s) (C s) (A s) l (counted e)
 
-fours : (k : tie.After-index-refusal) → let s = S₃ k.before.before.before in k.index-refusal.result ≡ first_of (tab (four_at (N s) (C s).rows (A s).values (A s).bits) 0 (row_count (C s).offsets))
+fours : (k : tie.After-index_refusal) → let s = S₃ k.before.before in k.index_refusal.result ≡ first_of (tab (four_at (N s) (C s).rows (A s).values (A s).bits) 0 (row_count (C s).offsets))
 fours k =
     let t = k.before in
-    let e = t.before.before in
+    let e = t.before in
     let s = S₃ e in
-    k.index-refusal.ensures
-    ∙ ap (λ (n : ℕ). first_of (tab (four_at narrow (C s).rows (A s).values (A s).bits) 0 n)) e.before.row_count.ensures
-    ∙ ap (λ (w : Width). first_of (tab (four_at (limits_at w) (C s).rows (A s).values (A s).bits) 0 (row_count (C s).offsets))) (sym t.enum_told.given.1)
+    k.index_refusal.ensures
+    ∙ ap (λ (n : ℕ). first_of (tab (four_at narrow (C s).rows (A s).values (A s).bits) 0 n)) e.row_count-n.ensures
+    ∙ ap (λ (w : Width). first_of (tab (four_at (limits_at w) (C s).rows (A s).values (A s).bits) 0 (row_count (C s).offsets))) (sym t.in-Narrow.is)
 
 -- none of a large list
-none : (t : tie.After-enum-told2) → let s = S₃ t.before.before in first_of (tab (four_at (N s) (C s).rows (A s).values (A s).bits) 0 (row_count (C s).offsets)) ≡ 0
+none : (t : tie.In-Wide) → let s = S₃ t.before in first_of (tab (four_at (N s) (C s).rows (A s).values (A s).bits) 0 (row_count (C s).offsets)) ≡ 0
 none t =
-    let s = S₃ t.before.before in
-    no_fours (N s) (ap (λ (w : Width). (limits_at w).every) t.enum-told2.given.1) (C s).rows (A s).values (A s).bits 0 (row_count (C s).offsets)
+    let s = S₃ t.before in
+    no_fours (N s) (ap (λ (w : Width). (limits_at w).every) t.in-Wide.is) (C s).rows (A s).values (A s).bits 0 (row_count (C s).offsets)
 
-returns : tie.Need-returns
-returns c =
+returns-then-istart-gt7 : tie.Need-returns-then-istart-gt7
+returns-then-istart-gt7 c =
     let s = c.before.before.before.before in
     refuses (N s) (C s) (A s) 13 (λ z. omega arith) (λ l. element_starts (N s) (C s) (A s) l (lt-ltb 7 s.args.istart (omega arith)))
 
-list-refusal-requires : tie.Need-list-refusal-requires
-list-refusal-requires c κs = search
+list_refusal-k-requires : tie.Need-list_refusal-k-requires
+list_refusal-k-requires c κs = search
 
-returns-2 : tie.Need-returns-2
-returns-2 c = let s = S c.before in refuses (N s) (C s) (A s) _ c.if2.true (λ l. element_early (N s) (C s) (A s) l (in_byteᵇ c.before) _ c.before.list-refusal.ensures c.if2.true)
+returns-then-k-ne0 : tie.Need-returns-then-k-ne0
+returns-then-k-ne0 c = let s = S c.before in refuses (N s) (C s) (A s) _ c.if-k-ne0.true (λ l. element_early (N s) (C s) (A s) l (in_byteᵇ c.before) _ c.list_refusal-k.ensures c.if-k-ne0.true)
 
-is-short-requires : tie.Need-is-short-requires
-is-short-requires c κs = omega (arith, in_byte c.before)
+is_short-requires : tie.Need-is_short-requires
+is_short-requires c κs = omega (arith, in_byte c.before)
 
-returns-3 : tie.Need-returns-3
-returns-3 c =
+returns-then-is_short : tie.Need-returns-then-is_short
+returns-then-is_short c =
     let f = c.before.before.before in
-    refuses (N (S f)) (C (S f)) (A (S f)) 2 (λ z. omega arith) (λ l. element-two (N (S f)) (C (S f)) (A (S f)) l (in_byteᵇ f) _ f.list-refusal.ensures c.before.before.if2.false (sym c.before.is-short.ensures ∙ c.if3.true))
+    refuses (N (S f)) (C (S f)) (A (S f)) 2 (λ z. omega arith) (λ l. element-two (N (S f)) (C (S f)) (A (S f)) l (in_byteᵇ f) _ f.list_refusal-k.ensures c.if-k-ne0.false (sym c.is_short.ensures ∙ c.if-is_short.true))
 
-row-count-requires : tie.Need-row-count-requires
-row-count-requires c κs = search
+row_count-n-requires : tie.Need-row_count-n-requires
+row_count-n-requires c κs = search
 
-returns-4 : tie.Need-returns-4
-returns-4 c =
+returns-then-indexes-n : tie.Need-returns-then-indexes-n
+returns-then-indexes-n c =
     let e = c.before.before in
     let s = S₂ e in
-    refuses (N s) (C s) (A s) 3 (λ z. omega arith) (λ l. shows e l ∙ element_three (N s) (C s) (A s) l (λ z. c.if4.true (z ∙ sym c.before.row_count.ensures)))
+    refuses (N s) (C s) (A s) 3 (λ z. omega arith) (λ l. shows e l ∙ element_three (N s) (C s) (A s) l (λ z. c.if-indexes-n.true (z ∙ sym c.row_count-n.ensures)))
 
-enum_told : tie.Need-enum-told
-enum_told c = search
+enum_told-1 : tie.Need-enum_told-1
+enum_told-1 c = search
 
-index-refusal-requires : tie.Need-index-refusal-requires
-index-refusal-requires c κs =
-    let f = c.before.before in
+index_refusal-requires : tie.Need-index_refusal-requires
+index_refusal-requires c κs =
+    let f = c.before in
     let e = f.before.before in
-    (by_count f.before.row_count.ensures (list-formed e.before.before).rows, (by_count (sym f.if4.false) (bits-formed e), f.if4.false))
+    (by_count f.row_count-n.ensures (list-formed e.before.before).rows, (by_count (sym f.if-indexes-n.false) (bits-formed e), f.if-indexes-n.false))
 
-enum-told-2 : tie.Need-enum-told-2
-enum-told-2 c = search
+enum_told-in-Wide : tie.Need-enum_told-in-Wide
+enum_told-in-Wide c = search
 
-returns-5 : tie.Need-returns-5
-returns-5 c =
-    let g = c.before.before.before in
+returns-in-Narrow : tie.Need-returns-in-Narrow
+returns-in-Narrow c =
+    let g = c.before.before in
     record {
       outcome = λ l. rw (fours c) (goes g l);
       list = λ z. list-formed g.before.before.before.before;
       indexes = λ z. record { many = counted g; bits = by_count (sym (counted g)) (bits-formed g.before.before) };
     }
 
-returns-6 : tie.Need-returns-6
-returns-6 c =
-    let g = c.before.before in
+returns-in-Wide : tie.Need-returns-in-Wide
+returns-in-Wide c =
+    let g = c.before in
     record {
       outcome = λ l. rw (none c) at (goes g l);
       list = λ z. list-formed g.before.before.before.before;
       indexes = λ z. record { many = counted g; bits = by_count (sym (counted g)) (bits-formed g.before.before) };
     }
 
-pub element-refusal_spec : {M : Type 1} → statement M
-element-refusal_spec =
+pub element_refusal_spec : {M : Type 1} → statement M
+element_refusal_spec =
     tie.close
     (tie.spec
-    returns
-    list-refusal-requires
-    returns-2
-    is-short-requires
-    returns-3
-    row-count-requires
-    returns-4
-    enum_told
-    index-refusal-requires
-    enum-told-2
-    returns-5
-    returns-6)
+    returns-then-istart-gt7
+    list_refusal-k-requires
+    returns-then-k-ne0
+    is_short-requires
+    returns-then-is_short
+    row_count-n-requires
+    returns-then-indexes-n
+    enum_told-1
+    index_refusal-requires
+    enum_told-in-Wide
+    returns-in-Narrow
+    returns-in-Wide)

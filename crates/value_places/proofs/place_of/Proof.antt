@@ -3,31 +3,37 @@ use Rattle.value_places.specs.Values.{Indexed, PlaceOf}
 use Rattle.value_places.proofs.place_of.Statement.{statement}
 use Rattle.value_places.proofs.place_of.Tie as tie
 
-enum_told : tie.Need-enum-told
-enum_told c = search
+enum_told-1 : tie.Need-enum_told-1
+enum_told-1 c = search
 
-first-valid-requires : tie.Need-first-valid-requires
-first-valid-requires c κs = search
+first_valid-requires : tie.Need-first_valid-requires
+first_valid-requires c κs = search
 
-enum-told-2 : tie.Need-enum-told-2
-enum-told-2 c = search
+enum_told-in-Element : tie.Need-enum_told-in-Element
+enum_told-in-Element c = search
 
-element-place-requires : tie.Need-element-place-requires
+element_place-requires : tie.Need-element_place-requires
 unfolding Indexed
-element-place-requires c κs =
-    let s = c.before.before.before.before in
-    let x = rw c.enum-told2.given.1 at s.requires.1.0 in
+element_place-requires c κs =
+    let s = c.before.before.before in
+    let x = rw c.in-Element.is at s.requires.1.0 in
     (x.bits, (x.many, (s.requires.1.1.0, (omega (arith, s.requires.1.1.1), omega (arith, s.requires.1.1.1)))))
 
-returns : tie.Need-returns
+returns-in-AnyValue : tie.Need-returns-in-AnyValue
 unfolding PlaceOf
-returns c = rw c.before.enum_told.given.1 c.first-valid.ensures
+returns-in-AnyValue c = rw c.in-AnyValue.is c.first_valid.ensures
 
-returns-2 : tie.Need-returns-2
+returns-in-Element : tie.Need-returns-in-Element
 unfolding PlaceOf
-returns-2 c = rw c.before.enum-told2.given.1 c.element_place.ensures
+returns-in-Element c = rw c.in-Element.is c.element_place.ensures
 
 pub place_of_spec : {M : Type 1} → statement M
 place_of_spec =
     tie.close
-    (tie.spec enum_told first-valid-requires enum-told-2 element-place-requires returns returns-2)
+    (tie.spec
+    enum_told-1
+    first_valid-requires
+    enum_told-in-Element
+    element_place-requires
+    returns-in-AnyValue
+    returns-in-Element)

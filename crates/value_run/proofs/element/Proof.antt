@@ -8,41 +8,41 @@ use Rattle.value_places.specs.Values.{Indexed}
 use Rattle.value_run.proofs.element.Statement.{statement}
 use Rattle.value_run.proofs.element.Tie as tie
 
-abbrev L : tie.After-element-refusal → ValueRoom
-L f = let a = f.before.before.before.before.before.args in value_room (length a.out-values.now) (length a.out-rows.now)
+abbrev L : tie.After-element_refusal-k → ValueRoom
+L f = let a = f.args in value_room (length a.out_values.now) (length a.out_rows.now)
 
-element-refusal-requires : tie.Need-element-refusal-requires
-element-refusal-requires c κs = search
+element_refusal-k-requires : tie.Need-element_refusal-k-requires
+element_refusal-k-requires c κs = search
 
-returns : tie.Need-returns
-returns c = let f = c.before in value_refused _ (f.element-refusal.ensures.outcome (L f) ∙ gate_shut _ _ c.if1.true)
+returns-then-k-ne0 : tie.Need-returns-then-k-ne0
+returns-then-k-ne0 c = let f = c.before in value_refused _ (f.element_refusal-k.ensures.outcome (L f) ∙ gate_shut _ _ c.if-k-ne0.true)
 
-write-fitting-requires : tie.Need-write-fitting-requires
+write_fitting-requires : tie.Need-write_fitting-requires
 unfolding Indexed
-write-fitting-requires c κs =
+write_fitting-requires c κs =
     let e = c.before.before in
     let f = e.before in
-    (f.element-refusal.ensures.list e.if1.false, f.element-refusal.ensures.indexes e.if1.false)
+    (f.element_refusal-k.ensures.list e.if-k-ne0.false, f.element_refusal-k.ensures.indexes e.if-k-ne0.false)
 
-same_length : tie.Need-same-length
-same_length c = search
+shape_of-out_values : tie.Need-shape_of-out_values
+shape_of-out_values c = search
 
-same-length-2 : tie.Need-same-length-2
-same-length-2 c = search
+shape_of-out_rows : tie.Need-shape_of-out_rows
+shape_of-out_rows c = search
 
-returns-2 : tie.Need-returns-2
-returns-2 c =
+returns : tie.Need-returns
+returns c =
     let e = c.before.before.before.before.before.before in
     let f = e.before in
-    rw (f.element-refusal.ensures.outcome (L f) ∙ gate_open _ _ e.if1.false) c.before.before.before.write-fitting.ensures
+    rw (f.element_refusal-k.ensures.outcome (L f) ∙ gate_open _ _ e.if-k-ne0.false) c.write_fitting.ensures
 
 pub element_spec : {M : Type 1} → statement M
 element_spec =
     tie.close
     (tie.spec
-    element-refusal-requires
-    returns
-    write-fitting-requires
-    same_length
-    same-length-2
-    returns-2)
+    element_refusal-k-requires
+    returns-then-k-ne0
+    write_fitting-requires
+    shape_of-out_values
+    shape_of-out_rows
+    returns)

@@ -11,44 +11,44 @@ use Rattle.value_run.proofs.LengthLaws.{element-lengths}
 use Rattle.value_run.proofs.element_lengths.Statement.{statement}
 use Rattle.value_run.proofs.element_lengths.Tie as tie
 
-abbrev S : tie.After-element-refusal → tie.Start
+abbrev S : tie.After-element_refusal-k → tie.Start
 S f = f.before.before.before.before
 
 abbrev C : tie.Start → Column
-C s = let a = s.args in column (used a.width a.offsets.now a.large.now) (from a.rows_start a.rows.now) a.values.now (from a.elements-start a.elements.now)
+C s = let a = s.args in column (used a.width a.offsets.now a.large.now) (from a.rows_start a.rows.now) a.values.now (from a.elements_start a.elements.now)
 
 abbrev A : tie.Start → Arguments
-A s = arguments s.args.indexes.now (from s.args.index-start s.args.index-bits.now)
+A s = arguments s.args.indexes.now (from s.args.index_start s.args.index_bits.now)
 
-asked : (f : tie.After-element-refusal) → let s = S f in element_lengths (limits_at s.args.width) (C s) (A s) ≡ gate f.element-refusal.result (made (value_room_for (row_count (C s).offsets)))
-asked f = element-lengths (limits_at (S f).args.width) (C (S f)) (A (S f)) _ f.element-refusal.ensures
+asked : (f : tie.After-element_refusal-k) → let s = S f in element_lengths (limits_at s.args.width) (C s) (A s) ≡ gate f.element_refusal-k.result (made (value_room_for (row_count (C s).offsets)))
+asked f = element-lengths (limits_at (S f).args.width) (C (S f)) (A (S f)) _ f.element_refusal-k.ensures
 
-element-refusal-requires : tie.Need-element-refusal-requires
-element-refusal-requires c κs = search
+element_refusal-k-requires : tie.Need-element_refusal-k-requires
+element_refusal-k-requires c κs = search
+
+returns-then-k-ne0 : tie.Need-returns-then-k-ne0
+unfolding asked_values
+returns-then-k-ne0 c = sym (asked c.before ∙ gate_shut _ _ c.if-k-ne0.true)
+
+row_count-requires : tie.Need-row_count-requires
+row_count-requires c κs = search
+
+value_lengths_for-requires : tie.Need-value_lengths_for-requires
+value_lengths_for-requires c κs = search
 
 returns : tie.Need-returns
-unfolding asked_values
-returns c = sym (asked c.before ∙ gate_shut _ _ c.if1.true)
-
-row-count-requires : tie.Need-row-count-requires
-row-count-requires c κs = search
-
-value-lengths-for-requires : tie.Need-value-lengths-for-requires
-value-lengths-for-requires c κs = search
-
-returns-2 : tie.Need-returns-2
-returns-2 c =
+returns c =
     let e = c.before.before in
-    c.value-lengths-for.ensures
-    ∙ ap (λ (n : ℕ). made (value_room_for n)) c.before.row_count.ensures
-    ∙ sym (asked e.before ∙ gate_open _ _ e.if1.false)
+    c.value_lengths_for.ensures
+    ∙ ap (λ (n : ℕ). made (value_room_for n)) c.row_count.ensures
+    ∙ sym (asked e.before ∙ gate_open _ _ e.if-k-ne0.false)
 
-pub element-lengths_spec : {M : Type 1} → statement M
-element-lengths_spec =
+pub element_lengths_spec : {M : Type 1} → statement M
+element_lengths_spec =
     tie.close
     (tie.spec
-    element-refusal-requires
-    returns
-    row-count-requires
-    value-lengths-for-requires
-    returns-2)
+    element_refusal-k-requires
+    returns-then-k-ne0
+    row_count-requires
+    value_lengths_for-requires
+    returns)

@@ -17,47 +17,47 @@ R s = from s.args.rstart s.args.rows.now
 ends : (s : tie.Start) → s.args.a + len_from (R s) s.args.r s.args.a s.args.b ≤ s.args.b
 ends s = let a = s.args in let l = len_from_le (R s) a.r a.a a.b s.requires.0.rises in omega (arith, s.requires.0.rises)
 
-row-len-requires : tie.Need-row-len-requires
-row-len-requires c κs = search
+row_len-k-requires : tie.Need-row_len-k-requires
+row_len-k-requires c κs = search
 
-place-of-requires : tie.Need-place-of-requires
-place-of-requires c κs =
+place_of-i-requires : tie.Need-place_of-i-requires
+place_of-i-requires c κs =
     let s = c.before.before.before.before.before in (
-      record { inside = omega (arith, s.requires.0.inside, c.row_len.ensures, ends s); bits = s.requires.0.elements },
-      (s.requires.1.0, (s.requires.0.there, omega (arith, s.requires.1.1.0, c.row_len.ensures, ends s))),
+      record { inside = omega (arith, s.requires.0.inside, c.row_len-k.ensures, ends s); bits = s.requires.0.elements },
+      (s.requires.1.0, (s.requires.0.there, omega (arith, s.requires.1.1.0, c.row_len-k.ensures, ends s))),
     )
 
-add-write-found : tie.Need-overflow-add-write-found
-add-write-found c = let s = c.before.before.before.before.before.before in omega (arith, s.requires.1.1.0, c.before.row_len.ensures, ends s, (limits-fit s.args.width).offset)
+overflow_add-a : tie.Need-overflow_add-a
+overflow_add-a c = let s = c.before.before.before.before.before.before in omega (arith, s.requires.1.1.0, c.row_len-k.ensures, ends s, (limits-fit s.args.width).offset)
 
-write-found-requires : tie.Need-write-found-requires
-write-found-requires c κs =
+write_found-requires : tie.Need-write_found-requires
+write_found-requires c κs =
     let s = c.before.before.before.before.before.before.before.before in
-    (omega (arith, s.requires.0.inside, c.before.before.before.row_len.ensures, ends s), (s.requires.0.elements, s.requires.1.1.1))
+    (omega (arith, s.requires.0.inside, c.row_len-k.ensures, ends s), (s.requires.0.elements, s.requires.1.1.1))
 
-same_length : tie.Need-same-length
-same_length c = search
+shape_of-out_values : tie.Need-shape_of-out_values
+shape_of-out_values c = search
 
-same-length-2 : tie.Need-same-length-2
-same-length-2 c = search
+shape_of-out_rows : tie.Need-shape_of-out_rows
+shape_of-out_rows c = search
 
 returns : tie.Need-returns
 returns c =
     let s = c.before.before.before.before.before.before.before.before.before.before.before.before in
     let a = s.args in
     let E = elem_at a.values.now (from a.estart a.elements.now) in
-    let e = elem_at a.indexes.now (from a.istart a.index-bits.now) a.r in
-    let q = value_from (limits_at a.width) a.op (R s) E a.r a.a a.b e _ _ (omega (arith, s.requires.1.1.0, ends s)) c.before.before.before.before.before.before.before.row_len.ensures c.before.before.before.before.before.before.place_of.ensures in
-    (rw (← q) c.before.before.before.write-found.ensures.0, rw (← q) c.before.before.before.write-found.ensures.1)
+    let e = elem_at a.indexes.now (from a.istart a.index_bits.now) a.r in
+    let q = value_from (limits_at a.width) a.op (R s) E a.r a.a a.b e _ _ (omega (arith, s.requires.1.1.0, ends s)) c.row_len-k.ensures c.place_of-i.ensures in
+    (rw (← q) c.write_found.ensures.0, rw (← q) c.write_found.ensures.1)
 
 pub put_value_spec : {M : Type 1} → statement M
 put_value_spec =
     tie.close
     (tie.spec
-    row-len-requires
-    place-of-requires
-    add-write-found
-    write-found-requires
-    same_length
-    same-length-2
+    row_len-k-requires
+    place_of-i-requires
+    overflow_add-a
+    write_found-requires
+    shape_of-out_values
+    shape_of-out_rows
     returns)

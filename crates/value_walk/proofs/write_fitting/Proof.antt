@@ -19,71 +19,71 @@ abbrev C : tie.Start → Column
 C s = let a = s.args in column (used a.width a.offsets.now a.large.now) (from a.rstart a.rows.now) a.values.now (from a.estart a.elements.now)
 
 abbrev A : tie.Start → Arguments
-A s = arguments s.args.indexes.now (from s.args.istart s.args.index-bits.now)
+A s = arguments s.args.indexes.now (from s.args.istart s.args.index_bits.now)
 
 -- the values made, and the lengths lent for them
 abbrev W : tie.Start → List Elem
 W s = values_made s.args.op (C s) (A s)
 
 abbrev L : tie.Start → ValueRoom
-L s = value_room (length s.args.out-values.now) (length s.args.out-rows.now)
+L s = value_room (length s.args.out_values.now) (length s.args.out_rows.now)
 
-abbrev S : tie.After-has-value-room → tie.Start
+abbrev S : tie.After-has_value_room → tie.Start
 S h = h.before.before.before.before.before.before
 
 -- what the test of the room tells
-rows_are : (h : tie.After-has-value-room) → h.before.row_count.result ≡ length (W (S h))
-rows_are h = let s = S h in h.before.row_count.ensures ∙ sym (length-made s.args.op (C s) (A s))
+rows_are : (h : tie.After-has_value_room) → h.row_count-n.result ≡ length (W (S h))
+rows_are h = let s = S h in h.row_count-n.ensures ∙ sym (length-made s.args.op (C s) (A s))
 
-room_is : (h : tie.After-has-value-room) → h.has-value-room.result ≡ fits_values (length (W (S h))) (L (S h))
-room_is h = h.has-value-room.ensures ∙ same_value_fit (L (S h)) (rows_are h)
+room_is : (h : tie.After-has_value_room) → h.has_value_room.result ≡ fits_values (length (W (S h))) (L (S h))
+room_is h = h.has_value_room.ensures ∙ same_value_fit (L (S h)) (rows_are h)
 
-roomy : (e : tie.Else1) → let s = S e.before in (length (W s) ≤ length s.args.out-values.now) × (bytes_for (length (W s)) ≤ length s.args.out-rows.now)
-roomy e = has_value_room _ _ _ (sym (room_is e.before) ∙ not-false _ e.if1.false)
+roomy : (e : tie.Else-not-has_value_room) → let s = S e.before in (length (W s) ≤ length s.args.out_values.now) × (bytes_for (length (W s)) ≤ length s.args.out_rows.now)
+roomy e = has_value_room _ _ _ (sym (room_is e.before) ∙ not-false _ e.if-not-has_value_room.false)
 
-row-count-requires : tie.Need-row-count-requires
-row-count-requires c κs = search
+row_count-n-requires : tie.Need-row_count-n-requires
+row_count-n-requires c κs = search
 
-has-value-room-requires : tie.Need-has-value-room-requires
-has-value-room-requires c κs = search
+has_value_room-requires : tie.Need-has_value_room-requires
+has_value_room-requires c κs = search
 
-returns : tie.Need-returns
-returns c = let h = c.before in value_refused 9 (values-short (W (S h)) (L (S h)) (sym (room_is h) ∙ not-true _ c.if1.true))
+returns-then-not-has_value_room : tie.Need-returns-then-not-has_value_room
+returns-then-not-has_value_room c = let h = c.before in value_refused 9 (values-short (W (S h)) (L (S h)) (sym (room_is h) ∙ not-true _ c.if-not-has_value_room.true))
 
-write-values-requires : tie.Need-write-values-requires
-write-values-requires c κs =
+write_values-requires : tie.Need-write_values-requires
+write_values-requires c κs =
     let e = c.before.before in
     let s = S e.before in
     let n = length-made s.args.op (C s) (A s) in
-    (s.pre.0, (s.pre.1, (omega (arith, (roomy e).0), omega (arith, (roomy e).1))))
+    (s.requires.0, (s.requires.1, (omega (arith, (roomy e).0), omega (arith, (roomy e).1))))
 
-value-answer-requires : tie.Need-value-answer-requires
-value-answer-requires c κs =
+value_answer-requires : tie.Need-value_answer-requires
+value_answer-requires c κs =
     let e = c.before.before.before.before.before.before.before in
-    omega (arith, (roomy e).1, rows_are e.before, c.before.before.before.before.write-values.auto.1.1.1.1.1.1.1.1.1.1.1.0)
+    omega (arith, (roomy e).1, rows_are e.before, c.write_values.auto.out_rows)
 
-same_length : tie.Need-same-length
-same_length c = search
+shape_of-out_values : tie.Need-shape_of-out_values
+shape_of-out_values c = search
 
-same-length-2 : tie.Need-same-length-2
-same-length-2 c = search
+shape_of-out_rows : tie.Need-shape_of-out_rows
+shape_of-out_rows c = search
 
-returns-2 : tie.Need-returns-2
-returns-2 c =
-    let w = c.before.before.before.before.before.write-values.ensures in
+returns : tie.Need-returns
+returns c =
+    let w = c.write_values.ensures in
     let e = c.before.before.before.before.before.before.before.before in
     let h = e.before in
-    value_made_lem (W (S h)) _ (values-made (W (S h)) (L (S h)) (sym (room_is h) ∙ not-false _ e.if1.false)) (rows_are h) w.values w.rows c.value-answer.ensures
+    value_made_lem (W (S h)) _ (values-made (W (S h)) (L (S h)) (sym (room_is h) ∙ not-false _ e.if-not-has_value_room.false)) (rows_are h) w.values w.rows c.value_answer.ensures
 
 pub write_fitting_spec : {M : Type 1} → statement M
 write_fitting_spec =
     tie.close
     (tie.spec
-    row-count-requires
-    has-value-room-requires
-    returns
-    write-values-requires
-    value-answer-requires
-    same_length
-    same-length-2
-    returns-2)
+    row_count-n-requires
+    has_value_room-requires
+    returns-then-not-has_value_room
+    write_values-requires
+    value_answer-requires
+    shape_of-out_values
+    shape_of-out_rows
+    returns)

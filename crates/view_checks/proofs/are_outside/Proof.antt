@@ -9,68 +9,68 @@ use Rattle.view_checks.proofs.RefusalLaws.{any_now, any_on, any-end}
 use Rattle.view_checks.proofs.are_outside.Statement.{statement}
 use Rattle.view_checks.proofs.are_outside.Tie as tie
 
-abbrev invariant-loop : tie.invariant-loop
-invariant-loop offsets sizes rows rstart values elements estart r₀ left₀ r left =
+abbrev invariant-loop-left : tie.invariant-loop-left
+invariant-loop-left offsets sizes rows rstart values elements estart r₀ left₀ r left =
     let c = view offsets sizes (from rstart rows) values (from estart elements) in
     (any (view_outside c) (tab (λ i. i) r left) ≡ refusal11 c)
     × (r + left ≡ length offsets)
 
-abbrev decreases-loop : tie.decreases-loop
-decreases-loop offsets sizes rows rstart values elements estart r₀ left₀ r left = left
+abbrev decreases-loop-left : tie.decreases-loop-left
+decreases-loop-left offsets sizes rows rstart values elements estart r₀ left₀ r left = left
 
-abbrev S : tie.At-loop invariant-loop decreases-loop → tie.Start invariant-loop decreases-loop
+abbrev S : tie.At-loop-left invariant-loop-left decreases-loop-left → tie.Start invariant-loop-left decreases-loop-left
 S l = l.before.before.before
 
-abbrev C : tie.At-loop invariant-loop decreases-loop → View
+abbrev C : tie.At-loop-left invariant-loop-left decreases-loop-left → View
 C l = let a = (S l).args in view a.offsets.now a.sizes.now (from a.rstart a.rows.now) a.values.now (from a.estart a.elements.now)
 
 -- whether the row that a turn looks at lies outside
-told : (o : tie.After-is-outside invariant-loop decreases-loop) → let l = o.before.before in view_outside (C l) l.loop.r ≡ o.is-outside.result
+told : (o : tie.After-is_outside invariant-loop-left decreases-loop-left) → let l = o.before.before in view_outside (C l) l.loop-left.r ≡ o.is_outside.result
 unfolding view_outside
-told o = sym o.is-outside.ensures
+told o = sym o.is_outside.ensures
 
-loop-holds : tie.Need-loop-init invariant-loop decreases-loop
+loop-left-init : tie.Need-loop-left-init invariant-loop-left decreases-loop-left
 unfolding refusal11
-loop-holds c = (refl, omega arith)
+loop-left-init c = (refl, omega arith)
 
-is-outside-requires : tie.Need-is-outside-requires invariant-loop decreases-loop
-is-outside-requires c κs = (omega (arith, c), omega (arith, c, (S c.before).pre))
+is_outside-requires : tie.Need-is_outside-requires invariant-loop-left decreases-loop-left
+is_outside-requires c κs = (omega (arith, c), omega (arith, c, (S c.before).pre))
 
-returns : tie.Need-returns invariant-loop decreases-loop
-returns c =
+returns-then-is_outside : tie.Need-returns-then-is_outside invariant-loop-left decreases-loop-left
+returns-then-is_outside c =
     let i = c.before.before in
     let l = i.before in
-    any_now (view_outside (C l)) l.loop.r l.loop.left _ l.loop.invariant.0 i.loop-test.true (told c.before ∙ c.if1.true)
+    any_now (view_outside (C l)) l.loop-left.r l.loop-left.left _ l.loop-left.invariant.0 i.loop-left-test.true (told c.before ∙ c.if-is_outside.true)
 
-add_r : tie.Need-overflow-add-r invariant-loop decreases-loop
-add_r c = omega (arith, c.before.before)
+overflow_add-r : tie.Need-overflow_add-r invariant-loop-left decreases-loop-left
+overflow_add-r c = omega (arith, c.before.before)
 
-sub-left : tie.Need-overflow-sub-left invariant-loop decreases-loop
-sub-left c = omega (arith, c.before.before)
+overflow_sub-left : tie.Need-overflow_sub-left invariant-loop-left decreases-loop-left
+overflow_sub-left c = omega (arith, c.before.before)
 
-loop-less : tie.Need-loop-smaller invariant-loop decreases-loop
-loop-less c = omega (arith, c.before.before)
+loop-left-smaller : tie.Need-loop-left-smaller invariant-loop-left decreases-loop-left
+loop-left-smaller c = omega (arith, c.before.before)
 
-loop-again : tie.Need-loop-preserved invariant-loop decreases-loop
-loop-again c =
+loop-left-preserved : tie.Need-loop-left-preserved invariant-loop-left decreases-loop-left
+loop-left-preserved c =
     let i = c.before.before in
     let l = i.before in
-    (any_on (view_outside (C l)) l.loop.r l.loop.left _ l.loop.invariant.0 i.loop-test.true (told c.before ∙ c.if1.false), omega (arith, i))
+    (any_on (view_outside (C l)) l.loop-left.r l.loop-left.left _ l.loop-left.invariant.0 i.loop-left-test.true (told c.before ∙ c.if-is_outside.false), omega (arith, i))
 
-returns-2 : tie.Need-returns-2 invariant-loop decreases-loop
-returns-2 c = let l = c.before in any-end (view_outside (C l)) l.loop.r l.loop.left _ l.loop.invariant.0 c.loop-test.false
+returns : tie.Need-returns invariant-loop-left decreases-loop-left
+returns c = let l = c.before in any-end (view_outside (C l)) l.loop-left.r l.loop-left.left _ l.loop-left.invariant.0 c.loop-left-test.false
 
 pub are_outside_spec : {M : Type 1} → statement M
 are_outside_spec =
     tie.close
     (tie.spec
-    invariant-loop
-    decreases-loop
-    loop-holds
-    is-outside-requires
-    returns
-    add_r
-    sub-left
-    loop-less
-    loop-again
-    returns-2)
+    invariant-loop-left
+    decreases-loop-left
+    loop-left-init
+    is_outside-requires
+    returns-then-is_outside
+    overflow_add-r
+    overflow_sub-left
+    loop-left-smaller
+    loop-left-preserved
+    returns)

@@ -18,43 +18,43 @@ size s = get_or s.args.sizes.now s.args.r (pos 0)
 below-requires : tie.Need-below-requires
 below-requires c κs = search rules
 
-returns : tie.Need-returns
-returns c = rw (← c.before.below.ensures, c.if1.true)
+returns-then-below : tie.Need-returns-then-below
+returns-then-below c = rw (← c.below.ensures, c.if-below.true)
 
 below-requires-2 : tie.Need-below-requires-2
 below-requires-2 c κs = search rules
 
-returns-2 : tie.Need-returns-2
-returns-2 c =
+returns-then-below-2 : tie.Need-returns-then-below-2
+returns-then-below-2 c =
     let s = c.before.before.before.before in
-    outside-size (outside_of s.args.n (offset s)) _ _ (outside_below s.args.n (size s) (sym c.before.below2.ensures ∙ c.if2.true))
+    outside-size (outside_of s.args.n (offset s)) _ _ (outside_below s.args.n (size s) (sym c.below-2.ensures ∙ c.if-below-2.true))
 
-offset-at-requires : tie.Need-offset-at-requires
-offset-at-requires c κs = search rules
+offset_at-a-requires : tie.Need-offset_at-a-requires
+offset_at-a-requires c κs = search rules
 
-offset-at-requires-2 : tie.Need-offset-at-requires-2
-offset-at-requires-2 c κs = search rules
+offset_at-size-requires : tie.Need-offset_at-size-requires
+offset_at-size-requires c κs = search rules
 
-add-result : tie.Need-overflow-add-result
-add-result c = omega (arith, c.offset-at2.ensures.1, c.before.offset_at.ensures.1)
+overflow_add-result : tie.Need-overflow_add-result
+overflow_add-result c = omega (arith, c.offset_at-size.ensures.1, c.offset_at-a.ensures.1)
 
-returns-3 : tie.Need-returns-3
-returns-3 c =
+returns : tie.Need-returns
+returns c =
     let e = c.before.before in
     let f = e.before.before in
     let s = f.before.before in
-    rw (c.before.offset_at.ensures.0, c.offset-at2.ensures.0)
-    (outside-sum s.args.n (offset s) (size s) (sym f.before.below.ensures ∙ f.if1.false) (sym e.before.below2.ensures ∙ e.if2.false))
+    rw (c.offset_at-a.ensures.0, c.offset_at-size.ensures.0)
+    (outside-sum s.args.n (offset s) (size s) (sym f.below.ensures ∙ f.if-below.false) (sym e.below-2.ensures ∙ e.if-below-2.false))
 
 pub is_outside_spec : {M : Type 1} → statement M
 is_outside_spec =
     tie.close
     (tie.spec
     below-requires
-    returns
+    returns-then-below
     below-requires-2
-    returns-2
-    offset-at-requires
-    offset-at-requires-2
-    add-result
-    returns-3)
+    returns-then-below-2
+    offset_at-a-requires
+    offset_at-size-requires
+    overflow_add-result
+    returns)

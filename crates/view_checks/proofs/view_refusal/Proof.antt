@@ -11,65 +11,65 @@ use Rattle.view_checks.proofs.view_refusal.Statement.{statement}
 use Rattle.view_checks.proofs.view_refusal.Tie as tie
 
 -- the places that are used below
-abbrev S : tie.Else1 → tie.Start
+abbrev S : tie.Else-is_start_over → tie.Start
 S e = e.before.before.before.before
 
 -- no starting bit is over 7
-none_over : (e : tie.Else1) → (ltb 7 (S e).args.rstart || ltb 7 (S e).args.estart) ≡ false
-none_over e = sym e.before.is-start-over.ensures ∙ e.if1.false
+none_over : (e : tie.Else-is_start_over) → (ltb 7 (S e).args.rstart || ltb 7 (S e).args.estart) ≡ false
+none_over e = sym e.is_start_over.ensures ∙ e.if-is_start_over.false
 
-starts : (e : tie.Else1) → (ltb 7 (S e).args.rstart ≡ false) × (ltb 7 (S e).args.estart ≡ false)
+starts : (e : tie.Else-is_start_over) → (ltb 7 (S e).args.rstart ≡ false) × (ltb 7 (S e).args.estart ≡ false)
 starts e = or_none (ltb 7 (S e).args.rstart) (ltb 7 (S e).args.estart) (none_over e)
 
-is-start-over-requires : tie.Need-is-start-over-requires
-is-start-over-requires c κs = search rules
+is_start_over-requires : tie.Need-is_start_over-requires
+is_start_over-requires c κs = search rules
 
-returns : tie.Need-returns
+returns-then-is_start_over : tie.Need-returns-then-is_start_over
 unfolding view_refusal refusal13ᵛ
-returns c = rw (← c.before.is-start-over.ensures, c.if1.true)
+returns-then-is_start_over c = rw (← c.is_start_over.ensures, c.if-is_start_over.true)
 
-are-short-requires : tie.Need-are-short-requires
-are-short-requires c κs = (omega (arith, ltb-false 7 (S c).args.rstart (starts c).0), omega (arith, ltb-false 7 (S c).args.estart (starts c).1))
+are_short-requires : tie.Need-are_short-requires
+are_short-requires c κs = (omega (arith, ltb-false 7 (S c).args.rstart (starts c).0), omega (arith, ltb-false 7 (S c).args.estart (starts c).1))
 
-returns-2 : tie.Need-returns-2
+returns-then-are_short : tie.Need-returns-then-are_short
 unfolding view_refusal refusal13ᵛ refusal2ᵛ
-returns-2 c = rw (none_over c.before.before, ← c.before.are-short.ensures, c.if2.true)
+returns-then-are_short c = rw (none_over c.before.before, ← c.are_short.ensures, c.if-are_short.true)
 
-returns-3 : tie.Need-returns-3
+returns-then-sizes-offsets : tie.Need-returns-then-sizes-offsets
 unfolding view_refusal refusal13ᵛ refusal2ᵛ refusal3ᵛ
-returns-3 c =
+returns-then-sizes-offsets c =
     let e = c.before in
     let a = (S e.before.before).args in
-    rw (none_over e.before.before, ← e.before.are-short.ensures, e.if2.false, ne_eqb (length a.sizes.now) (length a.offsets.now) c.if3.true)
+    rw (none_over e.before.before, ← e.are_short.ensures, e.if-are_short.false, ne_eqb (length a.sizes.now) (length a.offsets.now) c.if-sizes-offsets.true)
 
-are-outside-requires : tie.Need-are-outside-requires
-are-outside-requires c κs = search rules
+are_outside-requires : tie.Need-are_outside-requires
+are_outside-requires c κs = search rules
 
-returns-4 : tie.Need-returns-4
+returns-then-are_outside : tie.Need-returns-then-are_outside
 unfolding view_refusal refusal13ᵛ refusal2ᵛ refusal3ᵛ
-returns-4 c =
+returns-then-are_outside c =
     let d = c.before.before in
     let e = d.before in
     let a = (S e.before.before).args in
-    rw (none_over e.before.before, ← e.before.are-short.ensures, e.if2.false, eq-eqb (length a.sizes.now) (length a.offsets.now) d.if3.false, ← c.before.are-outside.ensures, c.if4.true)
+    rw (none_over e.before.before, ← e.are_short.ensures, e.if-are_short.false, eq-eqb (length a.sizes.now) (length a.offsets.now) d.if-sizes-offsets.false, ← c.are_outside.ensures, c.if-are_outside.true)
 
-returns-5 : tie.Need-returns-5
+returns : tie.Need-returns
 unfolding view_refusal refusal13ᵛ refusal2ᵛ refusal3ᵛ
-returns-5 c =
+returns c =
     let d = c.before.before in
     let e = d.before in
     let a = (S e.before.before).args in
-    rw (none_over e.before.before, ← e.before.are-short.ensures, e.if2.false, eq-eqb (length a.sizes.now) (length a.offsets.now) d.if3.false, ← c.before.are-outside.ensures, c.if4.false)
+    rw (none_over e.before.before, ← e.are_short.ensures, e.if-are_short.false, eq-eqb (length a.sizes.now) (length a.offsets.now) d.if-sizes-offsets.false, ← c.are_outside.ensures, c.if-are_outside.false)
 
-pub view-refusal_spec : {M : Type 1} → statement M
-view-refusal_spec =
+pub view_refusal_spec : {M : Type 1} → statement M
+view_refusal_spec =
     tie.close
     (tie.spec
-    is-start-over-requires
-    returns
-    are-short-requires
-    returns-2
-    returns-3
-    are-outside-requires
-    returns-4
-    returns-5)
+    is_start_over-requires
+    returns-then-is_start_over
+    are_short-requires
+    returns-then-are_short
+    returns-then-sizes-offsets
+    are_outside-requires
+    returns-then-are_outside
+    returns)

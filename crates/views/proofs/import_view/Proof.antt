@@ -11,52 +11,52 @@ use Rattle.views.proofs.CallLaws.{import_refused, import_open}
 use Rattle.views.proofs.import_view.Statement.{statement}
 use Rattle.views.proofs.import_view.Tie as tie
 
-abbrev S : tie.After-view-refusal → tie.Start
+abbrev S : tie.After-view_refusal-k → tie.Start
 S k = k.before.before.before.before.before
 
 abbrev C : tie.Start → View
-C s = let a = s.args in view a.offsets.now a.sizes.now (from a.rows_start a.rows.now) a.values.now (from a.elements-start a.elements.now)
+C s = let a = s.args in view a.offsets.now a.sizes.now (from a.rows_start a.rows.now) a.values.now (from a.elements_start a.elements.now)
 
 abbrev L : tie.Start → Room
-L s = let a = s.args in room (length a.out-offsets.now) (length a.out-rows.now) (length a.out-values.now) (length a.out-elements.now)
+L s = let a = s.args in room (length a.out_offsets.now) (length a.out_rows.now) (length a.out_values.now) (length a.out_elements.now)
 
-view-refusal-requires : tie.Need-view-refusal-requires
-view-refusal-requires c κs = search
+view_refusal-k-requires : tie.Need-view_refusal-k-requires
+view_refusal-k-requires c κs = search
+
+returns-then-k-ne0 : tie.Need-returns-then-k-ne0
+returns-then-k-ne0 c = let k = c.before in let s = S k in list-refused _ (import_refused narrow (C s) (L s) k.view_refusal-k.ensures c.if-k-ne0.true)
+
+copy_shown-requires : tie.Need-copy_shown-requires
+copy_shown-requires c κs = let e = c.before.before.before.before in readable_view (C (S e.before)) (sym e.view_refusal-k.ensures ∙ e.if-k-ne0.false)
+
+shape_of-out_offsets : tie.Need-shape_of-out_offsets
+shape_of-out_offsets c = c.copy_shown.auto.out_offsets
+
+shape_of-out_rows : tie.Need-shape_of-out_rows
+shape_of-out_rows c = c.copy_shown.auto.out_rows
+
+shape_of-out_values : tie.Need-shape_of-out_values
+shape_of-out_values c = c.copy_shown.auto.out_values
+
+shape_of-out_elements : tie.Need-shape_of-out_elements
+shape_of-out_elements c = c.copy_shown.auto.out_elements
 
 returns : tie.Need-returns
-returns c = let k = c.before in let s = S k in list-refused _ (import_refused narrow (C s) (L s) k.view-refusal.ensures c.if1.true)
-
-copy-shown-requires : tie.Need-copy-shown-requires
-copy-shown-requires c κs = let e = c.before.before.before.before in readable_view (C (S e.before)) (sym e.before.view-refusal.ensures ∙ e.if1.false)
-
-same_length : tie.Need-same-length
-same_length c = c.before.before.before.before.before.before.copy-shown.auto.1.1.1.1.1.1.1.0
-
-same-length-2 : tie.Need-same-length-2
-same-length-2 c = c.before.before.before.before.before.before.copy-shown.auto.1.1.1.1.1.1.1.1.0
-
-same-length-3 : tie.Need-same-length-3
-same-length-3 c = c.before.before.before.before.before.before.copy-shown.auto.1.1.1.1.1.1.1.1.1.0
-
-same-length-4 : tie.Need-same-length-4
-same-length-4 c = c.before.before.before.before.before.before.copy-shown.auto.1.1.1.1.1.1.1.1.1.1.0
-
-returns-2 : tie.Need-returns-2
-returns-2 c =
+returns c =
     let p = c.before.before.before.before.before.before in
     let e = p.before.before.before.before.before in
     let s = S e.before in
-    rw (import_open narrow (C s) (L s) e.before.view-refusal.ensures e.if1.false) p.copy-shown.ensures
+    rw (import_open narrow (C s) (L s) e.view_refusal-k.ensures e.if-k-ne0.false) p.copy_shown.ensures
 
 pub import_view_spec : {M : Type 1} → statement M
 import_view_spec =
     tie.close
     (tie.spec
-    view-refusal-requires
-    returns
-    copy-shown-requires
-    same_length
-    same-length-2
-    same-length-3
-    same-length-4
-    returns-2)
+    view_refusal-k-requires
+    returns-then-k-ne0
+    copy_shown-requires
+    shape_of-out_offsets
+    shape_of-out_rows
+    shape_of-out_values
+    shape_of-out_elements
+    returns)

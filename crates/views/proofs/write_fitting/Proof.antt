@@ -16,10 +16,10 @@ use Rattle.views.proofs.write_fitting.Tie as tie
 
 -- ---- places: the start; room found, from the view written
 
-abbrev S : tie.After-has-view-room → tie.Start
+abbrev S : tie.After-has_view_room → tie.Start
 S h = h.before.before.before.before.before.before.before
 
-abbrev roomed : tie.After-write-view → tie.Else1
+abbrev roomed : tie.After-write_view → tie.Else-not-has_view_room
 roomed w = w.before.before.before.before.before.before
 
 -- ---- the column, its rows, and the lengths of the output
@@ -31,80 +31,80 @@ abbrev W : tie.Start → List Row
 W s = rows_of (C s)
 
 abbrev L : tie.Start → ViewRoom
-L s = let a = s.args in view_room (length a.out-offsets.now) (length a.out-sizes.now) (length a.out-rows.now) (length a.out-values.now) (length a.out-elements.now)
+L s = let a = s.args in view_room (length a.out_offsets.now) (length a.out_sizes.now) (length a.out_rows.now) (length a.out_values.now) (length a.out_elements.now)
 
 -- what the test of the room tells
-rows_are : (h : tie.After-has-view-room) → h.before.before.row_count.result ≡ length (W (S h))
-rows_are h = h.before.before.row_count.ensures ∙ sym (length-rows (C (S h)))
+rows_are : (h : tie.After-has_view_room) → h.row_count-n.result ≡ length (W (S h))
+rows_are h = h.row_count-n.ensures ∙ sym (length-rows (C (S h)))
 
-room_is : (h : tie.After-has-view-room) → h.has-view-room.result ≡ fits_view (length (W (S h))) (length (flat (W (S h)))) (L (S h))
-room_is h = h.has-view-room.ensures ∙ same_view-fit (L (S h)) (rows_are h) h.before.measure-rows.ensures.0
+room_is : (h : tie.After-has_view_room) → h.has_view_room.result ≡ fits_view (length (W (S h))) (length (flat (W (S h)))) (L (S h))
+room_is h = h.has_view_room.ensures ∙ same_view-fit (L (S h)) (rows_are h) h.measure_rows-m.ensures.0
 
-roomy : (e : tie.Else1) → let s = S e.before in ViewRoomInˡ (length (W s)) (length (flat (W s))) (length s.args.out-offsets.now) (length s.args.out-sizes.now) (length s.args.out-rows.now) (length s.args.out-values.now) (length s.args.out-elements.now)
-roomy e = has_view-room _ _ _ _ _ _ _ (sym (room_is e.before) ∙ not-false _ e.if1.false)
+roomy : (e : tie.Else-not-has_view_room) → let s = S e.before in ViewRoomInˡ (length (W s)) (length (flat (W s))) (length s.args.out_offsets.now) (length s.args.out_sizes.now) (length s.args.out_rows.now) (length s.args.out_values.now) (length s.args.out_elements.now)
+roomy e = has_view-room _ _ _ _ _ _ _ (sym (room_is e.before) ∙ not-false _ e.if-not-has_view_room.false)
 
-row-count-requires : tie.Need-row-count-requires
-row-count-requires c κs = search
+row_count-n-requires : tie.Need-row_count-n-requires
+row_count-n-requires c κs = search
 
-measure-rows-requires : tie.Need-measure-rows-requires
-measure-rows-requires c κs = search
+measure_rows-m-requires : tie.Need-measure_rows-m-requires
+measure_rows-m-requires c κs = search
 
-has-view-room-requires : tie.Need-has-view-room-requires
-has-view-room-requires c κs = search
+has_view_room-requires : tie.Need-has_view_room-requires
+has_view_room-requires c κs = search
 
-returns : tie.Need-returns
-returns c = let h = c.before in view-refused 9 (export_short (W (S h)) (L (S h)) (sym (room_is h) ∙ not-true _ c.if1.true))
+returns-then-not-has_view_room : tie.Need-returns-then-not-has_view_room
+returns-then-not-has_view_room c = let h = c.before in view-refused 9 (export_short (W (S h)) (L (S h)) (sym (room_is h) ∙ not-true _ c.if-not-has_view_room.true))
 
-write-view-requires : tie.Need-write-view-requires
-write-view-requires c κs =
+write_view-requires : tie.Need-write_view-requires
+write_view-requires c κs =
     let e = c.before.before.before.before.before in
     let s = S e.before in
-    let m = e.before.before.measure-rows.ensures in
-    (s.pre, (rw m.0 at m.1, rw (length-rows (C s)) at (roomy e)))
+    let m = e.measure_rows-m.ensures in
+    (s.requires, (rw m.0 at m.1, rw (length-rows (C s)) at (roomy e)))
 
-list-answer-requires : tie.Need-list-answer-requires
-list-answer-requires c κs =
+list_answer-requires : tie.Need-list_answer-requires
+list_answer-requires c κs =
     let w = c.before.before.before.before.before.before.before.before.before in
     let e = roomed w in
     let r = roomy e in
-    (omega (arith, r.rows, rows_are e.before, w.write_view.auto.1.1.1.1.1.1.1.1.0), omega (arith, r.elements, e.before.before.measure-rows.ensures.0, w.write_view.auto.1.1.1.1.1.1.1.1.1.1.0))
+    (omega (arith, r.rows, rows_are e.before, w.write_view.auto.out_rows), omega (arith, r.elements, e.measure_rows-m.ensures.0, w.write_view.auto.out_elements))
 
-same_length : tie.Need-same-length
-same_length c = c.before.before.before.before.before.before.before.before.before.before.write_view.auto.1.1.1.1.1.1.0
+shape_of-out_offsets : tie.Need-shape_of-out_offsets
+shape_of-out_offsets c = c.write_view.auto.out_offsets
 
-same-length-2 : tie.Need-same-length-2
-same-length-2 c = c.before.before.before.before.before.before.before.before.before.before.write_view.auto.1.1.1.1.1.1.1.0
+shape_of-out_sizes : tie.Need-shape_of-out_sizes
+shape_of-out_sizes c = c.write_view.auto.out_sizes
 
-same-length-3 : tie.Need-same-length-3
-same-length-3 c = c.before.before.before.before.before.before.before.before.before.before.write_view.auto.1.1.1.1.1.1.1.1.0
+shape_of-out_rows : tie.Need-shape_of-out_rows
+shape_of-out_rows c = c.write_view.auto.out_rows
 
-same-length-4 : tie.Need-same-length-4
-same-length-4 c = c.before.before.before.before.before.before.before.before.before.before.write_view.auto.1.1.1.1.1.1.1.1.1.0
+shape_of-out_values : tie.Need-shape_of-out_values
+shape_of-out_values c = c.write_view.auto.out_values
 
-same-length-5 : tie.Need-same-length-5
-same-length-5 c = c.before.before.before.before.before.before.before.before.before.before.write_view.auto.1.1.1.1.1.1.1.1.1.1.0
+shape_of-out_elements : tie.Need-shape_of-out_elements
+shape_of-out_elements c = c.write_view.auto.out_elements
 
-returns-2 : tie.Need-returns-2
-returns-2 c =
+returns : tie.Need-returns
+returns c =
     let w = c.before.before.before.before.before.before.before.before.before.before in
     let e = roomed w in
     let h = e.before in
     let s = S h in
-    view_made (W s) _ _ (export_made (W s) (L s) (sym (room_is h) ∙ not-false _ e.if1.left)) (rows_are h) h.before.measure-rows.ensures.0 w.write_view.ensures c.list-answer.ensures
+    view_made (W s) _ _ (export_made (W s) (L s) (sym (room_is h) ∙ not-false _ e.if-not-has_view_room.false)) (rows_are h) h.measure_rows-m.ensures.0 w.write_view.ensures c.list_answer.ensures
 
 pub write_fitting_spec : {M : Type 1} → statement M
 write_fitting_spec =
     tie.close
     (tie.spec
-    row-count-requires
-    measure-rows-requires
-    has-view-room-requires
-    returns
-    write-view-requires
-    list-answer-requires
-    same_length
-    same-length-2
-    same-length-3
-    same-length-4
-    same-length-5
-    returns-2)
+    row_count-n-requires
+    measure_rows-m-requires
+    has_view_room-requires
+    returns-then-not-has_view_room
+    write_view-requires
+    list_answer-requires
+    shape_of-out_offsets
+    shape_of-out_sizes
+    shape_of-out_rows
+    shape_of-out_values
+    shape_of-out_elements
+    returns)

@@ -5,12 +5,16 @@ use Rattle.window.proofs.first_argument.Reads as reads
 use Rattle.window.proofs.first_argument.Lts as lts
 
 -- src/lib.rt:59:9
-returns : tie.Need-returns
-returns c = rw (lt-ltb _ _ c.if1.true)
+returns-then-a-len : tie.Need-returns-then-a-len
+returns-then-a-len c = rw (lt-ltb _ _ c.if-a-len.true)
 
 -- src/lib.rt:55:1
-returns-2 : tie.Need-returns-2
-returns-2 c = rw (le-ltb _ _ c.if1.false)
+returns : tie.Need-returns
+returns c = rw (le-ltb _ _ c.if-a-len.false)
 
 pub first_argument_spec : {M : Type 1} → statement M
-first_argument_spec = tie.close (tie.spec returns returns-2)
+first_argument_spec =
+    tie.close
+    (tie.spec
+    returns-then-a-len
+    returns)

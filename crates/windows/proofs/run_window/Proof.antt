@@ -10,28 +10,28 @@ use Rattle.windows.proofs.run_window.Tie as tie
 
 -- ---- places: tray two cleared, tray one cleared, the call
 
-abbrev two : tie.After-slice-known16 → tie.After-clear2
+abbrev two : tie.After-slice_known-16-1 → tie.After-clear-2
 two c = c.before.before.before.before.before.before
 
-abbrev one : tie.After-slice-known16 → tie.After-clear
+abbrev one : tie.After-slice_known-16-1 → tie.After-clear
 one c = (two c).before.before.before.before.before.before.before.before.before.before.before
 
-abbrev tried : tie.After-slice-known16 → tie.After-attempt
+abbrev tried : tie.After-slice_known-16-1 → tie.After-attempt-answer
 tried c = (one c).before.before.before.before.before.before.before.before.before.before.before.before.before.before.before.before.before.before.before.before.before.before.before.before.before.before
 
 -- ---- needs
 
-slice-aggregate-attempt : tie.Need-slice-aggregate-attempt
-slice-aggregate-attempt c = refl
+slice_bounds-attempt-end : tie.Need-slice_bounds-attempt-end
+slice_bounds-attempt-end c = refl
 
-slice-aggregate-attempt-2 : tie.Need-slice-aggregate-attempt-2
-slice-aggregate-attempt-2 c = refl
+slice_bounds-attempt-end-2 : tie.Need-slice_bounds-attempt-end-2
+slice_bounds-attempt-end-2 c = refl
 
-slice-aggregate-attempt-3 : tie.Need-slice-aggregate-attempt-3
-slice-aggregate-attempt-3 c = refl
+slice_bounds-attempt-end-3 : tie.Need-slice_bounds-attempt-end-3
+slice_bounds-attempt-end-3 c = refl
 
-attempt-requires : tie.Need-attempt-requires
-attempt-requires c κs = tt
+attempt-answer-requires : tie.Need-attempt-answer-requires
+attempt-answer-requires c κs = tt
 
 clear-requires : tie.Need-clear-requires
 clear-requires c κs = tt
@@ -39,47 +39,47 @@ clear-requires c κs = tt
 clear-requires-2 : tie.Need-clear-requires-2
 clear-requires-2 c κs = tt
 
-same_length : tie.Need-same-length
-same_length c = (one c).clear.auto.0 ∙ (tried c).attempt.auto.1.1.1.1.1.1.1.1.1.1.1.1.1.1.1.1.1.1.1.1.0
+shape_of-one_offsets : tie.Need-shape_of-one_offsets
+shape_of-one_offsets c = (one c).clear.auto.0 ∙ (tried c).attempt.auto.1.1.1.1.1.1.1.1.1.1.1.1.1.1.1.1.1.1.1.1.0
 
-same-length-2 : tie.Need-same-length-2
-same-length-2 c = (one c).clear.auto.1.0 ∙ (tried c).attempt.auto.1.1.1.1.1.1.1.1.1.1.1.1.1.1.1.1.1.1.1.1.1.0
+shape_of-one_rows : tie.Need-shape_of-one_rows
+shape_of-one_rows c = (one c).clear.auto.1.0 ∙ (tried c).attempt.auto.1.1.1.1.1.1.1.1.1.1.1.1.1.1.1.1.1.1.1.1.1.0
 
-same-length-3 : tie.Need-same-length-3
-same-length-3 c = (one c).clear.auto.1.1.0 ∙ (tried c).attempt.auto.1.1.1.1.1.1.1.1.1.1.1.1.1.1.1.1.1.1.1.1.1.1.0
+shape_of-one_values : tie.Need-shape_of-one_values
+shape_of-one_values c = (one c).clear.auto.1.1.0 ∙ (tried c).attempt.auto.1.1.1.1.1.1.1.1.1.1.1.1.1.1.1.1.1.1.1.1.1.1.0
 
-same-length-4 : tie.Need-same-length-4
-same-length-4 c = (one c).clear.auto.1.1.1.0 ∙ (tried c).attempt.auto.1.1.1.1.1.1.1.1.1.1.1.1.1.1.1.1.1.1.1.1.1.1.1.0
+shape_of-one_elements : tie.Need-shape_of-one_elements
+shape_of-one_elements c = (one c).clear.auto.1.1.1.0 ∙ (tried c).attempt.auto.1.1.1.1.1.1.1.1.1.1.1.1.1.1.1.1.1.1.1.1.1.1.1.0
 
-same-length-5 : tie.Need-same-length-5
-same-length-5 c = (two c).clear2.auto.0 ∙ (tried c).attempt.auto.1.1.1.1.1.1.1.1.1.1.1.1.1.1.1.1.1.1.1.1.1.1.1.1.0
+shape_of-two_offsets : tie.Need-shape_of-two_offsets
+shape_of-two_offsets c = (two c).clear2.auto.0 ∙ (tried c).attempt.auto.1.1.1.1.1.1.1.1.1.1.1.1.1.1.1.1.1.1.1.1.1.1.1.1.0
 
-same-length-6 : tie.Need-same-length-6
-same-length-6 c = (two c).clear2.auto.1.0 ∙ (tried c).attempt.auto.1.1.1.1.1.1.1.1.1.1.1.1.1.1.1.1.1.1.1.1.1.1.1.1.1.0
+shape_of-two_rows : tie.Need-shape_of-two_rows
+shape_of-two_rows c = (two c).clear2.auto.1.0 ∙ (tried c).attempt.auto.1.1.1.1.1.1.1.1.1.1.1.1.1.1.1.1.1.1.1.1.1.1.1.1.1.0
 
-same-length-7 : tie.Need-same-length-7
-same-length-7 c = (two c).clear2.auto.1.1.0 ∙ (tried c).attempt.auto.1.1.1.1.1.1.1.1.1.1.1.1.1.1.1.1.1.1.1.1.1.1.1.1.1.1.0
+shape_of-two_values : tie.Need-shape_of-two_values
+shape_of-two_values c = (two c).clear2.auto.1.1.0 ∙ (tried c).attempt.auto.1.1.1.1.1.1.1.1.1.1.1.1.1.1.1.1.1.1.1.1.1.1.1.1.1.1.0
 
-same-length-8 : tie.Need-same-length-8
-same-length-8 c = (two c).clear2.auto.1.1.1.0 ∙ (tried c).attempt.auto.1.1.1.1.1.1.1.1.1.1.1.1.1.1.1.1.1.1.1.1.1.1.1.1.1.1.1.0
+shape_of-two_elements : tie.Need-shape_of-two_elements
+shape_of-two_elements c = (two c).clear2.auto.1.1.1.0 ∙ (tried c).attempt.auto.1.1.1.1.1.1.1.1.1.1.1.1.1.1.1.1.1.1.1.1.1.1.1.1.1.1.1.0
 
-same-length-9 : tie.Need-same-length-9
-same-length-9 c = (tried c).attempt.auto.1.1.1.1.1.1.1.1.1.1.1.1.1.1.1.1.1.1.1.1.1.1.1.1.1.1.1.1.0
+shape_of-out_offsets : tie.Need-shape_of-out_offsets
+shape_of-out_offsets c = (tried c).attempt.auto.1.1.1.1.1.1.1.1.1.1.1.1.1.1.1.1.1.1.1.1.1.1.1.1.1.1.1.1.0
 
-same-length-10 : tie.Need-same-length-10
-same-length-10 c = (tried c).attempt.auto.1.1.1.1.1.1.1.1.1.1.1.1.1.1.1.1.1.1.1.1.1.1.1.1.1.1.1.1.1.0
+shape_of-out_rows : tie.Need-shape_of-out_rows
+shape_of-out_rows c = (tried c).attempt.auto.1.1.1.1.1.1.1.1.1.1.1.1.1.1.1.1.1.1.1.1.1.1.1.1.1.1.1.1.1.0
 
-same-length-11 : tie.Need-same-length-11
-same-length-11 c = (tried c).attempt.auto.1.1.1.1.1.1.1.1.1.1.1.1.1.1.1.1.1.1.1.1.1.1.1.1.1.1.1.1.1.1.0
+shape_of-out_values : tie.Need-shape_of-out_values
+shape_of-out_values c = (tried c).attempt.auto.1.1.1.1.1.1.1.1.1.1.1.1.1.1.1.1.1.1.1.1.1.1.1.1.1.1.1.1.1.1.0
 
-same-length-12 : tie.Need-same-length-12
-same-length-12 c = (tried c).attempt.auto.1.1.1.1.1.1.1.1.1.1.1.1.1.1.1.1.1.1.1.1.1.1.1.1.1.1.1.1.1.1.1.0
+shape_of-out_elements : tie.Need-shape_of-out_elements
+shape_of-out_elements c = (tried c).attempt.auto.1.1.1.1.1.1.1.1.1.1.1.1.1.1.1.1.1.1.1.1.1.1.1.1.1.1.1.1.1.1.1.0
 
 returns : tie.Need-returns
 unfolding stationed gate
 returns c =
     let t = tried c in (
-      t.attempt.ensures,
+      t.attempt-answer.ensures,
       (
         record {
           offsets = (one c).clear.ensures.0 ∙ ap (λ (n : ℕ). replicate n (pos 0)) (tried c).attempt.auto.1.1.1.1.1.1.1.1.1.1.1.1.1.1.1.1.1.1.1.1.0;
@@ -100,22 +100,22 @@ pub run_window_spec : {M : Type 1} → statement M
 run_window_spec =
     tie.close
     (tie.spec
-    slice-aggregate-attempt
-    slice-aggregate-attempt-2
-    slice-aggregate-attempt-3
-    attempt-requires
+    slice_bounds-attempt-end
+    slice_bounds-attempt-end-2
+    slice_bounds-attempt-end-3
+    attempt-answer-requires
     clear-requires
     clear-requires-2
-    same_length
-    same-length-2
-    same-length-3
-    same-length-4
-    same-length-5
-    same-length-6
-    same-length-7
-    same-length-8
-    same-length-9
-    same-length-10
-    same-length-11
-    same-length-12
+    shape_of-one_offsets
+    shape_of-one_rows
+    shape_of-one_values
+    shape_of-one_elements
+    shape_of-two_offsets
+    shape_of-two_rows
+    shape_of-two_values
+    shape_of-two_elements
+    shape_of-out_offsets
+    shape_of-out_rows
+    shape_of-out_values
+    shape_of-out_elements
     returns)

@@ -7,14 +7,19 @@ use Rattle.wire.proofs.Writing.{whole}
 use Rattle.wire.proofs.decode_i64.Statement.{statement}
 use Rattle.wire.proofs.decode_i64.Tie as tie
 
-fill-i64-requires : tie.Need-fill-i64-requires
-fill-i64-requires c κs = search rules
+fill_i64-requires : tie.Need-fill_i64-requires
+fill_i64-requires c κs = search rules
 
-same_length : tie.Need-same-length
-same_length c = search rules
+shape_of-d : tie.Need-shape_of-d
+shape_of-d c = search rules
 
 returns : tie.Need-returns
-returns c = c.before.fill-i64.ensures ∙ whole _ _ (c.before.before.before.before.requires ∙ sym (length-ints w64 _))
+returns c = c.fill_i64.ensures ∙ whole _ _ (c.requires ∙ sym (length-ints w64 _))
 
 pub decode_i64_spec : {M : Type 1} → statement M
-decode_i64_spec = tie.close (tie.spec fill-i64-requires same_length returns)
+decode_i64_spec =
+    tie.close
+    (tie.spec
+    fill_i64-requires
+    shape_of-d
+    returns)

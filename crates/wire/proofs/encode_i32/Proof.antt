@@ -11,63 +11,63 @@ use Rattle.wire.proofs.Spelling.{Spelling, spelled, begun, turned, done}
 use Rattle.wire.proofs.encode_i32.Statement.{statement}
 use Rattle.wire.proofs.encode_i32.Tie as tie
 
-abbrev invariant-loop : tie.invariant-loop
-invariant-loop v d₀ i₀ d i = Spelling (bytes_of_int w32) v d₀ d i
+abbrev invariant-loop-i : tie.invariant-loop-i
+invariant-loop-i v d₀ i₀ d i = Spelling (bytes_of_int w32) v d₀ d i
 
-abbrev decreases-loop : tie.decreases-loop
-decreases-loop v d₀ i₀ d i = length v - i
+abbrev decreases-loop-i : tie.decreases-loop-i
+decreases-loop-i v d₀ i₀ d i = length v - i
 
-loop-holds : tie.Need-loop-init invariant-loop decreases-loop
-loop-holds c = begun (bytes_of_int w32) _ _
+loop-i-init : tie.Need-loop-i-init invariant-loop-i decreases-loop-i
+loop-i-init c = begun (bytes_of_int w32) _ _
 
-mul-from-i32 : tie.Need-overflow-mul-from-i32 invariant-loop decreases-loop
-mul-from-i32 c = omega arith
+offset_bounds-v-i : tie.Need-offset_bounds-v-i invariant-loop-i decreases-loop-i
+offset_bounds-v-i c = omega arith
 
-shared-slice-copy-out-from-i32 : tie.Need-shared-slice-copy-out-from-i32 invariant-loop decreases-loop
-shared-slice-copy-out-from-i32 c = omega arith
+bounds-v-i : tie.Need-bounds-v-i invariant-loop-i decreases-loop-i
+bounds-v-i c = omega arith
 
-from-i32-requires : tie.Need-from-i32-requires invariant-loop decreases-loop
-from-i32-requires c κs = search rules
+from_i32-u-requires : tie.Need-from_i32-u-requires invariant-loop-i decreases-loop-i
+from_i32-u-requires c κs = search rules
 
-mul-put-u32 : tie.Need-overflow-mul-put-u32 invariant-loop decreases-loop
-mul-put-u32 c = omega arith
+overflow_mul-i : tie.Need-overflow_mul-i invariant-loop-i decreases-loop-i
+overflow_mul-i c = omega arith
 
-put-u32-requires : tie.Need-put-u32-requires invariant-loop decreases-loop
-put-u32-requires c κs = omega arith
+put_u32-requires : tie.Need-put_u32-requires invariant-loop-i decreases-loop-i
+put_u32-requires c κs = omega arith
 
-add-i : tie.Need-overflow-add-i invariant-loop decreases-loop
-add-i c = omega arith
+overflow_add-i : tie.Need-overflow_add-i invariant-loop-i decreases-loop-i
+overflow_add-i c = omega arith
 
-loop-less : tie.Need-loop-smaller invariant-loop decreases-loop
-loop-less c = omega arith
+loop-i-smaller : tie.Need-loop-i-smaller invariant-loop-i decreases-loop-i
+loop-i-smaller c = omega arith
 
-loop-again : tie.Need-loop-preserved invariant-loop decreases-loop
-loop-again c =
-    let at = c.before.before.before.before.before.before.before.loop in
-    let b = spelled w32 _ _ c.before.before.before.before.before.from-i32-arg.given c.before.before.before.before.from-i32.ensures in
-    turned (bytes_of_int w32) _ _ 4 (length-bytes_of_int w32) (pos 0) at.d _ _ at.i at.invariant (omega arith) (omega arith) b c.before.before.put-u32.ensures
+loop-i-preserved : tie.Need-loop-i-preserved invariant-loop-i decreases-loop-i
+loop-i-preserved c =
+    let at = c.loop-i in
+    let b = spelled w32 _ _ c.from_i32-arg-1.given c.from_i32-u.ensures in
+    turned (bytes_of_int w32) _ _ 4 (length-bytes_of_int w32) (pos 0) at.d _ _ at.i at.invariant (omega arith) (omega arith) b c.put_u32.ensures
 
-same_length : tie.Need-same-length invariant-loop decreases-loop
-same_length c = c.before.loop.invariant.same
+shape_of-d : tie.Need-shape_of-d invariant-loop-i decreases-loop-i
+shape_of-d c = c.loop-i.invariant.same
 
-returns : tie.Need-returns invariant-loop decreases-loop
+returns : tie.Need-returns invariant-loop-i decreases-loop-i
 unfolding bytes_of
-returns c = done (bytes_of_int w32) _ _ _ _ c.before.loop.invariant c.loop-test.false
+returns c = done (bytes_of_int w32) _ _ _ _ c.loop-i.invariant c.loop-i-test.false
 
 pub encode_i32_spec : {M : Type 1} → statement M
 encode_i32_spec =
     tie.close
     (tie.spec
-    invariant-loop
-    decreases-loop
-    loop-holds
-    mul-from-i32
-    shared-slice-copy-out-from-i32
-    from-i32-requires
-    mul-put-u32
-    put-u32-requires
-    add-i
-    loop-less
-    loop-again
-    same_length
+    invariant-loop-i
+    decreases-loop-i
+    loop-i-init
+    offset_bounds-v-i
+    bounds-v-i
+    from_i32-u-requires
+    overflow_mul-i
+    put_u32-requires
+    overflow_add-i
+    loop-i-smaller
+    loop-i-preserved
+    shape_of-d
     returns)

@@ -8,60 +8,60 @@ use Rattle.wire.proofs.Reading.{Reading, begun, turned, done, signed}
 use Rattle.wire.proofs.fill_i32.Statement.{statement}
 use Rattle.wire.proofs.fill_i32.Tie as tie
 
-abbrev invariant-loop : tie.invariant-loop
-invariant-loop s d₀ n i₀ d i = Reading (int w32 s) n d₀ d i
+abbrev invariant-loop-i : tie.invariant-loop-i
+invariant-loop-i s d₀ n i₀ d i = Reading (int w32 s) n d₀ d i
 
-abbrev decreases-loop : tie.decreases-loop
-decreases-loop s d₀ n i₀ d i = n - i
+abbrev decreases-loop-i : tie.decreases-loop-i
+decreases-loop-i s d₀ n i₀ d i = n - i
 
-loop-holds : tie.Need-loop-init invariant-loop decreases-loop
-loop-holds c = begun (int w32 _) _ _
+loop-i-init : tie.Need-loop-i-init invariant-loop-i decreases-loop-i
+loop-i-init c = begun (int w32 _) _ _
 
-mul-get-u32 : tie.Need-overflow-mul-get-u32 invariant-loop decreases-loop
-mul-get-u32 c = omega arith
+overflow_mul-i : tie.Need-overflow_mul-i invariant-loop-i decreases-loop-i
+overflow_mul-i c = omega arith
 
-get-u32-requires : tie.Need-get-u32-requires invariant-loop decreases-loop
-get-u32-requires c κs = omega arith
+get_u32-u-requires : tie.Need-get_u32-u-requires invariant-loop-i decreases-loop-i
+get_u32-u-requires c κs = omega arith
 
-to-i32-requires : tie.Need-to-i32-requires invariant-loop decreases-loop
-to-i32-requires c κs = search rules
+to_i32-requires : tie.Need-to_i32-requires invariant-loop-i decreases-loop-i
+to_i32-requires c κs = search rules
 
-mul-t8 : tie.Need-overflow-mul-t8 invariant-loop decreases-loop
-mul-t8 c = omega arith
+offset_bounds-d-i : tie.Need-offset_bounds-d-i invariant-loop-i decreases-loop-i
+offset_bounds-d-i c = omega arith
 
-slice-set-from-d : tie.Need-slice-set-from-d invariant-loop decreases-loop
-slice-set-from-d c = omega arith
+bounds-d-i : tie.Need-bounds-d-i invariant-loop-i decreases-loop-i
+bounds-d-i c = omega arith
 
-add-i : tie.Need-overflow-add-i invariant-loop decreases-loop
-add-i c = omega arith
+overflow_add-i : tie.Need-overflow_add-i invariant-loop-i decreases-loop-i
+overflow_add-i c = omega arith
 
-loop-less : tie.Need-loop-smaller invariant-loop decreases-loop
-loop-less c = omega arith
+loop-i-smaller : tie.Need-loop-i-smaller invariant-loop-i decreases-loop-i
+loop-i-smaller c = omega arith
 
-loop-again : tie.Need-loop-preserved invariant-loop decreases-loop
-loop-again c = turned (int w32 _) _ _ _ _ _ c.before.before.before.loop.invariant c.before.before.loop-test.true c.before.before.before.before.before.requires (signed w32 _ _ _ _ c.before.get-u32.ensures c.to-i32.ensures c.to-i32.type-inv)
+loop-i-preserved : tie.Need-loop-i-preserved invariant-loop-i decreases-loop-i
+loop-i-preserved c = turned (int w32 _) _ _ _ _ _ c.loop-i.invariant c.loop-i-test.true c.requires (signed w32 _ _ _ _ c.get_u32-u.ensures c.to_i32.ensures c.to_i32.type_inv)
 
-same_length : tie.Need-same-length invariant-loop decreases-loop
-same_length c = c.before.loop.invariant.same
+shape_of-d : tie.Need-shape_of-d invariant-loop-i decreases-loop-i
+shape_of-d c = c.loop-i.invariant.same
 
-returns : tie.Need-returns invariant-loop decreases-loop
+returns : tie.Need-returns invariant-loop-i decreases-loop-i
 unfolding ints
-returns c = done (int w32 _) _ _ _ _ c.before.loop.invariant c.loop-test.false
+returns c = done (int w32 _) _ _ _ _ c.loop-i.invariant c.loop-i-test.false
 
 pub fill_i32_spec : {M : Type 1} → statement M
 fill_i32_spec =
     tie.close
     (tie.spec
-    invariant-loop
-    decreases-loop
-    loop-holds
-    mul-get-u32
-    get-u32-requires
-    to-i32-requires
-    mul-t8
-    slice-set-from-d
-    add-i
-    loop-less
-    loop-again
-    same_length
+    invariant-loop-i
+    decreases-loop-i
+    loop-i-init
+    overflow_mul-i
+    get_u32-u-requires
+    to_i32-requires
+    offset_bounds-d-i
+    bounds-d-i
+    overflow_add-i
+    loop-i-smaller
+    loop-i-preserved
+    shape_of-d
     returns)

@@ -4,17 +4,23 @@ use Rattle.wire.proofs.Signs.{negative_cast, negative_bits, positive_cast, posit
 use Rattle.wire.proofs.from_i32.Statement.{statement}
 use Rattle.wire.proofs.from_i32.Tie as tie
 
-cast-result : tie.Need-overflow-cast-result
-cast-result c = negative_cast w32 _ c.before.ranges.z c.if1.true
+overflow_cast-result : tie.Need-overflow_cast-result
+overflow_cast-result c = negative_cast w32 _ c.ranges.z c.if-z-lt0.true
 
-cast-result-2 : tie.Need-overflow-cast-result-2
-cast-result-2 c = positive_cast w32 _ c.before.ranges.z c.if1.false
+overflow_cast-result-else-z-lt0 : tie.Need-overflow_cast-result-else-z-lt0
+overflow_cast-result-else-z-lt0 c = positive_cast w32 _ c.ranges.z c.if-z-lt0.false
 
-returns : tie.Need-returns
-returns c = negative_bits w32 _ c.before.ranges.z c.if1.true
+returns-then-z-lt0 : tie.Need-returns-then-z-lt0
+returns-then-z-lt0 c = negative_bits w32 _ c.ranges.z c.if-z-lt0.true
 
-returns-2 : tie.Need-returns-2
-returns-2 c = positive-bits w32 _ c.before.ranges.z c.if1.false
+returns-else-z-lt0 : tie.Need-returns-else-z-lt0
+returns-else-z-lt0 c = positive-bits w32 _ c.ranges.z c.if-z-lt0.false
 
 pub from_i32_spec : {M : Type 1} → statement M
-from_i32_spec = tie.close (tie.spec cast-result cast-result-2 returns returns-2)
+from_i32_spec =
+    tie.close
+    (tie.spec
+    overflow_cast-result
+    overflow_cast-result-else-z-lt0
+    returns-then-z-lt0
+    returns-else-z-lt0)

@@ -6,41 +6,41 @@ use Rattle.wire.proofs.Numbers.{four_stored}
 use Rattle.wire.proofs.put_u32.Statement.{statement}
 use Rattle.wire.proofs.put_u32.Tie as tie
 
-cast-d : tie.Need-overflow-cast-d
-cast-d c = search rules
+overflow_cast-d : tie.Need-overflow_cast-d
+overflow_cast-d c = search rules
 
-slice-write-d : tie.Need-slice-write-d
-slice-write-d c = search rules
+bounds-d-at : tie.Need-bounds-d-at
+bounds-d-at c = search rules
 
-cast-d-2 : tie.Need-overflow-cast-d-2
-cast-d-2 c = search rules
+overflow_cast-d-2 : tie.Need-overflow_cast-d-2
+overflow_cast-d-2 c = search rules
 
-add-d : tie.Need-overflow-add-d
-add-d c = search rules
+overflow_add-d : tie.Need-overflow_add-d
+overflow_add-d c = search rules
 
-slice-write-d-2 : tie.Need-slice-write-d-2
-slice-write-d-2 c = simp length-set (omega arith)
+bounds-d-at-2 : tie.Need-bounds-d-at-2
+bounds-d-at-2 c = simp length-set (omega arith)
 
-cast-d-3 : tie.Need-overflow-cast-d-3
-cast-d-3 c = search rules
+overflow_cast-d-3 : tie.Need-overflow_cast-d-3
+overflow_cast-d-3 c = search rules
 
-add-d-2 : tie.Need-overflow-add-d-2
-add-d-2 c = search rules
+overflow_add-d-2 : tie.Need-overflow_add-d-2
+overflow_add-d-2 c = search rules
 
-slice-write-d-3 : tie.Need-slice-write-d-3
-slice-write-d-3 c = simp length-set (omega arith)
+bounds-d-at-3 : tie.Need-bounds-d-at-3
+bounds-d-at-3 c = simp length-set (omega arith)
 
-cast-d-4 : tie.Need-overflow-cast-d-4
-cast-d-4 c = search rules
+overflow_cast-d-4 : tie.Need-overflow_cast-d-4
+overflow_cast-d-4 c = search rules
 
-add-d-3 : tie.Need-overflow-add-d-3
-add-d-3 c = search rules
+overflow_add-d-3 : tie.Need-overflow_add-d-3
+overflow_add-d-3 c = search rules
 
-slice-write-d-4 : tie.Need-slice-write-d-4
-slice-write-d-4 c = simp length-set (omega arith)
+bounds-d-at-4 : tie.Need-bounds-d-at-4
+bounds-d-at-4 c = simp length-set (omega arith)
 
-same_length : tie.Need-same-length
-same_length c = search rules
+shape_of-d : tie.Need-shape_of-d
+shape_of-d c = search rules
 
 returns : tie.Need-returns
 returns c = four_stored _ _ _
@@ -49,16 +49,16 @@ pub put_u32_spec : {M : Type 1} → statement M
 put_u32_spec =
     tie.close
     (tie.spec
-    cast-d
-    slice-write-d
-    cast-d-2
-    add-d
-    slice-write-d-2
-    cast-d-3
-    add-d-2
-    slice-write-d-3
-    cast-d-4
-    add-d-3
-    slice-write-d-4
-    same_length
+    overflow_cast-d
+    bounds-d-at
+    overflow_cast-d-2
+    overflow_add-d
+    bounds-d-at-2
+    overflow_cast-d-3
+    overflow_add-d-2
+    bounds-d-at-3
+    overflow_cast-d-4
+    overflow_add-d-3
+    bounds-d-at-4
+    shape_of-d
     returns)

@@ -5,17 +5,23 @@ use Rattle.wire.proofs.Signs.{flipped_twice}
 use Rattle.wire.proofs.to_i32.Statement.{statement}
 use Rattle.wire.proofs.to_i32.Tie as tie
 
-cast-result : tie.Need-overflow-cast-result
-cast-result c = search rules
+overflow_cast-result : tie.Need-overflow_cast-result
+overflow_cast-result c = search rules
 
-cast-result-2 : tie.Need-overflow-cast-result-2
-cast-result-2 c = search rules
+overflow_cast-result-else-u-lt2147483648 : tie.Need-overflow_cast-result-else-u-lt2147483648
+overflow_cast-result-else-u-lt2147483648 c = search rules
 
-returns : tie.Need-returns
-returns c = search rules
+returns-then-u-lt2147483648 : tie.Need-returns-then-u-lt2147483648
+returns-then-u-lt2147483648 c = search rules
 
-returns-2 : tie.Need-returns-2
-returns-2 c = flipped_twice w32 _ c.before.ranges.u
+returns-else-u-lt2147483648 : tie.Need-returns-else-u-lt2147483648
+returns-else-u-lt2147483648 c = flipped_twice w32 _ c.ranges.u
 
 pub to_i32_spec : {M : Type 1} → statement M
-to_i32_spec = tie.close (tie.spec cast-result cast-result-2 returns returns-2)
+to_i32_spec =
+    tie.close
+    (tie.spec
+    overflow_cast-result
+    overflow_cast-result-else-u-lt2147483648
+    returns-then-u-lt2147483648
+    returns-else-u-lt2147483648)

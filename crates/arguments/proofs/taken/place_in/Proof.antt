@@ -2,14 +2,19 @@ use Rattle.arguments.proofs.TakenLaws.{place-first, place_own}
 use Rattle.arguments.proofs.taken.place_in.Statement.{statement}
 use Rattle.arguments.proofs.taken.place_in.Tie as tie
 
-serves-all-requires : tie.Need-serves-all-requires
-serves-all-requires c κs = search
+serves_all-requires : tie.Need-serves_all-requires
+serves_all-requires c κs = search
+
+returns-then-serves_all : tie.Need-returns-then-serves_all
+returns-then-serves_all c = place-first _ _ _ _ c.serves_all.ensures c.if-serves_all.true
 
 returns : tie.Need-returns
-returns c = place-first _ _ _ _ c.before.serves-all.ensures c.if1.true
-
-returns-2 : tie.Need-returns-2
-returns-2 c = place_own _ _ _ _ c.before.serves-all.ensures c.if1.false
+returns c = place_own _ _ _ _ c.serves_all.ensures c.if-serves_all.false
 
 pub place_in_spec : {M : Type 1} → statement M
-place_in_spec = tie.close (tie.spec serves-all-requires returns returns-2)
+place_in_spec =
+    tie.close
+    (tie.spec
+    serves_all-requires
+    returns-then-serves_all
+    returns)

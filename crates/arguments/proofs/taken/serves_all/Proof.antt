@@ -1,11 +1,15 @@
 use Rattle.arguments.proofs.taken.serves_all.Statement.{statement}
 use Rattle.arguments.proofs.taken.serves_all.Tie as tie
 
-returns : tie.Need-returns
-returns c = rw c.if1.true
+returns-then-limit : tie.Need-returns-then-limit
+returns-then-limit c = rw c.if-limit.true
 
-returns-2 : tie.Need-returns-2
-returns-2 c = rw c.if1.false
+returns : tie.Need-returns
+returns c = rw c.if-limit.false
 
 pub serves_all_spec : {M : Type 1} → statement M
-serves_all_spec = tie.close (tie.spec returns returns-2)
+serves_all_spec =
+    tie.close
+    (tie.spec
+    returns-then-limit
+    returns)

@@ -2,31 +2,38 @@ use Rattle.codes.specs.Codes.{columns_taken}
 use Rattle.codes.proofs.check.columns_of.Statement.{statement}
 use Rattle.codes.proofs.check.columns_of.Tie as tie
 
-enum-known-o : tie.Need-enum-known-o
-enum-known-o c = search
+enum_known-o : tie.Need-enum_known-o
+enum_known-o c = search
 
-takes-requires : tie.Need-takes-requires
-takes-requires c κs = search
+takes-t-requires : tie.Need-takes-t-requires
+takes-t-requires c κs = search
 
-enum_told : tie.Need-enum-told
-enum_told c = search
+enum_told-1 : tie.Need-enum_told-1
+enum_told-1 c = search
 
-enum-told-2 : tie.Need-enum-told-2
-enum-told-2 c = search
+enum_told-in-None : tie.Need-enum_told-in-None
+enum_told-in-None c = search
 
-returns : tie.Need-returns
+returns-in-One : tie.Need-returns-in-One
 unfolding columns_taken
-returns c = rw (c.before.before.o.given.1, c.takes.ensures)
+returns-in-One c = rw (c.in-One.is, c.takes-t.ensures)
 
-returns-2 : tie.Need-returns-2
+returns-in-Two : tie.Need-returns-in-Two
 unfolding columns_taken
-returns-2 c = rw c.enum_told.given.1
+returns-in-Two c = rw c.in-Two.is
 
-returns-3 : tie.Need-returns-3
+returns-in-None : tie.Need-returns-in-None
 unfolding columns_taken
-returns-3 c = rw c.enum-told2.given.1
+returns-in-None c = rw c.in-None.is
 
 pub columns_of_spec : {M : Type 1} → statement M
 columns_of_spec =
     tie.close
-    (tie.spec enum-known-o takes-requires enum_told enum-told-2 returns returns-2 returns-3)
+    (tie.spec
+    enum_known-o
+    takes-t-requires
+    enum_told-1
+    enum_told-in-None
+    returns-in-One
+    returns-in-Two
+    returns-in-None)

@@ -3,17 +3,23 @@ use borrow.Author.Rules.{rules}
 use Rattle.column.proofs.elements.value_or_null.Statement.{statement}
 use Rattle.column.proofs.elements.value_or_null.Tie as tie
 
-mul-result : tie.Need-overflow-mul-result
-mul-result c = search rules
+offset_bounds-values-i : tie.Need-offset_bounds-values-i
+offset_bounds-values-i c = search rules
 
-shared-slice-copy-out-result : tie.Need-shared-slice-copy-out-result
-shared-slice-copy-out-result c = search rules
+bounds-values-i : tie.Need-bounds-values-i
+bounds-values-i c = search rules
+
+returns-then-on : tie.Need-returns-then-on
+returns-then-on c = rw (c.if-on.true, back64 _ c.result-1.given)
 
 returns : tie.Need-returns
-returns c = rw (c.before.if1.true, back64 _ c.result.given)
-
-returns-2 : tie.Need-returns-2
-returns-2 c = rw c.if1.false
+returns c = rw c.if-on.false
 
 pub value_or_null_spec : {M : Type 1} → statement M
-value_or_null_spec = tie.close (tie.spec mul-result shared-slice-copy-out-result returns returns-2)
+value_or_null_spec =
+    tie.close
+    (tie.spec
+    offset_bounds-values-i
+    bounds-values-i
+    returns-then-on
+    returns)

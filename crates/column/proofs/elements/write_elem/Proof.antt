@@ -4,38 +4,38 @@ use borrow.Author.Rules.{rules}
 use Rattle.column.proofs.elements.write_elem.Statement.{statement}
 use Rattle.column.proofs.elements.write_elem.Tie as tie
 
-is-valid-requires : tie.Need-is-valid-requires
-is-valid-requires c κs = search rules
+is_valid-valid-requires : tie.Need-is_valid-valid-requires
+is_valid-valid-requires c κs = search rules
 
-value-or-null-requires : tie.Need-value-or-null-requires
-value-or-null-requires c κs = search rules
+value_or_null-v-requires : tie.Need-value_or_null-v-requires
+value_or_null-v-requires c κs = search rules
 
-put-value-requires : tie.Need-put-value-requires
-put-value-requires c κs = search rules
+put_value-requires : tie.Need-put_value-requires
+put_value-requires c κs = search rules
 
-push-bit-requires : tie.Need-push-bit-requires
-push-bit-requires c κs = search rules
+push_bit-requires : tie.Need-push_bit-requires
+push_bit-requires c κs = search rules
 
-same_length : tie.Need-same-length
-same_length c = search rules
+shape_of-out_values : tie.Need-shape_of-out_values
+shape_of-out_values c = search rules
 
-same-length-2 : tie.Need-same-length-2
-same-length-2 c = search rules
+shape_of-out_elements : tie.Need-shape_of-out_elements
+shape_of-out_elements c = search rules
 
 returns : tie.Need-returns
 returns c =
     let b = c.before.before.before.before.before in
     let v = b.before.before.before in
-    (rw (value_elem, ← v.is-valid.ensures, ← b.before.before.value-or-null.ensures) (rw (back64 _ b.before.before.value-or-null.type-inv) at b.put-value.ensures), rw (is_val_elem, ← v.is-valid.ensures) c.before.before.push-bit.ensures)
+    (rw (value_elem, ← v.is_valid-valid.ensures, ← b.value_or_null-v.ensures) (rw (back64 _ b.value_or_null-v.type_inv) at b.put_value.ensures), rw (is_val_elem, ← v.is_valid-valid.ensures) c.push_bit.ensures)
 
 pub write_elem_spec : {M : Type 1} → statement M
 write_elem_spec =
     tie.close
     (tie.spec
-    is-valid-requires
-    value-or-null-requires
-    put-value-requires
-    push-bit-requires
-    same_length
-    same-length-2
+    is_valid-valid-requires
+    value_or_null-v-requires
+    put_value-requires
+    push_bit-requires
+    shape_of-out_values
+    shape_of-out_elements
     returns)

@@ -6,20 +6,27 @@ use Rattle.column.proofs.OffsetLaws.{casts, negative_below, counted-below}
 use Rattle.column.proofs.offsets.below.Statement.{statement}
 use Rattle.column.proofs.offsets.below.Tie as tie
 
-mul-x : tie.Need-overflow-mul-x
-mul-x c = search rules
+offset_bounds-offsets-i : tie.Need-offset_bounds-offsets-i
+offset_bounds-offsets-i c = search rules
 
-shared-slice-copy-out-x : tie.Need-shared-slice-copy-out-x
-shared-slice-copy-out-x c = search rules
+bounds-offsets-i : tie.Need-bounds-offsets-i
+bounds-offsets-i c = search rules
+
+returns-then-x-lt0 : tie.Need-returns-then-x-lt0
+returns-then-x-lt0 c = negative_below w32 (get_or c.args.offsets.now c.args.i (pos 0)) c.args.v c.x-1.given c.if-x-lt0.true
+
+overflow_cast-result : tie.Need-overflow_cast-result
+overflow_cast-result c = casts w32 (get_or c.args.offsets.now c.args.i (pos 0)) c.x-1.given tt c.if-x-lt0.false
 
 returns : tie.Need-returns
-returns c = negative_below w32 (get_or c.before.before.args.offsets.now c.before.before.args.i (pos 0)) c.before.before.args.v c.before.x.given c.if1.true
-
-cast-result : tie.Need-overflow-cast-result
-cast-result c = casts w32 (get_or c.before.before.args.offsets.now c.before.before.args.i (pos 0)) c.before.x.given tt c.if1.false
-
-returns-2 : tie.Need-returns-2
-returns-2 c = counted-below w32 (get_or c.before.before.args.offsets.now c.before.before.args.i (pos 0)) c.before.before.args.v c.before.x.given c.if1.false
+returns c = counted-below w32 (get_or c.args.offsets.now c.args.i (pos 0)) c.args.v c.x-1.given c.if-x-lt0.false
 
 pub below_spec : {M : Type 1} → statement M
-below_spec = tie.close (tie.spec mul-x shared-slice-copy-out-x returns cast-result returns-2)
+below_spec =
+    tie.close
+    (tie.spec
+    offset_bounds-offsets-i
+    bounds-offsets-i
+    returns-then-x-lt0
+    overflow_cast-result
+    returns)

@@ -7,20 +7,27 @@ use borrow.Author.Rules.{rules}
 use Rattle.column.proofs.offsets.offset_at.Statement.{statement}
 use Rattle.column.proofs.offsets.offset_at.Tie as tie
 
-mul-x : tie.Need-overflow-mul-x
-mul-x c = search rules
+offset_bounds-offsets-i : tie.Need-offset_bounds-offsets-i
+offset_bounds-offsets-i c = search rules
 
-shared-slice-copy-out-x : tie.Need-shared-slice-copy-out-x
-shared-slice-copy-out-x c = search rules
+bounds-offsets-i : tie.Need-bounds-offsets-i
+bounds-offsets-i c = search rules
+
+returns-then-x-lt0 : tie.Need-returns-then-x-lt0
+returns-then-x-lt0 c = (negative w32 _ c.x-1.given c.if-x-lt0.true, omega arith)
+
+overflow_cast-result : tie.Need-overflow_cast-result
+overflow_cast-result c = casts w32 (get_or c.args.offsets.now c.args.i (pos 0)) c.x-1.given tt c.if-x-lt0.false
 
 returns : tie.Need-returns
-returns c = (negative w32 _ c.before.x.given c.if1.true, omega arith)
+returns c = (counted w32 _ c.x-1.given c.if-x-lt0.false, omega (arith, bounded w32 (get_or c.args.offsets.now c.args.i (pos 0)) c.x-1.given c.if-x-lt0.false))
 
-cast-result : tie.Need-overflow-cast-result
-cast-result c = casts w32 (get_or c.before.before.args.offsets.now c.before.before.args.i (pos 0)) c.before.x.given tt c.if1.false
-
-returns-2 : tie.Need-returns-2
-returns-2 c = (counted w32 _ c.before.x.given c.if1.false, omega (arith, bounded w32 (get_or c.before.before.args.offsets.now c.before.before.args.i (pos 0)) c.before.x.given c.if1.false))
-
-pub offset-at_spec : {M : Type 1} → statement M
-offset-at_spec = tie.close (tie.spec mul-x shared-slice-copy-out-x returns cast-result returns-2)
+pub offset_at_spec : {M : Type 1} → statement M
+offset_at_spec =
+    tie.close
+    (tie.spec
+    offset_bounds-offsets-i
+    bounds-offsets-i
+    returns-then-x-lt0
+    overflow_cast-result
+    returns)

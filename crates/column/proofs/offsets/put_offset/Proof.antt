@@ -6,17 +6,17 @@ use borrow.Author.Rules.{rules}
 use Rattle.column.proofs.offsets.put_offset.Statement.{statement}
 use Rattle.column.proofs.offsets.put_offset.Tie as tie
 
-cast-out : tie.Need-overflow-cast-out
-cast-out c = search rules
+overflow_cast-out : tie.Need-overflow_cast-out
+overflow_cast-out c = search rules
 
-mul-t5 : tie.Need-overflow-mul-t5
-mul-t5 c = search rules
+offset_bounds-out-i : tie.Need-offset_bounds-out-i
+offset_bounds-out-i c = search rules
 
-slice-set-from-out : tie.Need-slice-set-from-out
-slice-set-from-out c = search rules
+bounds-out-i : tie.Need-bounds-out-i
+bounds-out-i c = search rules
 
-same_length : tie.Need-same-length
-same_length c = search rules
+shape_of-out : tie.Need-shape_of-out
+shape_of-out c = search rules
 
 returns : tie.Need-returns
 returns c =
@@ -24,4 +24,11 @@ returns c =
     rw (to_z_pos w32 h)
 
 pub put_offset_spec : {M : Type 1} → statement M
-put_offset_spec = tie.close (tie.spec cast-out mul-t5 slice-set-from-out same_length returns)
+put_offset_spec =
+    tie.close
+    (tie.spec
+    overflow_cast-out
+    offset_bounds-out-i
+    bounds-out-i
+    shape_of-out
+    returns)

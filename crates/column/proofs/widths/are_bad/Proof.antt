@@ -2,23 +2,31 @@ use borrow.Author.Rules.{rules}
 use Rattle.column.proofs.widths.are_bad.Statement.{statement}
 use Rattle.column.proofs.widths.are_bad.Tie as tie
 
-enum_told : tie.Need-enum-told
-enum_told c = search rules
+enum_told-1 : tie.Need-enum_told-1
+enum_told-1 c = search rules
 
-are-bad-requires : tie.Need-are-bad-requires
-are-bad-requires c κs = search
+are_bad-requires : tie.Need-are_bad-requires
+are_bad-requires c κs = search
 
-enum-told-2 : tie.Need-enum-told-2
-enum-told-2 c = search rules
+enum_told-in-Wide : tie.Need-enum_told-in-Wide
+enum_told-in-Wide c = search rules
 
-are-bad-requires-2 : tie.Need-are-bad-requires-2
-are-bad-requires-2 c κs = search
+are_bad-requires-in-Wide : tie.Need-are_bad-requires-in-Wide
+are_bad-requires-in-Wide c κs = search
 
-returns : tie.Need-returns
-returns c = rw c.before.enum_told.given.1 c.are-bad.ensures
+returns-in-Narrow : tie.Need-returns-in-Narrow
+returns-in-Narrow c = rw c.in-Narrow.is c.are_bad.ensures
 
-returns-2 : tie.Need-returns-2
-returns-2 c = rw c.before.enum-told2.given.1 c.are-bad2.ensures
+returns-in-Wide : tie.Need-returns-in-Wide
+returns-in-Wide c = rw c.in-Wide.is c.are_bad-in-Wide.ensures
 
 pub are_bad_spec : {M : Type 1} → statement M
-are_bad_spec = tie.close (tie.spec enum_told are-bad-requires enum-told-2 are-bad-requires-2 returns returns-2)
+are_bad_spec =
+    tie.close
+    (tie.spec
+    enum_told-1
+    are_bad-requires
+    enum_told-in-Wide
+    are_bad-requires-in-Wide
+    returns-in-Narrow
+    returns-in-Wide)

@@ -17,22 +17,28 @@ none_first (x ∷ o) e = let z : ⊥ = omega arith in absurd z
 
 module _ (c : tie.After-pick) where
   abbrev O : List ℤ
-  O = let a = c.before.args in used a.width a.narrow.now a.wide.now
+  O = let a = c.args in used a.width a.narrow.now a.wide.now
 
   long : length O ≡ c.pick.result
-  long = let a = c.before.args in used-length a.width a.narrow.now a.wide.now ∙ sym c.pick.ensures
+  long = let a = c.args in used-length a.width a.narrow.now a.wide.now ∙ sym c.pick.ensures
 
 pick-requires : tie.Need-pick-requires
 pick-requires c κs = search
 
+returns-then-pick-eq0 : tie.Need-returns-then-pick-eq0
+returns-then-pick-eq0 c = none_first (O c.before) (long c.before ∙ c.if-pick-eq0.true)
+
+offset_at-requires : tie.Need-offset_at-requires
+offset_at-requires c κs = omega (arith, long c.before, c.if-pick-eq0.false)
+
 returns : tie.Need-returns
-returns c = none_first (O c.before) (long c.before ∙ c.if1.true)
+returns c = c.offset_at.ensures.0
 
-offset-at-requires : tie.Need-offset-at-requires
-offset-at-requires c κs = omega (arith, long c.before, c.if1.false)
-
-returns-2 : tie.Need-returns-2
-returns-2 c = c.offset_at.ensures.0
-
-pub first-offset_spec : {M : Type 1} → statement M
-first-offset_spec = tie.close (tie.spec pick-requires returns offset-at-requires returns-2)
+pub first_offset_spec : {M : Type 1} → statement M
+first_offset_spec =
+    tie.close
+    (tie.spec
+    pick-requires
+    returns-then-pick-eq0
+    offset_at-requires
+    returns)

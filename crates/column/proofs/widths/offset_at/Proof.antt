@@ -2,23 +2,31 @@ use borrow.Author.Rules.{rules}
 use Rattle.column.proofs.widths.offset_at.Statement.{statement}
 use Rattle.column.proofs.widths.offset_at.Tie as tie
 
-enum_told : tie.Need-enum-told
-enum_told c = search rules
+enum_told-1 : tie.Need-enum_told-1
+enum_told-1 c = search rules
 
-offset-at-requires : tie.Need-offset-at-requires
-offset-at-requires c κs = rw c.enum_told.given.1 at c.before.before.requires
+offset_at-requires : tie.Need-offset_at-requires
+offset_at-requires c κs = rw c.in-Narrow.is at c.requires
 
-enum-told-2 : tie.Need-enum-told-2
-enum-told-2 c = search rules
+enum_told-in-Wide : tie.Need-enum_told-in-Wide
+enum_told-in-Wide c = search rules
 
-offset-at-requires-2 : tie.Need-offset-at-requires-2
-offset-at-requires-2 c κs = rw c.enum-told2.given.1 at c.before.before.requires
+offset_at-requires-in-Wide : tie.Need-offset_at-requires-in-Wide
+offset_at-requires-in-Wide c κs = rw c.in-Wide.is at c.requires
 
-returns : tie.Need-returns
-returns c = rw c.before.enum_told.given.1 c.offset_at.ensures
+returns-in-Narrow : tie.Need-returns-in-Narrow
+returns-in-Narrow c = rw c.in-Narrow.is c.offset_at.ensures
 
-returns-2 : tie.Need-returns-2
-returns-2 c = rw c.before.enum-told2.given.1 c.offset-at2.ensures
+returns-in-Wide : tie.Need-returns-in-Wide
+returns-in-Wide c = rw c.in-Wide.is c.offset_at-in-Wide.ensures
 
-pub offset-at_spec : {M : Type 1} → statement M
-offset-at_spec = tie.close (tie.spec enum_told offset-at-requires enum-told-2 offset-at-requires-2 returns returns-2)
+pub offset_at_spec : {M : Type 1} → statement M
+offset_at_spec =
+    tie.close
+    (tie.spec
+    enum_told-1
+    offset_at-requires
+    enum_told-in-Wide
+    offset_at-requires-in-Wide
+    returns-in-Narrow
+    returns-in-Wide)

@@ -2,39 +2,39 @@ use borrow.Author.Rules.{rules}
 use Rattle.column.proofs.widths.put_offset.Statement.{statement}
 use Rattle.column.proofs.widths.put_offset.Tie as tie
 
-enum_told : tie.Need-enum-told
-enum_told c = search rules
+enum_told-1 : tie.Need-enum_told-1
+enum_told-1 c = search rules
 
-put-offset-requires : tie.Need-put-offset-requires
-put-offset-requires c κs = rw c.before.enum_told.given.1 at c.before.before.before.requires
+put_offset-requires : tie.Need-put_offset-requires
+put_offset-requires c κs = rw c.in-Narrow.is at c.requires
 
-enum-told-2 : tie.Need-enum-told-2
-enum-told-2 c = search rules
+enum_told-in-Wide : tie.Need-enum_told-in-Wide
+enum_told-in-Wide c = search rules
 
-put-offset-requires-2 : tie.Need-put-offset-requires-2
-put-offset-requires-2 c κs = rw c.before.enum-told2.given.1 at c.before.before.before.requires
+put_offset-requires-in-Wide : tie.Need-put_offset-requires-in-Wide
+put_offset-requires-in-Wide c κs = rw c.in-Wide.is at c.requires
 
-same_length : tie.Need-same-length
-same_length c = search rules
+shape_of-narrow : tie.Need-shape_of-narrow
+shape_of-narrow c = search rules
 
-returns : tie.Need-returns
-returns c = rw c.before.before.before.enum_told.given.1 c.before.put-offset.ensures
+returns-in-Narrow : tie.Need-returns-in-Narrow
+returns-in-Narrow c = rw c.in-Narrow.is c.put_offset.ensures
 
-same-length-2 : tie.Need-same-length-2
-same-length-2 c = search rules
+shape_of-wide : tie.Need-shape_of-wide
+shape_of-wide c = search rules
 
-returns-2 : tie.Need-returns-2
-returns-2 c = rw c.before.before.before.enum-told2.given.1 c.before.put-offset2.ensures
+returns-in-Wide : tie.Need-returns-in-Wide
+returns-in-Wide c = rw c.in-Wide.is c.put_offset-in-Wide.ensures
 
 pub put_offset_spec : {M : Type 1} → statement M
 put_offset_spec =
     tie.close
     (tie.spec
-    enum_told
-    put-offset-requires
-    enum-told-2
-    put-offset-requires-2
-    same_length
-    returns
-    same-length-2
-    returns-2)
+    enum_told-1
+    put_offset-requires
+    enum_told-in-Wide
+    put_offset-requires-in-Wide
+    shape_of-narrow
+    returns-in-Narrow
+    shape_of-wide
+    returns-in-Wide)

@@ -7,34 +7,42 @@ use Rattle.duthlan.proofs.grade.duthlan_typed_grade.Tie as tie
 
 -- ---- places: the counts told, the column graded, the counts found long enough
 
-abbrev told : tie.After-slice-known4 → tie.After-put-grade
+abbrev told : tie.After-slice_known-4-1 → tie.After-put_grade
 told c = c.before.before
 
-abbrev ran : tie.After-slice-known4 → tie.After-grade-column
+abbrev ran : tie.After-slice_known-4-1 → tie.After-grade_column-answer
 ran c = c.before.before.before.before.before.before
 
-abbrev long : tie.After-slice-known4 → tie.Else1
+abbrev long : tie.After-slice_known-4-1 → tie.Else-counts-lt1
 long c = (ran c).before.before
 
 -- ---- needs
 
+returns-then-counts-lt1 : tie.Need-returns-then-counts-lt1
+returns-then-counts-lt1 c = grade_unserved _ (too_short _ _ _ refl (lt-ltb _ 1 c.if-counts-lt1.true))
+
+grade_column-answer-requires : tie.Need-grade_column-answer-requires
+grade_column-answer-requires c κs = tt
+
+put_grade-requires : tie.Need-put_grade-requires
+put_grade-requires c κs = c.if-counts-lt1.false
+
+shape_of-grades : tie.Need-shape_of-grades
+shape_of-grades c = (ran c).grade-column.auto.1.1.1.1.1.1.1.0
+
+shape_of-counts : tie.Need-shape_of-counts
+shape_of-counts c = (told c).put-grade.auto.1.0
+
 returns : tie.Need-returns
-returns c = grade_unserved _ (too_short _ _ _ refl (lt-ltb _ 1 c.if1.true))
-
-grade-column-requires : tie.Need-grade-column-requires
-grade-column-requires c κs = tt
-
-put-grade-requires : tie.Need-put-grade-requires
-put-grade-requires c κs = c.before.before.before.before.before.if1.false
-
-same_length : tie.Need-same-length
-same_length c = (ran c).grade-column.auto.1.1.1.1.1.1.1.0
-
-same-length-2 : tie.Need-same-length-2
-same-length-2 c = (told c).put-grade.auto.1.0
-
-returns-2 : tie.Need-returns-2
-returns-2 c = grade_told (own _ _ _ refl (le-ltb _ 1 (long c).if1.false)) (ran c).grade-column.ensures (told c).put-grade.ensures
+returns c = grade_told (own _ _ _ refl (le-ltb _ 1 (long c).if1.false)) (ran c).grade-column.ensures (told c).put-grade.ensures
 
 pub duthlan_typed_grade_spec : {M : Type 1} → statement M
-duthlan_typed_grade_spec = tie.close (tie.spec returns grade-column-requires put-grade-requires same_length same-length-2 returns-2)
+duthlan_typed_grade_spec =
+    tie.close
+    (tie.spec
+    returns-then-counts-lt1
+    grade_column-answer-requires
+    put_grade-requires
+    shape_of-grades
+    shape_of-counts
+    returns)

@@ -9,79 +9,79 @@ use Rattle.duthlan.proofs.grade.duthlan_typed_grade_recipe.Tie as tie
 
 -- ---- places: the answer told, the recipe graded, what it is graded by, the tally read, the start
 
-abbrev told : tie.After-slice-known18 → tie.After-settle
+abbrev told : tie.After-slice_known-18-1 → tie.After-settle
 told c = c.before.before.before.before
 
-abbrev ran : tie.After-slice-known18 → tie.After-grade-recipe
+abbrev ran : tie.After-slice_known-18-1 → tie.After-grade_recipe-done
 ran c = (told c).before.before.before.before.before.before.before.before.before.before.before.before.before.before.before.before.before.before.before.before.before.before.before
 
-abbrev chosen : tie.After-slice-known18 → tie.After-k-for
+abbrev chosen : tie.After-slice_known-18-1 → tie.After-k_for-by
 chosen c = (ran c).before.before.before.before.before.before.before.before.before.before.before.before.before.before
 
-abbrev got : tie.After-slice-known18 → tie.After-get-tally
+abbrev got : tie.After-slice_known-18-1 → tie.After-get_tally-before
 got c = (chosen c).before
 
-abbrev start : tie.After-slice-known18 → tie.Start
+abbrev start : tie.After-slice_known-18-1 → tie.Start
 start c = (got c).before.before.before.before.before.before.before.before.before.before.before.before.before.before.before.before.before
 
 -- ---- needs
 
-get-tally-requires : tie.Need-get-tally-requires
-get-tally-requires c κs = tt
+get_tally-before-requires : tie.Need-get_tally-before-requires
+get_tally-before-requires c κs = tt
 
-k-for-requires : tie.Need-k-for-requires
-k-for-requires c κs = tt
+k_for-by-requires : tie.Need-k_for-by-requires
+k_for-by-requires c κs = tt
 
-grade-recipe-requires : tie.Need-grade-recipe-requires
-grade-recipe-requires c κs = tt
+grade_recipe-done-requires : tie.Need-grade_recipe-done-requires
+grade_recipe-done-requires c κs = tt
 
 settle-requires : tie.Need-settle-requires
 settle-requires c κs = tt
 
-same_length : tie.Need-same-length
-same_length c = (ran c).grade-recipe.auto.1.1.1.1.1.1.1.1.1.1.1.1.1.1.1.1.1.1.1.1.0
+shape_of-one_offsets : tie.Need-shape_of-one_offsets
+shape_of-one_offsets c = (ran c).grade-recipe.auto.1.1.1.1.1.1.1.1.1.1.1.1.1.1.1.1.1.1.1.1.0
 
-same-length-2 : tie.Need-same-length-2
-same-length-2 c = (ran c).grade-recipe.auto.1.1.1.1.1.1.1.1.1.1.1.1.1.1.1.1.1.1.1.1.1.0
+shape_of-one_rows : tie.Need-shape_of-one_rows
+shape_of-one_rows c = (ran c).grade-recipe.auto.1.1.1.1.1.1.1.1.1.1.1.1.1.1.1.1.1.1.1.1.1.0
 
-same-length-3 : tie.Need-same-length-3
-same-length-3 c = (ran c).grade-recipe.auto.1.1.1.1.1.1.1.1.1.1.1.1.1.1.1.1.1.1.1.1.1.1.0
+shape_of-one_values : tie.Need-shape_of-one_values
+shape_of-one_values c = (ran c).grade-recipe.auto.1.1.1.1.1.1.1.1.1.1.1.1.1.1.1.1.1.1.1.1.1.1.0
 
-same-length-4 : tie.Need-same-length-4
-same-length-4 c = (ran c).grade-recipe.auto.1.1.1.1.1.1.1.1.1.1.1.1.1.1.1.1.1.1.1.1.1.1.1.0
+shape_of-one_elements : tie.Need-shape_of-one_elements
+shape_of-one_elements c = (ran c).grade-recipe.auto.1.1.1.1.1.1.1.1.1.1.1.1.1.1.1.1.1.1.1.1.1.1.1.0
 
-same-length-5 : tie.Need-same-length-5
-same-length-5 c = (ran c).grade-recipe.auto.1.1.1.1.1.1.1.1.1.1.1.1.1.1.1.1.1.1.1.1.1.1.1.1.0
+shape_of-two_offsets : tie.Need-shape_of-two_offsets
+shape_of-two_offsets c = (ran c).grade-recipe.auto.1.1.1.1.1.1.1.1.1.1.1.1.1.1.1.1.1.1.1.1.1.1.1.1.0
 
-same-length-6 : tie.Need-same-length-6
-same-length-6 c = (ran c).grade-recipe.auto.1.1.1.1.1.1.1.1.1.1.1.1.1.1.1.1.1.1.1.1.1.1.1.1.1.0
+shape_of-two_rows : tie.Need-shape_of-two_rows
+shape_of-two_rows c = (ran c).grade-recipe.auto.1.1.1.1.1.1.1.1.1.1.1.1.1.1.1.1.1.1.1.1.1.1.1.1.1.0
 
-same-length-7 : tie.Need-same-length-7
-same-length-7 c = (ran c).grade-recipe.auto.1.1.1.1.1.1.1.1.1.1.1.1.1.1.1.1.1.1.1.1.1.1.1.1.1.1.0
+shape_of-two_values : tie.Need-shape_of-two_values
+shape_of-two_values c = (ran c).grade-recipe.auto.1.1.1.1.1.1.1.1.1.1.1.1.1.1.1.1.1.1.1.1.1.1.1.1.1.1.0
 
-same-length-8 : tie.Need-same-length-8
-same-length-8 c = (ran c).grade-recipe.auto.1.1.1.1.1.1.1.1.1.1.1.1.1.1.1.1.1.1.1.1.1.1.1.1.1.1.1.0
+shape_of-two_elements : tie.Need-shape_of-two_elements
+shape_of-two_elements c = (ran c).grade-recipe.auto.1.1.1.1.1.1.1.1.1.1.1.1.1.1.1.1.1.1.1.1.1.1.1.1.1.1.1.0
 
-same-length-9 : tie.Need-same-length-9
-same-length-9 c = (ran c).grade-recipe.auto.1.1.1.1.1.1.1.1.1.1.1.1.1.1.1.1.1.1.1.1.1.1.1.1.1.1.1.1.0
+shape_of-out_offsets : tie.Need-shape_of-out_offsets
+shape_of-out_offsets c = (ran c).grade-recipe.auto.1.1.1.1.1.1.1.1.1.1.1.1.1.1.1.1.1.1.1.1.1.1.1.1.1.1.1.1.0
 
-same-length-10 : tie.Need-same-length-10
-same-length-10 c = (ran c).grade-recipe.auto.1.1.1.1.1.1.1.1.1.1.1.1.1.1.1.1.1.1.1.1.1.1.1.1.1.1.1.1.1.0
+shape_of-out_rows : tie.Need-shape_of-out_rows
+shape_of-out_rows c = (ran c).grade-recipe.auto.1.1.1.1.1.1.1.1.1.1.1.1.1.1.1.1.1.1.1.1.1.1.1.1.1.1.1.1.1.0
 
-same-length-11 : tie.Need-same-length-11
-same-length-11 c = (ran c).grade-recipe.auto.1.1.1.1.1.1.1.1.1.1.1.1.1.1.1.1.1.1.1.1.1.1.1.1.1.1.1.1.1.1.0
+shape_of-out_values : tie.Need-shape_of-out_values
+shape_of-out_values c = (ran c).grade-recipe.auto.1.1.1.1.1.1.1.1.1.1.1.1.1.1.1.1.1.1.1.1.1.1.1.1.1.1.1.1.1.1.0
 
-same-length-12 : tie.Need-same-length-12
-same-length-12 c = (ran c).grade-recipe.auto.1.1.1.1.1.1.1.1.1.1.1.1.1.1.1.1.1.1.1.1.1.1.1.1.1.1.1.1.1.1.1.0
+shape_of-out_elements : tie.Need-shape_of-out_elements
+shape_of-out_elements c = (ran c).grade-recipe.auto.1.1.1.1.1.1.1.1.1.1.1.1.1.1.1.1.1.1.1.1.1.1.1.1.1.1.1.1.1.1.1.0
 
-same-length-13 : tie.Need-same-length-13
-same-length-13 c = (ran c).grade-recipe.auto.1.1.1.1.1.1.1.1.1.1.1.1.1.1.1.1.1.1.1.1.1.1.1.1.1.1.1.1.1.1.1.1.0
+shape_of-grades : tie.Need-shape_of-grades
+shape_of-grades c = (ran c).grade-recipe.auto.1.1.1.1.1.1.1.1.1.1.1.1.1.1.1.1.1.1.1.1.1.1.1.1.1.1.1.1.1.1.1.1.0
 
-same-length-14 : tie.Need-same-length-14
-same-length-14 c = (told c).settle.auto.1.0
+shape_of-counts : tie.Need-shape_of-counts
+shape_of-counts c = (told c).settle.auto.1.0
 
-same-length-15 : tie.Need-same-length-15
-same-length-15 c = (told c).settle.auto.1.1.0
+shape_of-tally : tie.Need-shape_of-tally
+shape_of-tally c = (told c).settle.auto.1.1.0
 
 returns : tie.Need-returns
 returns c =
@@ -92,7 +92,7 @@ returns c =
       record {
         list = graded-told _ _ _ _ _ _ refl _ h m.0 s.told;
         grades = grades-told _ _ _ _ _ _ refl _ h m.1.1.1.1;
-        tally = tally-told _ _ _ a.k (ltb (length a.counts.now) 4 || ltb (length a.tally.now) 32) _ h s.tally m.1.1.1.0 (got c).get-tally.ensures;
+        tally = tally-told _ _ _ a.k (ltb (length a.counts-1.now) 4 || ltb (length a.tally-1.now) 32) _ h s.tally-1 m.1.1.1.0 (got c).get-tally.ensures;
       },
       (m.1.0, m.1.1.0),
     )
@@ -101,23 +101,23 @@ pub duthlan_typed_grade_recipe_spec : {M : Type 1} → statement M
 duthlan_typed_grade_recipe_spec =
     tie.close
     (tie.spec
-    get-tally-requires
-    k-for-requires
-    grade-recipe-requires
+    get_tally-before-requires
+    k_for-by-requires
+    grade_recipe-done-requires
     settle-requires
-    same_length
-    same-length-2
-    same-length-3
-    same-length-4
-    same-length-5
-    same-length-6
-    same-length-7
-    same-length-8
-    same-length-9
-    same-length-10
-    same-length-11
-    same-length-12
-    same-length-13
-    same-length-14
-    same-length-15
+    shape_of-one_offsets
+    shape_of-one_rows
+    shape_of-one_values
+    shape_of-one_elements
+    shape_of-two_offsets
+    shape_of-two_rows
+    shape_of-two_values
+    shape_of-two_elements
+    shape_of-out_offsets
+    shape_of-out_rows
+    shape_of-out_values
+    shape_of-out_elements
+    shape_of-grades
+    shape_of-counts
+    shape_of-tally
     returns)

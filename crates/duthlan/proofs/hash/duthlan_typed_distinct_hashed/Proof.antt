@@ -8,66 +8,66 @@ use Rattle.duthlan.proofs.hash.duthlan_typed_distinct_hashed.Tie as tie
 
 -- ---- places: the counts told, the operation run, the counts found long enough
 
-abbrev told : tie.After-slice-known9 → tie.After-put-list
+abbrev told : tie.After-slice_known-8-1 → tie.After-put_list
 told c = c.before.before
 
-abbrev ran : tie.After-slice-known9 → tie.After-general-array-distinct-hashed
+abbrev ran : tie.After-slice_known-8-1 → tie.After-general_array_distinct_hashed-answer
 ran c = c.before.before.before.before.before.before.before.before.before.before.before.before
 
-abbrev long : tie.After-slice-known9 → tie.Else1
+abbrev long : tie.After-slice_known-8-1 → tie.Else-counts-lt4
 long c = (ran c).before.before.before.before.before.before
 
 -- ---- needs
 
-clear-area-requires : tie.Need-clear-area-requires
-clear-area-requires c κs = search rules
+clear_area-requires : tie.Need-clear_area-requires
+clear_area-requires c κs = search rules
 
-same_length : tie.Need-same-length
-same_length c = c.before.before.clear-area.auto.0
+shape_of-area-then-counts-lt4 : tie.Need-shape_of-area-then-counts-lt4
+shape_of-area-then-counts-lt4 c = c.clear_area.auto.area
+
+returns-then-counts-lt4 : tie.Need-returns-then-counts-lt4
+returns-then-counts-lt4 c = hash_unserved (too_short _ _ _ refl (lt-ltb _ 4 c.if-counts-lt4.true)) c.clear_area.ensures
+
+general_array_distinct_hashed-answer-requires : tie.Need-general_array_distinct_hashed-answer-requires
+general_array_distinct_hashed-answer-requires c κs = search rules
+
+put_list-requires : tie.Need-put_list-requires
+put_list-requires c κs = c.if-counts-lt4.false
+
+shape_of-out_offsets : tie.Need-shape_of-out_offsets
+shape_of-out_offsets c = (ran c).general-array-distinct-hashed.auto.1.1.1.1.1.1.0
+
+shape_of-out_rows : tie.Need-shape_of-out_rows
+shape_of-out_rows c = (ran c).general-array-distinct-hashed.auto.1.1.1.1.1.1.1.0
+
+shape_of-out_values : tie.Need-shape_of-out_values
+shape_of-out_values c = (ran c).general-array-distinct-hashed.auto.1.1.1.1.1.1.1.1.0
+
+shape_of-out_elements : tie.Need-shape_of-out_elements
+shape_of-out_elements c = (ran c).general-array-distinct-hashed.auto.1.1.1.1.1.1.1.1.1.0
+
+shape_of-area : tie.Need-shape_of-area
+shape_of-area c = (ran c).general-array-distinct-hashed.auto.1.1.1.1.1.1.1.1.1.1.0
+
+shape_of-counts : tie.Need-shape_of-counts
+shape_of-counts c = (told c).put-list.auto.1.0
 
 returns : tie.Need-returns
-returns c = hash_unserved (too_short _ _ _ refl (lt-ltb _ 4 c.before.before.before.before.if1.true)) c.before.before.clear-area.ensures
+returns c = hash_told (own _ _ _ refl (le-ltb _ 4 (long c).if1.false)) (ran c).general-array-distinct-hashed.ensures (told c).put-list.ensures
 
-general-array-distinct-hashed-requires : tie.Need-general-array-distinct-hashed-requires
-general-array-distinct-hashed-requires c κs = search rules
-
-put-list-requires : tie.Need-put-list-requires
-put-list-requires c κs = c.before.before.before.before.before.before.before.before.before.before.before.before.before.before.before.if1.false
-
-same-length-2 : tie.Need-same-length-2
-same-length-2 c = (ran c).general-array-distinct-hashed.auto.1.1.1.1.1.1.0
-
-same-length-3 : tie.Need-same-length-3
-same-length-3 c = (ran c).general-array-distinct-hashed.auto.1.1.1.1.1.1.1.0
-
-same-length-4 : tie.Need-same-length-4
-same-length-4 c = (ran c).general-array-distinct-hashed.auto.1.1.1.1.1.1.1.1.0
-
-same-length-5 : tie.Need-same-length-5
-same-length-5 c = (ran c).general-array-distinct-hashed.auto.1.1.1.1.1.1.1.1.1.0
-
-same-length-6 : tie.Need-same-length-6
-same-length-6 c = (ran c).general-array-distinct-hashed.auto.1.1.1.1.1.1.1.1.1.1.0
-
-same-length-7 : tie.Need-same-length-7
-same-length-7 c = (told c).put-list.auto.1.0
-
-returns-2 : tie.Need-returns-2
-returns-2 c = hash_told (own _ _ _ refl (le-ltb _ 4 (long c).if1.false)) (ran c).general-array-distinct-hashed.ensures (told c).put-list.ensures
-
-pub duthlan_typed_distinct-hashed_spec : {M : Type 1} → statement M
-duthlan_typed_distinct-hashed_spec =
+pub duthlan_typed_distinct_hashed_spec : {M : Type 1} → statement M
+duthlan_typed_distinct_hashed_spec =
     tie.close
     (tie.spec
-    clear-area-requires
-    same_length
-    returns
-    general-array-distinct-hashed-requires
-    put-list-requires
-    same-length-2
-    same-length-3
-    same-length-4
-    same-length-5
-    same-length-6
-    same-length-7
-    returns-2)
+    clear_area-requires
+    shape_of-area-then-counts-lt4
+    returns-then-counts-lt4
+    general_array_distinct_hashed-answer-requires
+    put_list-requires
+    shape_of-out_offsets
+    shape_of-out_rows
+    shape_of-out_values
+    shape_of-out_elements
+    shape_of-area
+    shape_of-counts
+    returns)

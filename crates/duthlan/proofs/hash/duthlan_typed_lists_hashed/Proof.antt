@@ -8,116 +8,116 @@ use Rattle.duthlan.proofs.hash.duthlan_typed_lists_hashed.Tie as tie
 
 -- ---- places: the counts told, the operation run, the counts found long enough, the operation named, the code looked up
 
-abbrev told : tie.After-slice-known11 → tie.After-put-list
+abbrev told : tie.After-slice_known-in-Two-4-1 → tie.After-put_list
 told c = c.before.before
 
-abbrev ran : tie.After-slice-known11 → tie.After-generic-set-lists-hashed
+abbrev ran : tie.After-slice_known-in-Two-4-1 → tie.After-generic_set_lists_hashed-answer
 ran c = c.before.before.before.before.before.before.before.before.before.before.before.before
 
-abbrev long : tie.After-slice-known11 → tie.Else1
+abbrev long : tie.After-slice_known-in-Two-4-1 → tie.Else-counts-lt4
 long c = (ran c).before.before.before.before.before.before
 
-abbrev named : tie.After-slice-known11 → tie.After-named
+abbrev named : tie.After-slice_known-in-Two-4-1 → tie.In-Two-2
 named c = (long c).before.before
 
-abbrev looked : tie.After-slice-known11 → tie.After-operation-of
+abbrev looked : tie.After-slice_known-in-Two-4-1 → tie.After-operation_of-named
 looked c = (named c).before.before
 
 -- ---- needs
 
-operation-of-requires : tie.Need-operation-of-requires
-operation-of-requires c κs = tt
+operation_of-named-requires : tie.Need-operation_of-named-requires
+operation_of-named-requires c κs = tt
 
-enum_told : tie.Need-enum-told
-enum_told c = search rules
+enum_told-1 : tie.Need-enum_told-1
+enum_told-1 c = search rules
 
-clear-area-requires : tie.Need-clear-area-requires
-clear-area-requires c κs = search rules
+clear_area-requires : tie.Need-clear_area-requires
+clear_area-requires c κs = search rules
 
-enum-told-2 : tie.Need-enum-told-2
-enum-told-2 c = search rules
+enum_told-in-None : tie.Need-enum_told-in-None
+enum_told-in-None c = search rules
 
-clear-area-requires-2 : tie.Need-clear-area-requires-2
-clear-area-requires-2 c κs = search rules
+clear_area-requires-in-None : tie.Need-clear_area-requires-in-None
+clear_area-requires-in-None c κs = search rules
 
-enum-known-named : tie.Need-enum-known-named
-enum-known-named c = search rules
+enum_known-named : tie.Need-enum_known-named
+enum_known-named c = search rules
 
-clear-area-requires-3 : tie.Need-clear-area-requires-3
-clear-area-requires-3 c κs = search rules
+clear_area-requires-then-counts-lt4 : tie.Need-clear_area-requires-then-counts-lt4
+clear_area-requires-then-counts-lt4 c κs = search rules
 
-same_length : tie.Need-same-length
-same_length c = c.before.before.clear-area3.auto.0
+shape_of-area-then-counts-lt4 : tie.Need-shape_of-area-then-counts-lt4
+shape_of-area-then-counts-lt4 c = c.clear_area-then-counts-lt4.auto.area
 
-returns : tie.Need-returns
-returns c = hash_unserved (too_short _ _ _ (hashed-code _ _ _ _ c.before.before.before.before.before.before.before.before.operation-of.ensures c.before.before.before.before.before.before.named.given.1) (lt-ltb _ 4 c.before.before.before.before.if1.true)) c.before.before.clear-area3.ensures
+returns-then-counts-lt4 : tie.Need-returns-then-counts-lt4
+returns-then-counts-lt4 c = hash_unserved (too_short _ _ _ (hashed-code _ _ _ _ c.operation_of-named.ensures c.in-Two.is) (lt-ltb _ 4 c.if-counts-lt4.true)) c.clear_area-then-counts-lt4.ensures
 
-generic-set-lists-hashed-requires : tie.Need-generic-set-lists-hashed-requires
-generic-set-lists-hashed-requires c κs = search rules
+generic_set_lists_hashed-answer-requires : tie.Need-generic_set_lists_hashed-answer-requires
+generic_set_lists_hashed-answer-requires c κs = search rules
 
-put-list-requires : tie.Need-put-list-requires
-put-list-requires c κs = c.before.before.before.before.before.before.before.before.before.before.before.before.before.before.before.if1.false
+put_list-requires : tie.Need-put_list-requires
+put_list-requires c κs = c.if-counts-lt4.false
 
-same-length-2 : tie.Need-same-length-2
-same-length-2 c = c.before.before.clear-area.auto.0
+shape_of-area-in-One : tie.Need-shape_of-area-in-One
+shape_of-area-in-One c = c.clear_area.auto.area
 
-returns-2 : tie.Need-returns-2
-returns-2 c = hash_unserved (no_such _ _ _ (one-hashed _ _ _ _ c.before.before.before.before.before.before.operation-of.ensures c.before.before.before.before.enum_told.given.1)) c.before.before.clear-area.ensures
+returns-in-One : tie.Need-returns-in-One
+returns-in-One c = hash_unserved (no_such _ _ _ (one-hashed _ _ _ _ c.operation_of-named.ensures c.in-One.is)) c.clear_area.ensures
 
-same-length-3 : tie.Need-same-length-3
-same-length-3 c = c.before.before.clear-area2.auto.0
+shape_of-area-in-None : tie.Need-shape_of-area-in-None
+shape_of-area-in-None c = c.clear_area-in-None.auto.area
 
-returns-3 : tie.Need-returns-3
-returns-3 c = hash_unserved (no_such _ _ _ (no_hashed _ _ _ _ c.before.before.before.before.before.before.operation-of.ensures c.before.before.before.before.enum-told2.given.1)) c.before.before.clear-area2.ensures
+returns-in-None : tie.Need-returns-in-None
+returns-in-None c = hash_unserved (no_such _ _ _ (no_hashed _ _ _ _ c.operation_of-named.ensures c.in-None.is)) c.clear_area-in-None.ensures
 
-same-length-4 : tie.Need-same-length-4
-same-length-4 c = (ran c).generic-set-lists-hashed.auto.1.1.1.1.1.1.1.1.1.1.1.1.1.0
+shape_of-out_offsets : tie.Need-shape_of-out_offsets
+shape_of-out_offsets c = (ran c).generic-set-lists-hashed.auto.1.1.1.1.1.1.1.1.1.1.1.1.1.0
 
-same-length-5 : tie.Need-same-length-5
-same-length-5 c = (ran c).generic-set-lists-hashed.auto.1.1.1.1.1.1.1.1.1.1.1.1.1.1.0
+shape_of-out_rows : tie.Need-shape_of-out_rows
+shape_of-out_rows c = (ran c).generic-set-lists-hashed.auto.1.1.1.1.1.1.1.1.1.1.1.1.1.1.0
 
-same-length-6 : tie.Need-same-length-6
-same-length-6 c = (ran c).generic-set-lists-hashed.auto.1.1.1.1.1.1.1.1.1.1.1.1.1.1.1.0
+shape_of-out_values : tie.Need-shape_of-out_values
+shape_of-out_values c = (ran c).generic-set-lists-hashed.auto.1.1.1.1.1.1.1.1.1.1.1.1.1.1.1.0
 
-same-length-7 : tie.Need-same-length-7
-same-length-7 c = (ran c).generic-set-lists-hashed.auto.1.1.1.1.1.1.1.1.1.1.1.1.1.1.1.1.0
+shape_of-out_elements : tie.Need-shape_of-out_elements
+shape_of-out_elements c = (ran c).generic-set-lists-hashed.auto.1.1.1.1.1.1.1.1.1.1.1.1.1.1.1.1.0
 
-same-length-8 : tie.Need-same-length-8
-same-length-8 c = (ran c).generic-set-lists-hashed.auto.1.1.1.1.1.1.1.1.1.1.1.1.1.1.1.1.1.0
+shape_of-area-else-counts-lt4 : tie.Need-shape_of-area-else-counts-lt4
+shape_of-area-else-counts-lt4 c = (ran c).generic-set-lists-hashed.auto.1.1.1.1.1.1.1.1.1.1.1.1.1.1.1.1.1.0
 
-same-length-9 : tie.Need-same-length-9
-same-length-9 c = (told c).put-list.auto.1.0
+shape_of-counts : tie.Need-shape_of-counts
+shape_of-counts c = (told c).put-list.auto.1.0
 
-returns-4 : tie.Need-returns-4
-returns-4 c =
+returns-else-counts-lt4 : tie.Need-returns-else-counts-lt4
+returns-else-counts-lt4 c =
     hash_told
     (own _ _ _ (hashed-code _ _ _ _ (looked c).operation-of.ensures (named c).named.given.1) (le-ltb _ 4 (long c).if1.false))
     (ran c).generic-set-lists-hashed.ensures
     (told c).put-list.ensures
 
-pub duthlan_typed_lists-hashed_spec : {M : Type 1} → statement M
-duthlan_typed_lists-hashed_spec =
+pub duthlan_typed_lists_hashed_spec : {M : Type 1} → statement M
+duthlan_typed_lists_hashed_spec =
     tie.close
     (tie.spec
-    operation-of-requires
-    enum_told
-    clear-area-requires
-    enum-told-2
-    clear-area-requires-2
-    enum-known-named
-    clear-area-requires-3
-    same_length
-    returns
-    generic-set-lists-hashed-requires
-    put-list-requires
-    same-length-2
-    returns-2
-    same-length-3
-    returns-3
-    same-length-4
-    same-length-5
-    same-length-6
-    same-length-7
-    same-length-8
-    same-length-9
-    returns-4)
+    operation_of-named-requires
+    enum_told-1
+    clear_area-requires
+    enum_told-in-None
+    clear_area-requires-in-None
+    enum_known-named
+    clear_area-requires-then-counts-lt4
+    shape_of-area-then-counts-lt4
+    returns-then-counts-lt4
+    generic_set_lists_hashed-answer-requires
+    put_list-requires
+    shape_of-area-in-One
+    returns-in-One
+    shape_of-area-in-None
+    returns-in-None
+    shape_of-out_offsets
+    shape_of-out_rows
+    shape_of-out_values
+    shape_of-out_elements
+    shape_of-area-else-counts-lt4
+    shape_of-counts
+    returns-else-counts-lt4)

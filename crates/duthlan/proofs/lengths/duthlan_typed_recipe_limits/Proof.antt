@@ -8,38 +8,38 @@ use Rattle.duthlan.proofs.lengths.duthlan_typed_recipe_limits.Tie as tie
 
 -- ---- places: the lengths told, measured, their places found enough
 
-abbrev told : tie.After-slice-known2 → tie.After-put-limits
+abbrev told : tie.After-slice_known-2-1 → tie.After-put_limits
 told c = c.before.before
 
-abbrev asked : tie.After-slice-known2 → tie.After-recipe-limits
+abbrev asked : tie.After-slice_known-2-1 → tie.After-recipe_limits-answer
 asked c = (told c).before.before
 
-abbrev long : tie.After-slice-known2 → tie.Else1
+abbrev long : tie.After-slice_known-2-1 → tie.Else-limits-lt3
 long c = (asked c).before
 
 -- ---- needs
 
+returns-then-limits-lt3 : tie.Need-returns-then-limits-lt3
+returns-then-limits-lt3 c = short_lengths limit_counts _ refl (lt-ltb _ 3 c.if-limits-lt3.true)
+
+recipe_limits-answer-requires : tie.Need-recipe_limits-answer-requires
+recipe_limits-answer-requires c κs = tt
+
+put_limits-requires : tie.Need-put_limits-requires
+put_limits-requires c κs = c.if-limits-lt3.false
+
+shape_of-limits : tie.Need-shape_of-limits
+shape_of-limits c = (told c).put-limits.auto.1.0
+
 returns : tie.Need-returns
-returns c = short_lengths limit_counts _ refl (lt-ltb _ 3 c.if1.true)
+returns c = own_lengths limit_counts _ refl (le-ltb _ 3 (long c).if1.false) (asked c).recipe-limits.ensures (told c).put-limits.ensures
 
-recipe-limits-requires : tie.Need-recipe-limits-requires
-recipe-limits-requires c κs = tt
-
-put-limits-requires : tie.Need-put-limits-requires
-put-limits-requires c κs = c.before.before.if1.false
-
-same_length : tie.Need-same-length
-same_length c = (told c).put-limits.auto.1.0
-
-returns-2 : tie.Need-returns-2
-returns-2 c = own_lengths limit_counts _ refl (le-ltb _ 3 (long c).if1.false) (asked c).recipe-limits.ensures (told c).put-limits.ensures
-
-pub duthlan_typed_recipe-limits_spec : {M : Type 1} → statement M
-duthlan_typed_recipe-limits_spec =
+pub duthlan_typed_recipe_limits_spec : {M : Type 1} → statement M
+duthlan_typed_recipe_limits_spec =
     tie.close
     (tie.spec
-    returns
-    recipe-limits-requires
-    put-limits-requires
-    same_length
-    returns-2)
+    returns-then-limits-lt3
+    recipe_limits-answer-requires
+    put_limits-requires
+    shape_of-limits
+    returns)

@@ -8,58 +8,58 @@ use Rattle.duthlan.proofs.view.duthlan_typed_export_view.Tie as tie
 
 -- ---- places: the counts told, the operation run, the counts found long enough
 
-abbrev told : tie.After-slice-known6 → tie.After-put-list
+abbrev told : tie.After-slice_known-6-1 → tie.After-put_list
 told c = c.before.before
 
-abbrev ran : tie.After-slice-known6 → tie.After-export-view
+abbrev ran : tie.After-slice_known-6-1 → tie.After-export_view-answer
 ran c = c.before.before.before.before.before.before.before.before.before.before.before
 
-abbrev long : tie.After-slice-known6 → tie.Else1
+abbrev long : tie.After-slice_known-6-1 → tie.Else-counts-lt4
 long c = (ran c).before.before.before.before.before.before
 
 -- ---- needs
 
+returns-then-counts-lt4 : tie.Need-returns-then-counts-lt4
+returns-then-counts-lt4 c = view_unserved (too_short _ _ _ refl (lt-ltb _ 4 c.if-counts-lt4.true))
+
+export_view-answer-requires : tie.Need-export_view-answer-requires
+export_view-answer-requires c κs = search rules
+
+put_list-requires : tie.Need-put_list-requires
+put_list-requires c κs = c.if-counts-lt4.false
+
+shape_of-out_offsets : tie.Need-shape_of-out_offsets
+shape_of-out_offsets c = (ran c).export-view.auto.1.1.1.1.1.1.0
+
+shape_of-out_sizes : tie.Need-shape_of-out_sizes
+shape_of-out_sizes c = (ran c).export-view.auto.1.1.1.1.1.1.1.0
+
+shape_of-out_rows : tie.Need-shape_of-out_rows
+shape_of-out_rows c = (ran c).export-view.auto.1.1.1.1.1.1.1.1.0
+
+shape_of-out_values : tie.Need-shape_of-out_values
+shape_of-out_values c = (ran c).export-view.auto.1.1.1.1.1.1.1.1.1.0
+
+shape_of-out_elements : tie.Need-shape_of-out_elements
+shape_of-out_elements c = (ran c).export-view.auto.1.1.1.1.1.1.1.1.1.1.0
+
+shape_of-counts : tie.Need-shape_of-counts
+shape_of-counts c = (told c).put-list.auto.1.0
+
 returns : tie.Need-returns
-returns c = view_unserved (too_short _ _ _ refl (lt-ltb _ 4 c.if1.true))
-
-export-view-requires : tie.Need-export-view-requires
-export-view-requires c κs = search rules
-
-put-list-requires : tie.Need-put-list-requires
-put-list-requires c κs = c.before.before.before.before.before.before.before.before.before.before.before.before.before.before.if1.false
-
-same_length : tie.Need-same-length
-same_length c = (ran c).export-view.auto.1.1.1.1.1.1.0
-
-same-length-2 : tie.Need-same-length-2
-same-length-2 c = (ran c).export-view.auto.1.1.1.1.1.1.1.0
-
-same-length-3 : tie.Need-same-length-3
-same-length-3 c = (ran c).export-view.auto.1.1.1.1.1.1.1.1.0
-
-same-length-4 : tie.Need-same-length-4
-same-length-4 c = (ran c).export-view.auto.1.1.1.1.1.1.1.1.1.0
-
-same-length-5 : tie.Need-same-length-5
-same-length-5 c = (ran c).export-view.auto.1.1.1.1.1.1.1.1.1.1.0
-
-same-length-6 : tie.Need-same-length-6
-same-length-6 c = (told c).put-list.auto.1.0
-
-returns-2 : tie.Need-returns-2
-returns-2 c = view-told (own _ _ _ refl (le-ltb _ 4 (long c).if1.false)) (ran c).export-view.ensures (told c).put-list.ensures
+returns c = view-told (own _ _ _ refl (le-ltb _ 4 (long c).if1.false)) (ran c).export-view.ensures (told c).put-list.ensures
 
 pub duthlan_typed_export_view_spec : {M : Type 1} → statement M
 duthlan_typed_export_view_spec =
     tie.close
     (tie.spec
-    returns
-    export-view-requires
-    put-list-requires
-    same_length
-    same-length-2
-    same-length-3
-    same-length-4
-    same-length-5
-    same-length-6
-    returns-2)
+    returns-then-counts-lt4
+    export_view-answer-requires
+    put_list-requires
+    shape_of-out_offsets
+    shape_of-out_sizes
+    shape_of-out_rows
+    shape_of-out_values
+    shape_of-out_elements
+    shape_of-counts
+    returns)

@@ -5,95 +5,95 @@ use Rattle.duthlan.proofs.window.duthlan_typed_recipe_rows.Tie as tie
 
 -- ---- places: the answer told, the recipe run, the rows chosen
 
-abbrev told : tie.After-slice-known14 → tie.After-settle
+abbrev told : tie.After-slice_known-14-1 → tie.After-settle
 told c = c.before.before
 
-abbrev ran : tie.After-slice-known14 → tie.After-run-window
+abbrev ran : tie.After-slice_known-14-1 → tie.After-run_window-answer
 ran c = (told c).before.before.before.before.before.before.before.before.before.before.before.before.before.before.before.before.before.before.before.before
 
-abbrev last : tie.After-slice-known14 → tie.After-end-for
+abbrev last : tie.After-slice_known-14-1 → tie.After-end_for-last
 last c = (ran c).before.before.before.before.before.before.before.before.before.before.before.before.before
 
-abbrev first : tie.After-slice-known14 → tie.After-begin-for
+abbrev first : tie.After-slice_known-14-1 → tie.After-begin_for-first
 first c = (last c).before
 
 -- ---- needs
 
-begin-for-requires : tie.Need-begin-for-requires
-begin-for-requires c κs = tt
+begin_for-first-requires : tie.Need-begin_for-first-requires
+begin_for-first-requires c κs = tt
 
-end-for-requires : tie.Need-end-for-requires
-end-for-requires c κs = tt
+end_for-last-requires : tie.Need-end_for-last-requires
+end_for-last-requires c κs = tt
 
-run-window-requires : tie.Need-run-window-requires
-run-window-requires c κs = tt
+run_window-answer-requires : tie.Need-run_window-answer-requires
+run_window-answer-requires c κs = tt
 
 settle-requires : tie.Need-settle-requires
 settle-requires c κs = tt
 
-same_length : tie.Need-same-length
-same_length c = (ran c).run-window.auto.1.1.1.1.1.1.1.1.1.1.1.1.1.1.1.1.1.1.1.0
+shape_of-one_offsets : tie.Need-shape_of-one_offsets
+shape_of-one_offsets c = (ran c).run-window.auto.1.1.1.1.1.1.1.1.1.1.1.1.1.1.1.1.1.1.1.0
 
-same-length-2 : tie.Need-same-length-2
-same-length-2 c = (ran c).run-window.auto.1.1.1.1.1.1.1.1.1.1.1.1.1.1.1.1.1.1.1.1.0
+shape_of-one_rows : tie.Need-shape_of-one_rows
+shape_of-one_rows c = (ran c).run-window.auto.1.1.1.1.1.1.1.1.1.1.1.1.1.1.1.1.1.1.1.1.0
 
-same-length-3 : tie.Need-same-length-3
-same-length-3 c = (ran c).run-window.auto.1.1.1.1.1.1.1.1.1.1.1.1.1.1.1.1.1.1.1.1.1.0
+shape_of-one_values : tie.Need-shape_of-one_values
+shape_of-one_values c = (ran c).run-window.auto.1.1.1.1.1.1.1.1.1.1.1.1.1.1.1.1.1.1.1.1.1.0
 
-same-length-4 : tie.Need-same-length-4
-same-length-4 c = (ran c).run-window.auto.1.1.1.1.1.1.1.1.1.1.1.1.1.1.1.1.1.1.1.1.1.1.0
+shape_of-one_elements : tie.Need-shape_of-one_elements
+shape_of-one_elements c = (ran c).run-window.auto.1.1.1.1.1.1.1.1.1.1.1.1.1.1.1.1.1.1.1.1.1.1.0
 
-same-length-5 : tie.Need-same-length-5
-same-length-5 c = (ran c).run-window.auto.1.1.1.1.1.1.1.1.1.1.1.1.1.1.1.1.1.1.1.1.1.1.1.0
+shape_of-two_offsets : tie.Need-shape_of-two_offsets
+shape_of-two_offsets c = (ran c).run-window.auto.1.1.1.1.1.1.1.1.1.1.1.1.1.1.1.1.1.1.1.1.1.1.1.0
 
-same-length-6 : tie.Need-same-length-6
-same-length-6 c = (ran c).run-window.auto.1.1.1.1.1.1.1.1.1.1.1.1.1.1.1.1.1.1.1.1.1.1.1.1.0
+shape_of-two_rows : tie.Need-shape_of-two_rows
+shape_of-two_rows c = (ran c).run-window.auto.1.1.1.1.1.1.1.1.1.1.1.1.1.1.1.1.1.1.1.1.1.1.1.1.0
 
-same-length-7 : tie.Need-same-length-7
-same-length-7 c = (ran c).run-window.auto.1.1.1.1.1.1.1.1.1.1.1.1.1.1.1.1.1.1.1.1.1.1.1.1.1.0
+shape_of-two_values : tie.Need-shape_of-two_values
+shape_of-two_values c = (ran c).run-window.auto.1.1.1.1.1.1.1.1.1.1.1.1.1.1.1.1.1.1.1.1.1.1.1.1.1.0
 
-same-length-8 : tie.Need-same-length-8
-same-length-8 c = (ran c).run-window.auto.1.1.1.1.1.1.1.1.1.1.1.1.1.1.1.1.1.1.1.1.1.1.1.1.1.1.0
+shape_of-two_elements : tie.Need-shape_of-two_elements
+shape_of-two_elements c = (ran c).run-window.auto.1.1.1.1.1.1.1.1.1.1.1.1.1.1.1.1.1.1.1.1.1.1.1.1.1.1.0
 
-same-length-9 : tie.Need-same-length-9
-same-length-9 c = (ran c).run-window.auto.1.1.1.1.1.1.1.1.1.1.1.1.1.1.1.1.1.1.1.1.1.1.1.1.1.1.1.0
+shape_of-out_offsets : tie.Need-shape_of-out_offsets
+shape_of-out_offsets c = (ran c).run-window.auto.1.1.1.1.1.1.1.1.1.1.1.1.1.1.1.1.1.1.1.1.1.1.1.1.1.1.1.0
 
-same-length-10 : tie.Need-same-length-10
-same-length-10 c = (ran c).run-window.auto.1.1.1.1.1.1.1.1.1.1.1.1.1.1.1.1.1.1.1.1.1.1.1.1.1.1.1.1.0
+shape_of-out_rows : tie.Need-shape_of-out_rows
+shape_of-out_rows c = (ran c).run-window.auto.1.1.1.1.1.1.1.1.1.1.1.1.1.1.1.1.1.1.1.1.1.1.1.1.1.1.1.1.0
 
-same-length-11 : tie.Need-same-length-11
-same-length-11 c = (ran c).run-window.auto.1.1.1.1.1.1.1.1.1.1.1.1.1.1.1.1.1.1.1.1.1.1.1.1.1.1.1.1.1.0
+shape_of-out_values : tie.Need-shape_of-out_values
+shape_of-out_values c = (ran c).run-window.auto.1.1.1.1.1.1.1.1.1.1.1.1.1.1.1.1.1.1.1.1.1.1.1.1.1.1.1.1.1.0
 
-same-length-12 : tie.Need-same-length-12
-same-length-12 c = (ran c).run-window.auto.1.1.1.1.1.1.1.1.1.1.1.1.1.1.1.1.1.1.1.1.1.1.1.1.1.1.1.1.1.1.0
+shape_of-out_elements : tie.Need-shape_of-out_elements
+shape_of-out_elements c = (ran c).run-window.auto.1.1.1.1.1.1.1.1.1.1.1.1.1.1.1.1.1.1.1.1.1.1.1.1.1.1.1.1.1.1.0
 
-same-length-13 : tie.Need-same-length-13
-same-length-13 c = (told c).settle.auto.1.0
+shape_of-counts : tie.Need-shape_of-counts
+shape_of-counts c = (told c).settle.auto.1.0
 
 returns : tie.Need-returns
 returns c =
     let m = (ran c).run-window.ensures in
     (window-told _ _ _ _ _ _ _ _ _ _ _ (first c).begin-for.ensures (last c).end-for.ensures m.0 (told c).settle.ensures, (m.1.0, m.1.1))
 
-pub duthlan_typed_recipe-rows_spec : {M : Type 1} → statement M
-duthlan_typed_recipe-rows_spec =
+pub duthlan_typed_recipe_rows_spec : {M : Type 1} → statement M
+duthlan_typed_recipe_rows_spec =
     tie.close
     (tie.spec
-    begin-for-requires
-    end-for-requires
-    run-window-requires
+    begin_for-first-requires
+    end_for-last-requires
+    run_window-answer-requires
     settle-requires
-    same_length
-    same-length-2
-    same-length-3
-    same-length-4
-    same-length-5
-    same-length-6
-    same-length-7
-    same-length-8
-    same-length-9
-    same-length-10
-    same-length-11
-    same-length-12
-    same-length-13
+    shape_of-one_offsets
+    shape_of-one_rows
+    shape_of-one_values
+    shape_of-one_elements
+    shape_of-two_offsets
+    shape_of-two_rows
+    shape_of-two_values
+    shape_of-two_elements
+    shape_of-out_offsets
+    shape_of-out_rows
+    shape_of-out_values
+    shape_of-out_elements
+    shape_of-counts
     returns)

@@ -8,38 +8,38 @@ use Rattle.duthlan_large.proofs.lengths.duthlan_large_element_lengths.Tie as tie
 
 -- ---- places: the lengths told, measured, their places found enough
 
-abbrev told : tie.After-slice-known2 → tie.After-put-values
+abbrev told : tie.After-slice_known-2-1 → tie.After-put_values
 told c = c.before.before
 
-abbrev asked : tie.After-slice-known2 → tie.After-general-array-element-lengths
+abbrev asked : tie.After-slice_known-2-1 → tie.After-general_array_element_lengths-answer
 asked c = (told c).before.before
 
-abbrev long : tie.After-slice-known2 → tie.Else1
+abbrev long : tie.After-slice_known-2-1 → tie.Else-lengths-lt2
 long c = (asked c).before
 
 -- ---- needs
 
+returns-then-lengths-lt2 : tie.Need-returns-then-lengths-lt2
+returns-then-lengths-lt2 c = short_lengths value_room_counts _ refl (lt-ltb _ 2 c.if-lengths-lt2.true)
+
+general_array_element_lengths-answer-requires : tie.Need-general_array_element_lengths-answer-requires
+general_array_element_lengths-answer-requires c κs = tt
+
+put_values-requires : tie.Need-put_values-requires
+put_values-requires c κs = c.if-lengths-lt2.false
+
+shape_of-lengths : tie.Need-shape_of-lengths
+shape_of-lengths c = (told c).put-values.auto.1.0
+
 returns : tie.Need-returns
-returns c = short_lengths value_room_counts _ refl (lt-ltb _ 2 c.if1.true)
+returns c = own_lengths value_room_counts _ refl (le-ltb _ 2 (long c).if1.false) (asked c).general-array-element-lengths.ensures (told c).put-values.ensures
 
-general-array-element-lengths-requires : tie.Need-general-array-element-lengths-requires
-general-array-element-lengths-requires c κs = tt
-
-put-values-requires : tie.Need-put-values-requires
-put-values-requires c κs = c.before.before.if1.false
-
-same_length : tie.Need-same-length
-same_length c = (told c).put-values.auto.1.0
-
-returns-2 : tie.Need-returns-2
-returns-2 c = own_lengths value_room_counts _ refl (le-ltb _ 2 (long c).if1.false) (asked c).general-array-element-lengths.ensures (told c).put-values.ensures
-
-pub duthlan_large_element-lengths_spec : {M : Type 1} → statement M
-duthlan_large_element-lengths_spec =
+pub duthlan_large_element_lengths_spec : {M : Type 1} → statement M
+duthlan_large_element_lengths_spec =
     tie.close
     (tie.spec
-    returns
-    general-array-element-lengths-requires
-    put-values-requires
-    same_length
-    returns-2)
+    returns-then-lengths-lt2
+    general_array_element_lengths-answer-requires
+    put_values-requires
+    shape_of-lengths
+    returns)

@@ -9,61 +9,61 @@ use Rattle.duthlan_large.proofs.lengths.duthlan_large_list_lengths.Tie as tie
 
 -- ---- places: the lengths told, measured, their places found enough, the operation named, the code looked up
 
-abbrev told : tie.After-slice-known2 → tie.After-put-list
+abbrev told : tie.After-slice_known-in-Of-1 → tie.After-put_list
 told c = c.before.before
 
-abbrev asked : tie.After-slice-known2 → tie.After-lengths
+abbrev asked : tie.After-slice_known-in-Of-1 → tie.After-lengths-answer
 asked c = (told c).before.before
 
-abbrev long : tie.After-slice-known2 → tie.Else1
+abbrev long : tie.After-slice_known-in-Of-1 → tie.Else-lengths-lt4
 long c = (asked c).before
 
-abbrev named : tie.After-slice-known2 → tie.After-named
+abbrev named : tie.After-slice_known-in-Of-1 → tie.In-Of-2
 named c = (long c).before.before
 
-abbrev looked : tie.After-slice-known2 → tie.After-one-of
+abbrev looked : tie.After-slice_known-in-Of-1 → tie.After-one_of-named
 looked c = (named c).before.before
 
 -- ---- needs
 
-one-of-requires : tie.Need-one-of-requires
-one-of-requires c κs = tt
+one_of-named-requires : tie.Need-one_of-named-requires
+one_of-named-requires c κs = tt
 
-enum_told : tie.Need-enum-told
-enum_told c = search rules
+enum_told-1 : tie.Need-enum_told-1
+enum_told-1 c = search rules
 
-enum-known-named : tie.Need-enum-known-named
-enum-known-named c = search rules
+enum_known-named : tie.Need-enum_known-named
+enum_known-named c = search rules
 
-returns : tie.Need-returns
-returns c = short_lengths room_counts _ (list-lengths _ _ _ _ _ _ c.before.before.before.before.one_of_lem.ensures c.before.before.named.given.1) (lt-ltb _ 4 c.if1.true)
+returns-then-lengths-lt4 : tie.Need-returns-then-lengths-lt4
+returns-then-lengths-lt4 c = short_lengths room_counts _ (list-lengths _ _ _ _ _ _ c.before.before.one_of_lem.ensures c.in-Of.is) (lt-ltb _ 4 c.if-lengths-lt4.true)
 
-lengths-requires : tie.Need-lengths-requires
-lengths-requires c κs = tt
+lengths-answer-requires : tie.Need-lengths-answer-requires
+lengths-answer-requires c κs = tt
 
-put-list-requires : tie.Need-put-list-requires
-put-list-requires c κs = c.before.before.if1.false
+put_list-requires : tie.Need-put_list-requires
+put_list-requires c κs = c.if-lengths-lt4.false
 
-returns-2 : tie.Need-returns-2
-returns-2 c = no_such_lengths room_counts _ (no_list-lengths _ _ _ _ _ _ c.before.before.one_of_lem.ensures c.enum_told.given.1)
+returns-in-None : tie.Need-returns-in-None
+returns-in-None c = no_such_lengths room_counts _ (no_list-lengths _ _ _ _ _ _ c.before.one_of_lem.ensures c.in-None.is)
 
-same_length : tie.Need-same-length
-same_length c = (told c).put-list.auto.1.0
+shape_of-lengths : tie.Need-shape_of-lengths
+shape_of-lengths c = (told c).put-list.auto.1.0
 
-returns-3 : tie.Need-returns-3
-returns-3 c =
+returns-else-lengths-lt4 : tie.Need-returns-else-lengths-lt4
+returns-else-lengths-lt4 c =
     own_lengths room_counts _ (list-lengths _ _ _ _ _ _ (looked c).one_of_lem.ensures (named c).named.given.1) (le-ltb _ 4 (long c).if1.false) (asked c).lengths.ensures (told c).put-list.ensures
 
-pub duthlan_large_list-lengths_spec : {M : Type 1} → statement M
-duthlan_large_list-lengths_spec =
+pub duthlan_large_list_lengths_spec : {M : Type 1} → statement M
+duthlan_large_list_lengths_spec =
     tie.close
     (tie.spec
-    one-of-requires
-    enum_told
-    enum-known-named
-    returns
-    lengths-requires
-    put-list-requires
-    returns-2
-    same_length
-    returns-3)
+    one_of-named-requires
+    enum_told-1
+    enum_known-named
+    returns-then-lengths-lt4
+    lengths-answer-requires
+    put_list-requires
+    returns-in-None
+    shape_of-lengths
+    returns-else-lengths-lt4)

@@ -9,69 +9,69 @@ use Rattle.duthlan_large.proofs.lengths.duthlan_large_lists_lengths.Tie as tie
 
 -- ---- places: the lengths told, measured, their places found enough, the operation named, the code looked up
 
-abbrev told : tie.After-slice-known2 → tie.After-put-list
+abbrev told : tie.After-slice_known-in-Two-1 → tie.After-put_list
 told c = c.before.before
 
-abbrev asked : tie.After-slice-known2 → tie.After-generic-set-lists-lengths
+abbrev asked : tie.After-slice_known-in-Two-1 → tie.After-generic_set_lists_lengths-answer
 asked c = (told c).before.before
 
-abbrev long : tie.After-slice-known2 → tie.Else1
+abbrev long : tie.After-slice_known-in-Two-1 → tie.Else-lengths-lt4
 long c = (asked c).before
 
-abbrev named : tie.After-slice-known2 → tie.After-named
+abbrev named : tie.After-slice_known-in-Two-1 → tie.In-Two-2
 named c = (long c).before.before
 
-abbrev looked : tie.After-slice-known2 → tie.After-operation-of
+abbrev looked : tie.After-slice_known-in-Two-1 → tie.After-operation_of-named
 looked c = (named c).before.before
 
 -- ---- needs
 
-operation-of-requires : tie.Need-operation-of-requires
-operation-of-requires c κs = tt
+operation_of-named-requires : tie.Need-operation_of-named-requires
+operation_of-named-requires c κs = tt
 
-enum_told : tie.Need-enum-told
-enum_told c = search rules
+enum_told-1 : tie.Need-enum_told-1
+enum_told-1 c = search rules
 
-enum-told-2 : tie.Need-enum-told-2
-enum-told-2 c = search rules
+enum_told-in-None : tie.Need-enum_told-in-None
+enum_told-in-None c = search rules
 
-enum-known-named : tie.Need-enum-known-named
-enum-known-named c = search rules
+enum_known-named : tie.Need-enum_known-named
+enum_known-named c = search rules
 
-returns : tie.Need-returns
-returns c = short_lengths room_counts _ (set-lengths _ _ _ _ c.before.before.before.before.operation-of.ensures c.before.before.named.given.1) (lt-ltb _ 4 c.if1.true)
+returns-then-lengths-lt4 : tie.Need-returns-then-lengths-lt4
+returns-then-lengths-lt4 c = short_lengths room_counts _ (set-lengths _ _ _ _ c.operation_of-named.ensures c.in-Two.is) (lt-ltb _ 4 c.if-lengths-lt4.true)
 
-generic-set-lists-lengths-requires : tie.Need-generic-set-lists-lengths-requires
-generic-set-lists-lengths-requires c κs = tt
+generic_set_lists_lengths-answer-requires : tie.Need-generic_set_lists_lengths-answer-requires
+generic_set_lists_lengths-answer-requires c κs = tt
 
-put-list-requires : tie.Need-put-list-requires
-put-list-requires c κs = c.before.before.if1.false
+put_list-requires : tie.Need-put_list-requires
+put_list-requires c κs = c.if-lengths-lt4.false
 
-returns-2 : tie.Need-returns-2
-returns-2 c = no_such_lengths room_counts _ (one-lengths _ _ _ _ c.before.before.operation-of.ensures c.enum_told.given.1)
+returns-in-One : tie.Need-returns-in-One
+returns-in-One c = no_such_lengths room_counts _ (one-lengths _ _ _ _ c.operation_of-named.ensures c.in-One.is)
 
-returns-3 : tie.Need-returns-3
-returns-3 c = no_such_lengths room_counts _ (no_set-lengths _ _ _ _ c.before.before.operation-of.ensures c.enum-told2.given.1)
+returns-in-None : tie.Need-returns-in-None
+returns-in-None c = no_such_lengths room_counts _ (no_set-lengths _ _ _ _ c.operation_of-named.ensures c.in-None.is)
 
-same_length : tie.Need-same-length
-same_length c = (told c).put-list.auto.1.0
+shape_of-lengths : tie.Need-shape_of-lengths
+shape_of-lengths c = (told c).put-list.auto.1.0
 
-returns-4 : tie.Need-returns-4
-returns-4 c =
+returns-else-lengths-lt4 : tie.Need-returns-else-lengths-lt4
+returns-else-lengths-lt4 c =
     own_lengths room_counts _ (set-lengths _ _ _ _ (looked c).operation-of.ensures (named c).named.given.1) (le-ltb _ 4 (long c).if1.false) (asked c).generic-set-lists-lengths.ensures (told c).put-list.ensures
 
-pub duthlan_large_lists-lengths_spec : {M : Type 1} → statement M
-duthlan_large_lists-lengths_spec =
+pub duthlan_large_lists_lengths_spec : {M : Type 1} → statement M
+duthlan_large_lists_lengths_spec =
     tie.close
     (tie.spec
-    operation-of-requires
-    enum_told
-    enum-told-2
-    enum-known-named
-    returns
-    generic-set-lists-lengths-requires
-    put-list-requires
-    returns-2
-    returns-3
-    same_length
-    returns-4)
+    operation_of-named-requires
+    enum_told-1
+    enum_told-in-None
+    enum_known-named
+    returns-then-lengths-lt4
+    generic_set_lists_lengths-answer-requires
+    put_list-requires
+    returns-in-One
+    returns-in-None
+    shape_of-lengths
+    returns-else-lengths-lt4)

@@ -12,89 +12,89 @@ use Rattle.entries.proofs.any_value_lem.enter.Statement.{statement}
 use Rattle.entries.proofs.any_value_lem.enter.Tie as tie
 
 -- the places that are used below
-abbrev run-of-put-values-arg2 : tie.After-put-values-arg2 → tie.After-run
+abbrev run-of-put-values-arg2 : tie.After-put_values-arg-2-1 → tie.After-run-answer
 run-of-put-values-arg2 p = p.before.before.before.before.before.before
 
-abbrev start-of-else1 : tie.Else1 → tie.Start
+abbrev start-of-else1 : tie.Else-k-ne0 → tie.Start
 start-of-else1 p = p.before.before.before.before.before.before.before.before.before
 
-abbrev else1-of-put-values-arg2 : tie.After-put-values-arg2 → tie.Else1
+abbrev else1-of-put-values-arg2 : tie.After-put_values-arg-2-1 → tie.Else-k-ne0
 else1-of-put-values-arg2 p = p.before.before.before.before.before.before.before.before.before
 
-abbrev run-of-slice-known6 : tie.After-slice-known6 → tie.After-run
+abbrev run-of-slice-known6 : tie.After-slice_known-6-1 → tie.After-run-answer
 run-of-slice-known6 p = run-of-put-values-arg2 p.before.before.before.before.before
 
-abbrev else1-of-slice-known6 : tie.After-slice-known6 → tie.Else1
+abbrev else1-of-slice-known6 : tie.After-slice_known-6-1 → tie.Else-k-ne0
 else1-of-slice-known6 p = else1-of-put-values-arg2 p.before.before.before.before.before
 
-abbrev slice-known4-of-slice-known6 : tie.After-slice-known6 → tie.After-slice-known4
+abbrev slice-known4-of-slice-known6 : tie.After-slice_known-6-1 → tie.After-slice_known-4-1
 slice-known4-of-slice-known6 p = p.before.before.before.before.before.before.before.before
 
-abbrev any-value-refusal-of-slice-known4 : tie.After-slice-known4 → tie.After-any-value-refusal
+abbrev any-value-refusal-of-slice-known4 : tie.After-slice_known-4-1 → tie.After-any_value_refusal-k
 any-value-refusal-of-slice-known4 p = p.before.before.before.before.before.before.before
 
-abbrev any-value-refusal-of-slice-known6 : tie.After-slice-known6 → tie.After-any-value-refusal
+abbrev any-value-refusal-of-slice-known6 : tie.After-slice_known-6-1 → tie.After-any_value_refusal-k
 any-value-refusal-of-slice-known6 p = any-value-refusal-of-slice-known4 (slice-known4-of-slice-known6 p)
 
-abbrev S : tie.Else1 → tie.Start
+abbrev S : tie.Else-k-ne0 → tie.Start
 S e = start-of-else1 e
 
-abbrev ins : tie.Else1 → List Numbers
+abbrev ins : tie.Else-k-ne0 → List Numbers
 ins e = list_sizes (length (S e).args.offsets.now) (length (S e).args.values.now)
 
-abbrev outs : tie.Else1 → List Numbers
+abbrev outs : tie.Else-k-ne0 → List Numbers
 outs e = value_sizes (length (S e).args.out-values.now)
 
 -- the sizes have passed
-passed : (e : tie.Else1) → Sized (ins e ++ outs e) (length (S e).args.counts.now) 16
-passed e = sized _ _ _ (sym e.before.any-value-refusal.ensures ∙ e.if1.false)
+passed : (e : tie.Else-k-ne0) → Sized (ins e ++ outs e) (length (S e).args.counts.now) 16
+passed e = sized _ _ _ (sym e.any_value_refusal-k.ensures ∙ e.if-k-ne0.false)
 
-any-value-refusal-requires : tie.Need-any-value-refusal-requires
-any-value-refusal-requires c κs = search rules
+any_value_refusal-k-requires : tie.Need-any_value_refusal-k-requires
+any_value_refusal-k-requires c κs = search rules
 
-returns : tie.Need-returns
-returns c = value_refused _ (size-refused _ _ refl c.before.any-value-refusal.ensures c.if1.true)
+returns-then-k-ne0 : tie.Need-returns-then-k-ne0
+returns-then-k-ne0 c = value_refused _ (size-refused _ _ refl c.any_value_refusal-k.ensures c.if-k-ne0.true)
 
-slice-aggregate-run : tie.Need-slice-aggregate-run
-slice-aggregate-run c = search rules
+slice_bounds-run-end : tie.Need-slice_bounds-run-end
+slice_bounds-run-end c = search rules
 
-run-requires : tie.Need-run-requires
-run-requires c κs = let e = c.before.before in (list-fits _ _ (all_left (ins e) (outs e) (passed e).fit), value_fits _ (all_right (ins e) (outs e) (passed e).fit))
+run-answer-requires : tie.Need-run-answer-requires
+run-answer-requires c κs = let e = c.before.before in (list-fits _ _ (all_left (ins e) (outs e) (passed e).fit), value_fits _ (all_right (ins e) (outs e) (passed e).fit))
 
-slice-aggregate-put-values : tie.Need-slice-aggregate-put-values
-slice-aggregate-put-values c = search rules
+slice_bounds-put_values-end : tie.Need-slice_bounds-put_values-end
+slice_bounds-put_values-end c = search rules
 
-put-values-requires : tie.Need-put-values-requires
-put-values-requires c κs =
+put_values-requires : tie.Need-put_values-requires
+put_values-requires c κs =
     let e = else1-of-put-values-arg2 c in
     let r = run-of-put-values-arg2 c in
-    values_ready r.run.ensures (rw r.run.kept.1.1.1.1.1.1.1.0 (value_fits _ (all_right (ins e) (outs e) (passed e).fit))) refl (passed e).counts
+    values_ready r.run-answer.ensures (rw r.run-answer.kept.1.1.1.1.1.1.1.0 (value_fits _ (all_right (ins e) (outs e) (passed e).fit))) refl (passed e).counts
 
-same_length : tie.Need-same-length
-same_length c = c.before.before.before.before.put-values.auto.1.1.0
+shape_of-out_values : tie.Need-shape_of-out_values
+shape_of-out_values c = c.put_values.auto.out_values
 
-same-length-2 : tie.Need-same-length-2
-same-length-2 c = (run-of-slice-known6 c).run.auto.1.1.1.1.1.1.1.1.0
+shape_of-out_rows : tie.Need-shape_of-out_rows
+shape_of-out_rows c = (run-of-slice-known6 c).run.auto.1.1.1.1.1.1.1.1.0
 
-same-length-3 : tie.Need-same-length-3
-same-length-3 c = c.before.before.before.before.put-values.auto.1.1.1.0
+shape_of-counts : tie.Need-shape_of-counts
+shape_of-counts c = c.put_values.auto.counts
 
-returns-2 : tie.Need-returns-2
-returns-2 c =
+returns : tie.Need-returns
+returns c =
     let e = else1-of-slice-known6 c in
-    value_as (called _ _ refl (any-value-refusal-of-slice-known6 c).any-value-refusal.ensures e.if1.left) (value_returns (run-of-slice-known6 c).run.ensures c.before.before.before.before.put-values.ensures)
+    value_as (called _ _ refl (any-value-refusal-of-slice-known6 c).any-value-refusal.ensures e.if-k-ne0.false) (value_returns (run-of-slice-known6 c).run.ensures c.put_values.ensures)
 
 pub enter_spec : {M : Type 1} → statement M
 enter_spec =
     tie.close
     (tie.spec
-    any-value-refusal-requires
-    returns
-    slice-aggregate-run
-    run-requires
-    slice-aggregate-put-values
-    put-values-requires
-    same_length
-    same-length-2
-    same-length-3
-    returns-2)
+    any_value_refusal-k-requires
+    returns-then-k-ne0
+    slice_bounds-run-end
+    run-answer-requires
+    slice_bounds-put_values-end
+    put_values-requires
+    shape_of-out_values
+    shape_of-out_rows
+    shape_of-counts
+    returns)

@@ -8,95 +8,95 @@ use borrow.Author.Rules.{rules}
 use Rattle.entries.proofs.any_value_lem.run.Statement.{statement}
 use Rattle.entries.proofs.any_value_lem.run.Tie as tie
 
-slice-aggregate-get-list : tie.Need-slice-aggregate-get-list
-slice-aggregate-get-list c = search rules
+slice_bounds-get_list-end : tie.Need-slice_bounds-get_list-end
+slice_bounds-get_list-end c = search rules
 
-slice-aggregate-get-list-2 : tie.Need-slice-aggregate-get-list-2
-slice-aggregate-get-list-2 c = search rules
+slice_bounds-get_list-end-2 : tie.Need-slice_bounds-get_list-end-2
+slice_bounds-get_list-end-2 c = search rules
 
 -- the places that are used below
-abbrev start-of-lv : tie.After-lv → tie.Start
+abbrev start-of-lv : tie.After-lv-1 → tie.Start
 start-of-lv p = p.before.before.before.before.before.before.before
 
-abbrev start-of-lv2 : tie.After-lv2 → tie.Start
+abbrev start-of-lv2 : tie.After-lv-2-1 → tie.Start
 start-of-lv2 p = start-of-lv p.before.before.before
 
-abbrev general-array-any-value-arg-of-slice-known2 : tie.After-slice-known2 → tie.After-general-array-any-value-arg
+abbrev general-array-any-value-arg-of-slice-known2 : tie.After-slice_known-2-1 → tie.After-general_array_any_value-arg-1
 general-array-any-value-arg-of-slice-known2 p = p.before.before.before.before.before
 
-abbrev get-list-of-general-array-any-value-arg : tie.After-general-array-any-value-arg → tie.After-get-list
+abbrev get-list-of-general-array-any-value-arg : tie.After-general_array_any_value-arg-1 → tie.After-get_list
 get-list-of-general-array-any-value-arg p = p.before.before.before.before.before
 
-abbrev get-list-of-slice-known2 : tie.After-slice-known2 → tie.After-get-list
+abbrev get-list-of-slice-known2 : tie.After-slice_known-2-1 → tie.After-get_list
 get-list-of-slice-known2 p = get-list-of-general-array-any-value-arg (general-array-any-value-arg-of-slice-known2 p)
 
-abbrev start-of-lo3 : tie.After-lo3 → tie.Start
+abbrev start-of-lo3 : tie.After-lo-3-1 → tie.Start
 start-of-lo3 p = start-of-lv2 p.before
 
-abbrev start-of-lv3 : tie.After-lv3 → tie.Start
+abbrev start-of-lv3 : tie.After-lv-3-1 → tie.Start
 start-of-lv3 p = start-of-lo3 p.before
 
-abbrev start-of-general-array-any-value-arg : tie.After-general-array-any-value-arg → tie.Start
+abbrev start-of-general-array-any-value-arg : tie.After-general_array_any_value-arg-1 → tie.Start
 start-of-general-array-any-value-arg p = start-of-lv3 p.before
 
-abbrev start-of-slice-known2 : tie.After-slice-known2 → tie.Start
+abbrev start-of-slice-known2 : tie.After-slice_known-2-1 → tie.Start
 start-of-slice-known2 p = start-of-general-array-any-value-arg p.before.before.before.before.before
 
-get-list-requires : tie.Need-get-list-requires
-get-list-requires c κs = (start-of-lv c).requires.0
+get_list-requires : tie.Need-get_list-requires
+get_list-requires c κs = (start-of-lv c).requires.0
 
-array-share-prefix-lo : tie.Need-array-share-prefix-lo
-array-share-prefix-lo c = rw c.before.before.get-list.auto.1.1.0 (start-of-lv2 c).requires.0.offsets
+slice_bounds-lo-end : tie.Need-slice_bounds-lo-end
+slice_bounds-lo-end c = rw c.get_list.auto.o (start-of-lv2 c).requires.0.offsets
 
-slice-aggregate-general-array-any-value : tie.Need-slice-aggregate-general-array-any-value
-slice-aggregate-general-array-any-value c = sym (length-take-le _ _ (rw c.before.before.before.get-list.auto.1.1.0 (start-of-lo3 c).requires.0.offsets))
+slice_bounds-general_array_any_value-end : tie.Need-slice_bounds-general_array_any_value-end
+slice_bounds-general_array_any_value-end c = sym (length-take-le _ _ (rw c.get_list.auto.o (start-of-lo3 c).requires.0.offsets))
 
-array-share-prefix-lv : tie.Need-array-share-prefix-lv
-array-share-prefix-lv c = rw c.before.before.before.get-list.auto.1.1.1.0 (start-of-lo3 c).requires.0.values
+slice_bounds-lv-end : tie.Need-slice_bounds-lv-end
+slice_bounds-lv-end c = rw c.get_list.auto.v (start-of-lo3 c).requires.0.values
 
-slice-aggregate-general-array-any-value-2 : tie.Need-slice-aggregate-general-array-any-value-2
-slice-aggregate-general-array-any-value-2 c = sym (length-take-le _ _ (rw c.before.before.before.before.get-list.auto.1.1.1.0 (start-of-lv3 c).requires.0.values))
+slice_bounds-general_array_any_value-end-2 : tie.Need-slice_bounds-general_array_any_value-end-2
+slice_bounds-general_array_any_value-end-2 c = sym (length-take-le _ _ (rw c.get_list.auto.v (start-of-lv3 c).requires.0.values))
 
-slice-relend-prefix-general-array-any-value : tie.Need-slice-relend-prefix-general-array-any-value
-slice-relend-prefix-general-array-any-value c = (start-of-lv3 c).requires.1
+slice_bounds-general_array_any_value-end-3 : tie.Need-slice_bounds-general_array_any_value-end-3
+slice_bounds-general_array_any_value-end-3 c = (start-of-lv3 c).requires.1
 
-slice-aggregate-general-array-any-value-3 : tie.Need-slice-aggregate-general-array-any-value-3
-slice-aggregate-general-array-any-value-3 c = sym (length-take-le _ _ (start-of-general-array-any-value-arg c).requires.1)
+slice_bounds-general_array_any_value-end-4 : tie.Need-slice_bounds-general_array_any_value-end-4
+slice_bounds-general_array_any_value-end-4 c = sym (length-take-le _ _ (start-of-general-array-any-value-arg c).requires.1)
 
-general-array-any-value-requires : tie.Need-general-array-any-value-requires
-general-array-any-value-requires c κs = search rules
+general_array_any_value-requires : tie.Need-general_array_any_value-requires
+general_array_any_value-requires c κs = search rules
 
-same_length : tie.Need-same-length
-same_length c =
-    let k = c.before.before.before.general-array-any-value in
+shape_of-v : tie.Need-shape_of-v
+shape_of-v c =
+    let k = c.general_array_any_value in
     let s = start-of-slice-known2 c in
-    whole k.new.1.1.1.1.1.1.0 s.args.v.now s.args.m s.pre.1 k.auto.1.1.1.1.1.1.0
+    whole k.new.1.1.1.1.1.1.0 s.args.v.now s.args.m s.requires.1 k.auto.out_values
 
-same-length-2 : tie.Need-same-length-2
-same-length-2 c = c.before.before.before.general-array-any-value.auto.1.1.1.1.1.1.1.0
+shape_of-out_rows : tie.Need-shape_of-out_rows
+shape_of-out_rows c = c.general_array_any_value.auto.out_rows
 
 returns : tie.Need-returns
 returns c =
     let k = c.before.before.before in
     let s = start-of-slice-known2 c in
     let d = (get-list-of-slice-known2 c).get-list.ensures in
-    value_ran s.args.m s.args.v.now k.general-array-any-value.ensures k.general-array-any-value.auto.1.1.1.1.1.1.0 s.pre.1
-    (any_value_decoded _ _ _ d.offsets d.values (length-take-le _ _ s.pre.1))
+    value_ran s.args.m s.args.v.now k.general_array_any_value.ensures k.general_array_any_value.auto.out_values s.requires.1
+    (any_value_decoded _ _ _ d.offsets d.values (length-take-le _ _ s.requires.1))
 
 pub run_spec : {M : Type 1} → statement M
 run_spec =
     tie.close
     (tie.spec
-    slice-aggregate-get-list
-    slice-aggregate-get-list-2
-    get-list-requires
-    array-share-prefix-lo
-    slice-aggregate-general-array-any-value
-    array-share-prefix-lv
-    slice-aggregate-general-array-any-value-2
-    slice-relend-prefix-general-array-any-value
-    slice-aggregate-general-array-any-value-3
-    general-array-any-value-requires
-    same_length
-    same-length-2
+    slice_bounds-get_list-end
+    slice_bounds-get_list-end-2
+    get_list-requires
+    slice_bounds-lo-end
+    slice_bounds-general_array_any_value-end
+    slice_bounds-lv-end
+    slice_bounds-general_array_any_value-end-2
+    slice_bounds-general_array_any_value-end-3
+    slice_bounds-general_array_any_value-end-4
+    general_array_any_value-requires
+    shape_of-v
+    shape_of-out_rows
     returns)

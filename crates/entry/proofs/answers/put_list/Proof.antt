@@ -7,82 +7,82 @@ use Rattle.entry.proofs.AnswerLaws.{sent_refused, sent_made, counted, counted-by
 use Rattle.entry.proofs.answers.put_list.Statement.{statement}
 use Rattle.entry.proofs.answers.put_list.Tie as tie
 
-enum-known-answer : tie.Need-enum-known-answer
-enum-known-answer c = search rules
+enum_known-answer : tie.Need-enum_known-answer
+enum_known-answer c = search rules
 
-cast-result : tie.Need-overflow-cast-result
-cast-result c = search rules
+overflow_cast-result : tie.Need-overflow_cast-result
+overflow_cast-result c = search rules
 
-enum-known-answer-2 : tie.Need-enum-known-answer-2
-enum-known-answer-2 c = search rules
+enum_known-answer-in-Counts-1 : tie.Need-enum_known-answer-in-Counts-1
+enum_known-answer-in-Counts-1 c = search rules
 
-add-n : tie.Need-overflow-add-n
-add-n c =
-    let k = counted c.before.answer2.given.1 c.before.before.before.before.before.before.requires in
+overflow_add-n : tie.Need-overflow_add-n
+overflow_add-n c =
+    let k = counted c.in-Counts.is c.requires in
     omega (arith, k.0)
 
-slice-aggregate-encode-i32 : tie.Need-slice-aggregate-encode-i32
-slice-aggregate-encode-i32 c =
-    let a = c.before.before in
-    sym (length-take-le _ _ (counted a.answer2.given.1 a.before.before.before.before.before.requires).0)
+slice_bounds-encode_i32-end : tie.Need-slice_bounds-encode_i32-end
+slice_bounds-encode_i32-end c =
+    let a = c in
+    sym (length-take-le _ _ (counted a.answer-in-Counts-1.given.1 a.requires).0)
 
-encode-i32-requires : tie.Need-encode-i32-requires
-encode-i32-requires c κs =
-    let a = c.before.before.before in
+encode_i32-requires : tie.Need-encode_i32-requires
+encode_i32-requires c κs =
+    let a = c.before in
     let s = a.before.before.before.before.before in
-    let k = counted a.answer2.given.1 s.requires in
-    rw (length-take-le _ _ k.0) (counted-bytes a.answer2.given.1 s.requires).0
+    let k = counted a.answer-in-Counts-1.given.1 s.requires in
+    rw (length-take-le _ _ k.0) (counted-bytes a.answer-in-Counts-1.given.1 s.requires).0
 
-slice-aggregate-encode-i64 : tie.Need-slice-aggregate-encode-i64
-slice-aggregate-encode-i64 c =
-    let a = c.before.before.before.before.before.before.before in
-    sym (length-take-le _ _ (counted a.answer2.given.1 a.before.before.before.before.before.requires).1)
+slice_bounds-encode_i64-end : tie.Need-slice_bounds-encode_i64-end
+slice_bounds-encode_i64-end c =
+    let a = c.before.before.before.before.before in
+    sym (length-take-le _ _ (counted a.answer-in-Counts-1.given.1 a.requires).1)
 
-encode-i64-requires : tie.Need-encode-i64-requires
-encode-i64-requires c κs =
-    let a = c.before.before.before.before.before.before.before.before in
+encode_i64-requires : tie.Need-encode_i64-requires
+encode_i64-requires c κs =
+    let a = c.before.before.before.before.before.before in
     let s = a.before.before.before.before.before in
-    let k = counted a.answer2.given.1 s.requires in
-    rw (length-take-le _ _ k.1) (counted-bytes a.answer2.given.1 s.requires).1
+    let k = counted a.answer-in-Counts-1.given.1 s.requires in
+    rw (length-take-le _ _ k.1) (counted-bytes a.answer-in-Counts-1.given.1 s.requires).1
 
-put-counts-requires : tie.Need-put-counts-requires
-put-counts-requires c κs = search rules
+put_counts-requires : tie.Need-put_counts-requires
+put_counts-requires c κs = search rules
 
-returns : tie.Need-returns
-returns c = sent_refused _ c.before.answer.given.1
+returns-in-Refused : tie.Need-returns-in-Refused
+returns-in-Refused c = sent_refused _ c.in-Refused.is
 
-same_length : tie.Need-same-length
-same_length c = search rules
+shape_of-out_offsets : tie.Need-shape_of-out_offsets
+shape_of-out_offsets c = search rules
 
-same-length-2 : tie.Need-same-length-2
-same-length-2 c = search rules
+shape_of-out_values : tie.Need-shape_of-out_values
+shape_of-out_values c = search rules
 
-same-length-3 : tie.Need-same-length-3
-same-length-3 c = search rules
+shape_of-counts : tie.Need-shape_of-counts
+shape_of-counts c = search rules
 
-returns-2 : tie.Need-returns-2
-returns-2 c =
+returns-in-Counts : tie.Need-returns-in-Counts
+returns-in-Counts c =
     let n = c.before.before in
     let v = n.before.before.before.before in
     let o = v.before.before.before.before.before in
-    let a = o.before.before.before.before in
-    sent_made a.answer2.given.1 o.encode-i32.ensures v.encode-i64.ensures n.put-counts.ensures
+    let a = o.before.before in
+    sent_made a.answer-in-Counts-1.given.1 o.encode_i32.ensures v.encode_i64.ensures n.put_counts.ensures
 
 pub put_list_spec : {M : Type 1} → statement M
 put_list_spec =
     tie.close
     (tie.spec
-    enum-known-answer
-    cast-result
-    enum-known-answer-2
-    add-n
-    slice-aggregate-encode-i32
-    encode-i32-requires
-    slice-aggregate-encode-i64
-    encode-i64-requires
-    put-counts-requires
-    returns
-    same_length
-    same-length-2
-    same-length-3
-    returns-2)
+    enum_known-answer
+    overflow_cast-result
+    enum_known-answer-in-Counts-1
+    overflow_add-n
+    slice_bounds-encode_i32-end
+    encode_i32-requires
+    slice_bounds-encode_i64-end
+    encode_i64-requires
+    put_counts-requires
+    returns-in-Refused
+    shape_of-out_offsets
+    shape_of-out_values
+    shape_of-counts
+    returns-in-Counts)

@@ -7,57 +7,57 @@ use Rattle.entry.proofs.AnswerLaws.{values-refused, values-made, counted-values,
 use Rattle.entry.proofs.answers.put_values.Statement.{statement}
 use Rattle.entry.proofs.answers.put_values.Tie as tie
 
-enum-known-answer : tie.Need-enum-known-answer
-enum-known-answer c = search rules
+enum_known-answer : tie.Need-enum_known-answer
+enum_known-answer c = search rules
 
-cast-result : tie.Need-overflow-cast-result
-cast-result c = search rules
+overflow_cast-result : tie.Need-overflow_cast-result
+overflow_cast-result c = search rules
 
-enum-known-answer-2 : tie.Need-enum-known-answer-2
-enum-known-answer-2 c = search rules
+enum_known-answer-in-Counts-1 : tie.Need-enum_known-answer-in-Counts-1
+enum_known-answer-in-Counts-1 c = search rules
 
-slice-aggregate-encode-i64 : tie.Need-slice-aggregate-encode-i64
-slice-aggregate-encode-i64 c =
-    let a = c.before.before in
-    sym (length-take-le _ _ (counted-values a.answer2.given.1 a.before.before.before.before.requires))
+slice_bounds-encode_i64-end : tie.Need-slice_bounds-encode_i64-end
+slice_bounds-encode_i64-end c =
+    let a = c in
+    sym (length-take-le _ _ (counted-values a.answer-in-Counts-1.given.1 a.requires))
 
-encode-i64-requires : tie.Need-encode-i64-requires
-encode-i64-requires c κs =
-    let a = c.before.before.before in
+encode_i64-requires : tie.Need-encode_i64-requires
+encode_i64-requires c κs =
+    let a = c.before in
     let s = a.before.before.before.before in
-    let k = counted-values a.answer2.given.1 s.requires in
-    rw (length-take-le _ _ k) (counted_value_bytes a.answer2.given.1 s.requires)
+    let k = counted-values a.answer-in-Counts-1.given.1 s.requires in
+    rw (length-take-le _ _ k) (counted_value_bytes a.answer-in-Counts-1.given.1 s.requires)
 
-put-value-counts-requires : tie.Need-put-value-counts-requires
-put-value-counts-requires c κs = search rules
+put_value_counts-requires : tie.Need-put_value_counts-requires
+put_value_counts-requires c κs = search rules
 
-returns : tie.Need-returns
-returns c = values-refused _ c.before.answer.given.1
+returns-in-Refused : tie.Need-returns-in-Refused
+returns-in-Refused c = values-refused _ c.in-Refused.is
 
-same_length : tie.Need-same-length
-same_length c = search rules
+shape_of-out_values : tie.Need-shape_of-out_values
+shape_of-out_values c = search rules
 
-same-length-2 : tie.Need-same-length-2
-same-length-2 c = search rules
+shape_of-counts : tie.Need-shape_of-counts
+shape_of-counts c = search rules
 
-returns-2 : tie.Need-returns-2
-returns-2 c =
+returns-in-Counts : tie.Need-returns-in-Counts
+returns-in-Counts c =
     let n = c.before.before in
     let v = n.before.before.before.before in
-    let a = v.before.before.before.before in
-    values-made a.answer2.given.1 v.encode-i64.ensures n.put-value-counts.ensures
+    let a = v.before.before in
+    values-made a.answer-in-Counts-1.given.1 v.encode_i64.ensures n.put_value_counts.ensures
 
 pub put_values_spec : {M : Type 1} → statement M
 put_values_spec =
     tie.close
     (tie.spec
-    enum-known-answer
-    cast-result
-    enum-known-answer-2
-    slice-aggregate-encode-i64
-    encode-i64-requires
-    put-value-counts-requires
-    returns
-    same_length
-    same-length-2
-    returns-2)
+    enum_known-answer
+    overflow_cast-result
+    enum_known-answer-in-Counts-1
+    slice_bounds-encode_i64-end
+    encode_i64-requires
+    put_value_counts-requires
+    returns-in-Refused
+    shape_of-out_values
+    shape_of-counts
+    returns-in-Counts)

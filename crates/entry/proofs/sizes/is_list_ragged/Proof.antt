@@ -5,14 +5,19 @@ use Rattle.entry.proofs.SizeLaws.{any-two}
 use Rattle.entry.proofs.sizes.is_list_ragged.Statement.{statement}
 use Rattle.entry.proofs.sizes.is_list_ragged.Tie as tie
 
-is-ragged-requires : tie.Need-is-ragged-requires
-is-ragged-requires c κs = search rules
+is_ragged-requires : tie.Need-is_ragged-requires
+is_ragged-requires c κs = search rules
 
-is-ragged-requires-2 : tie.Need-is-ragged-requires-2
-is-ragged-requires-2 c κs = search rules
+is_ragged-requires-2 : tie.Need-is_ragged-requires-2
+is_ragged-requires-2 c κs = search rules
 
 returns : tie.Need-returns
-returns c = any-two ragged _ _ c.before.is-ragged.ensures c.is-ragged2.ensures
+returns c = any-two ragged _ _ c.is_ragged.ensures c.is_ragged-2.ensures
 
-pub is_list-ragged_spec : {M : Type 1} → statement M
-is_list-ragged_spec = tie.close (tie.spec is-ragged-requires is-ragged-requires-2 returns)
+pub is_list_ragged_spec : {M : Type 1} → statement M
+is_list_ragged_spec =
+    tie.close
+    (tie.spec
+    is_ragged-requires
+    is_ragged-requires-2
+    returns)

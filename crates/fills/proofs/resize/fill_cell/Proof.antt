@@ -2,19 +2,25 @@ use Rattle.rows.specs.Cells.{elem_of, fill_elem}
 use Rattle.fills.proofs.resize.fill_cell.Statement.{statement}
 use Rattle.fills.proofs.resize.fill_cell.Tie as tie
 
-enum_told : tie.Need-enum-told
-enum_told c = search
+enum_told-1 : tie.Need-enum_told-1
+enum_told-1 c = search
 
-enum-known-fill : tie.Need-enum-known-fill
-enum-known-fill c = search
+enum_known-fill : tie.Need-enum_known-fill
+enum_known-fill c = search
 
-returns : tie.Need-returns
+returns-in-Absent : tie.Need-returns-in-Absent
 unfolding elem_of fill_elem
-returns c = rw c.enum_told.given.1
+returns-in-Absent c = rw c.in-Absent.is
 
-returns-2 : tie.Need-returns-2
+returns-in-Own : tie.Need-returns-in-Own
 unfolding fill_elem
-returns-2 c = rw c.before.fill.given.1
+returns-in-Own c = rw c.in-Own.is
 
 pub fill_cell_spec : {M : Type 1} → statement M
-fill_cell_spec = tie.close (tie.spec enum_told enum-known-fill returns returns-2)
+fill_cell_spec =
+    tie.close
+    (tie.spec
+    enum_told-1
+    enum_known-fill
+    returns-in-Absent
+    returns-in-Own)

@@ -3,51 +3,51 @@ use Rattle.rows.specs.Cells.{elem_of}
 use Rattle.fills.proofs.resize.write_fill.Statement.{statement}
 use Rattle.fills.proofs.resize.write_fill.Tie as tie
 
-enum_told : tie.Need-enum-told
-enum_told c = search
+enum_told-1 : tie.Need-enum_told-1
+enum_told-1 c = search
 
-write-null-requires : tie.Need-write-null-requires
+write_null-requires : tie.Need-write_null-requires
 unfolding elem_of
-write-null-requires c κs = rw c.before.before.enum_told.given.1 at c.before.before.before.before.before.requires
+write_null-requires c κs = rw c.in-Null.is at c.requires
 
-enum-known-cell : tie.Need-enum-known-cell
-enum-known-cell c = search
+enum_known-cell : tie.Need-enum_known-cell
+enum_known-cell c = search
 
-write-value-requires : tie.Need-write-value-requires
+write_value-requires : tie.Need-write_value-requires
 unfolding elem_of
-write-value-requires c κs = rw (back64 _ c.before.before.known-told.given.0.1) (rw c.before.before.before.cell.given.1 at c.before.before.before.before.before.before.requires)
+write_value-requires c κs = rw (back64 _ c.in-Value.known_told-1-own.given.0.1) (rw c.in-Value.is at c.requires)
 
-same_length : tie.Need-same-length
-same_length c = search
+shape_of-out_values-in-Null : tie.Need-shape_of-out_values-in-Null
+shape_of-out_values-in-Null c = search
 
-same-length-2 : tie.Need-same-length-2
-same-length-2 c = search
+shape_of-out_elements-in-Null : tie.Need-shape_of-out_elements-in-Null
+shape_of-out_elements-in-Null c = search
 
-returns : tie.Need-returns
+returns-in-Null : tie.Need-returns-in-Null
 unfolding elem_of
-returns c = rw c.before.before.before.before.before.before.enum_told.given.1 c.before.before.before.write-null.ensures
+returns-in-Null c = rw c.in-Null.is c.write_null.ensures
 
-same-length-3 : tie.Need-same-length-3
-same-length-3 c = search
+shape_of-out_values-in-Value : tie.Need-shape_of-out_values-in-Value
+shape_of-out_values-in-Value c = search
 
-same-length-4 : tie.Need-same-length-4
-same-length-4 c = search
+shape_of-out_elements-in-Value : tie.Need-shape_of-out_elements-in-Value
+shape_of-out_elements-in-Value c = search
 
-returns-2 : tie.Need-returns-2
+returns-in-Value : tie.Need-returns-in-Value
 unfolding elem_of
-returns-2 c = rw c.before.before.before.before.before.before.before.cell.given.1 (rw (back64 _ c.before.before.before.before.before.before.known-told.given.0.1) at c.before.before.before.write-value.ensures)
+returns-in-Value c = rw c.in-Value.is (rw (back64 _ c.in-Value.known_told-1-own.given.0.1) at c.write_value.ensures)
 
 pub write_fill_spec : {M : Type 1} → statement M
 write_fill_spec =
     tie.close
     (tie.spec
-    enum_told
-    write-null-requires
-    enum-known-cell
-    write-value-requires
-    same_length
-    same-length-2
-    returns
-    same-length-3
-    same-length-4
-    returns-2)
+    enum_told-1
+    write_null-requires
+    enum_known-cell
+    write_value-requires
+    shape_of-out_values-in-Null
+    shape_of-out_elements-in-Null
+    returns-in-Null
+    shape_of-out_values-in-Value
+    shape_of-out_elements-in-Value
+    returns-in-Value)

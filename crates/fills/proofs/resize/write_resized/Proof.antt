@@ -29,7 +29,7 @@ module _ (s : tie.Start) where
   es = resized s.args.count F row
 
   -- nothing is written yet
-  none : Writing es s.args.at s.args.out-values.now s.args.out-elements.now es s.args.at s.args.out-values.now s.args.out-elements.now
+  none : Writing es s.args.at s.args.out_values.now s.args.out_elements.now es s.args.at s.args.out_values.now s.args.out_elements.now
   none = begun es refl
 
   cut : s.args.count ≤ s.args.n → es ≡ tab E s.args.a s.args.count
@@ -39,82 +39,82 @@ module _ (s : tie.Start) where
   filled h = resized_filled F E s.args.a s.args.n s.args.count h
 
 -- the row is copied, and the fill is left
-module _ (c : tie.After-write-forward2) where
+module _ (c : tie.After-write_forward-k) where
   abbrev s₂ : tie.Start
   s₂ = c.before.before.before.before.before.before
 
   longer : s₂.args.n ≤ s₂.args.count
   longer = let e = c.before.before.before in omega (arith, e)
 
-  copied : Writing (es s₂) s₂.args.at s₂.args.out-values.now s₂.args.out-elements.now (replicate (s₂.args.count - s₂.args.n) (F s₂)) c.write-forward2.result c.write-forward2.new.1.1.1.1.1.0 c.write-forward2.new.1.1.1.1.1.1.0
-  copied = run_written (none s₂) (row s₂) _ (filled s₂ longer) c.write-forward2.ensures
+  copied : Writing (es s₂) s₂.args.at s₂.args.out_values.now s₂.args.out_elements.now (replicate (s₂.args.count - s₂.args.n) (F s₂)) c.write_forward-k.result c.write_forward-k.new.1.1.1.1.1.0 c.write_forward-k.new.1.1.1.1.1.1.0
+  copied = run_written (none s₂) (row s₂) _ (filled s₂ longer) c.write_forward-k.ensures
 
-module _ (c : tie.After-fill-cell) where
-  abbrev w₂ : tie.After-write-forward2
+module _ (c : tie.After-fill_cell) where
+  abbrev w₂ : tie.After-write_forward-k
   w₂ = c.before.before.before.before
 
   -- the fill is the argument that is written
-  fill_is : replicate ((s₂ w₂).args.count - (s₂ w₂).args.n) (F (s₂ w₂)) ≡ replicate ((s₂ w₂).args.count - (s₂ w₂).args.n) (elem_of c.fill-cell.result)
-  fill_is = rw c.fill-cell.ensures
+  fill_is : replicate ((s₂ w₂).args.count - (s₂ w₂).args.n) (F (s₂ w₂)) ≡ replicate ((s₂ w₂).args.count - (s₂ w₂).args.n) (elem_of c.fill_cell.result)
+  fill_is = rw c.fill_cell.ensures
 
-write-forward-requires : tie.Need-write-forward-requires
-write-forward-requires c κs =
+write_forward-requires : tie.Need-write_forward-requires
+write_forward-requires c κs =
     let t = c.before.before in
     let s = t.before.before.before in
     (record { inside = omega (arith, t, s.requires.0.inside); bits = s.requires.0.bits }, last-room (none s) _ (cut s (omega (arith, t))) s.requires.1)
 
-same_length : tie.Need-same-length
-same_length c = search
+shape_of-out_values-then-count-n : tie.Need-shape_of-out_values-then-count-n
+shape_of-out_values-then-count-n c = search
 
-same-length-2 : tie.Need-same-length-2
-same-length-2 c = search
+shape_of-out_elements-then-count-n : tie.Need-shape_of-out_elements-then-count-n
+shape_of-out_elements-then-count-n c = search
 
-returns : tie.Need-returns
-returns c =
+returns-then-count-n : tie.Need-returns-then-count-n
+returns-then-count-n c =
     let w = c.before.before.before in
     let t = w.before.before.before in
     let s = t.before.before.before in
-    last_written (none s) _ (cut s (omega (arith, t))) w.write-forward.ensures
+    last_written (none s) _ (cut s (omega (arith, t))) w.write_forward.ensures
 
-write-forward-requires-2 : tie.Need-write-forward-requires-2
-write-forward-requires-2 c κs =
+write_forward-k-requires : tie.Need-write_forward-k-requires
+write_forward-k-requires c κs =
     let t = c.before.before in
     let s = t.before.before.before in
     (s.requires.0, run_room (none s) (row s) _ (filled s (omega (arith, t))) s.requires.1)
 
-fill-cell-requires : tie.Need-fill-cell-requires
-fill-cell-requires c κs = search
+fill_cell-requires : tie.Need-fill_cell-requires
+fill_cell-requires c κs = search
 
-sub-write-fill : tie.Need-overflow-sub-write-fill
-sub-write-fill c = search rules
+overflow_sub-count : tie.Need-overflow_sub-count
+overflow_sub-count c = search rules
 
-write-fill-requires : tie.Need-write-fill-requires
-write-fill-requires c κs = let q = c.before.before in last-room (copied (w₂ q)) _ (fill_is q) (s₂ (w₂ q)).pre.1
+write_fill-requires : tie.Need-write_fill-requires
+write_fill-requires c κs = let q = c.before.before in last-room (copied (w₂ q)) _ (fill_is q) (s₂ (w₂ q)).requires.1
 
-same-length-3 : tie.Need-same-length-3
-same-length-3 c = search rules
+shape_of-out_values : tie.Need-shape_of-out_values
+shape_of-out_values c = search rules
 
-same-length-4 : tie.Need-same-length-4
-same-length-4 c = search rules
+shape_of-out_elements : tie.Need-shape_of-out_elements
+shape_of-out_elements c = search rules
 
-returns-2 : tie.Need-returns-2
-returns-2 c =
+returns : tie.Need-returns
+returns c =
     let w = c.before.before.before in
     let q = w.before.before.before in
-    last_written (copied (w₂ q)) _ (fill_is q) w.write-fill.ensures
+    last_written (copied (w₂ q)) _ (fill_is q) w.write_fill.ensures
 
 pub write_resized_spec : {M : Type 1} → statement M
 write_resized_spec =
     tie.close
     (tie.spec
-    write-forward-requires
-    same_length
-    same-length-2
-    returns
-    write-forward-requires-2
-    fill-cell-requires
-    sub-write-fill
-    write-fill-requires
-    same-length-3
-    same-length-4
-    returns-2)
+    write_forward-requires
+    shape_of-out_values-then-count-n
+    shape_of-out_elements-then-count-n
+    returns-then-count-n
+    write_forward-k-requires
+    fill_cell-requires
+    overflow_sub-count
+    write_fill-requires
+    shape_of-out_values
+    shape_of-out_elements
+    returns)

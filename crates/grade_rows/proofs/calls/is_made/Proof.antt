@@ -3,17 +3,23 @@ use borrow.Author.Rules.{rules}
 use Rattle.grade_rows.proofs.calls.is_made.Statement.{statement}
 use Rattle.grade_rows.proofs.calls.is_made.Tie as tie
 
-enum_told : tie.Need-enum-told
-enum_told c = search rules
+enum_told-1 : tie.Need-enum_told-1
+enum_told-1 c = search rules
 
-enum-told-2 : tie.Need-enum-told-2
-enum-told-2 c = search rules
+enum_told-in-Counts : tie.Need-enum_told-in-Counts
+enum_told-in-Counts c = search rules
 
-returns : tie.Need-returns
-returns c = none_made c.enum_told.given.1
+returns-in-Refused : tie.Need-returns-in-Refused
+returns-in-Refused c = none_made c.in-Refused.is
 
-returns-2 : tie.Need-returns-2
-returns-2 c = some-made c.enum-told2.given.1
+returns-in-Counts : tie.Need-returns-in-Counts
+returns-in-Counts c = some-made c.in-Counts.is
 
 pub is_made_spec : {M : Type 1} → statement M
-is_made_spec = tie.close (tie.spec enum_told enum-told-2 returns returns-2)
+is_made_spec =
+    tie.close
+    (tie.spec
+    enum_told-1
+    enum_told-in-Counts
+    returns-in-Refused
+    returns-in-Counts)

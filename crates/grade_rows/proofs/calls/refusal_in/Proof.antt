@@ -3,17 +3,23 @@ use borrow.Author.Rules.{rules}
 use Rattle.grade_rows.proofs.calls.refusal_in.Statement.{statement}
 use Rattle.grade_rows.proofs.calls.refusal_in.Tie as tie
 
-enum-known-lengths : tie.Need-enum-known-lengths
-enum-known-lengths c = search rules
+enum_known-lengths : tie.Need-enum_known-lengths
+enum_known-lengths c = search rules
 
-enum_told : tie.Need-enum-told
-enum_told c = search rules
+enum_told-1 : tie.Need-enum_told-1
+enum_told-1 c = search rules
 
-returns : tie.Need-returns
-returns c = refusal_is c.before.lengths.given.1
+returns-in-Refused : tie.Need-returns-in-Refused
+returns-in-Refused c = refusal_is c.in-Refused.is
 
-returns-2 : tie.Need-returns-2
-returns-2 c = no_refusal c.enum_told.given.1
+returns-in-Of : tie.Need-returns-in-Of
+returns-in-Of c = no_refusal c.in-Of.is
 
 pub refusal_in_spec : {M : Type 1} → statement M
-refusal_in_spec = tie.close (tie.spec enum-known-lengths enum_told returns returns-2)
+refusal_in_spec =
+    tie.close
+    (tie.spec
+    enum_known-lengths
+    enum_told-1
+    returns-in-Refused
+    returns-in-Of)

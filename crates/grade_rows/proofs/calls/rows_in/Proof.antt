@@ -3,17 +3,23 @@ use borrow.Author.Rules.{rules}
 use Rattle.grade_rows.proofs.calls.rows_in_lem.Statement.{statement}
 use Rattle.grade_rows.proofs.calls.rows_in_lem.Tie as tie
 
-enum_told : tie.Need-enum-told
-enum_told c = search rules
+enum_told-1 : tie.Need-enum_told-1
+enum_told-1 c = search rules
 
-enum-known-answer : tie.Need-enum-known-answer
-enum-known-answer c = search rules
+enum_known-answer : tie.Need-enum_known-answer
+enum_known-answer c = search rules
 
-returns : tie.Need-returns
-returns c = no_rows c.enum_told.given.1
+returns-in-Refused : tie.Need-returns-in-Refused
+returns-in-Refused c = no_rows c.in-Refused.is
 
-returns-2 : tie.Need-returns-2
-returns-2 c = rows_are c.before.answer.given.1
+returns-in-Counts : tie.Need-returns-in-Counts
+returns-in-Counts c = rows_are c.in-Counts.is
 
 pub rows_in_spec : {M : Type 1} → statement M
-rows_in_spec = tie.close (tie.spec enum_told enum-known-answer returns returns-2)
+rows_in_spec =
+    tie.close
+    (tie.spec
+    enum_told-1
+    enum_known-answer
+    returns-in-Refused
+    returns-in-Counts)

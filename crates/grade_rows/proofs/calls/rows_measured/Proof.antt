@@ -3,17 +3,23 @@ use borrow.Author.Rules.{rules}
 use Rattle.grade_rows.proofs.calls.rows_measured.Statement.{statement}
 use Rattle.grade_rows.proofs.calls.rows_measured.Tie as tie
 
-enum_told : tie.Need-enum-told
-enum_told c = search rules
+enum_told-1 : tie.Need-enum_told-1
+enum_told-1 c = search rules
 
-enum-known-lengths : tie.Need-enum-known-lengths
-enum-known-lengths c = search rules
+enum_known-lengths : tie.Need-enum_known-lengths
+enum_known-lengths c = search rules
 
-returns : tie.Need-returns
-returns c = none-measured c.enum_told.given.1
+returns-in-Refused : tie.Need-returns-in-Refused
+returns-in-Refused c = none-measured c.in-Refused.is
 
-returns-2 : tie.Need-returns-2
-returns-2 c = measured_are c.before.lengths.given.1
+returns-in-Of : tie.Need-returns-in-Of
+returns-in-Of c = measured_are c.in-Of.is
 
-pub rows-measured_spec : {M : Type 1} → statement M
-rows-measured_spec = tie.close (tie.spec enum_told enum-known-lengths returns returns-2)
+pub rows_measured_spec : {M : Type 1} → statement M
+rows_measured_spec =
+    tie.close
+    (tie.spec
+    enum_told-1
+    enum_known-lengths
+    returns-in-Refused
+    returns-in-Of)

@@ -4,27 +4,27 @@ use borrow.Author.Rules.{rules}
 use Rattle.hash_rows.proofs.distinct.measure_first.Statement.{statement}
 use Rattle.hash_rows.proofs.distinct.measure_first.Tie as tie
 
-measure-distinct-requires : tie.Need-measure-distinct-requires
-measure-distinct-requires c κs = search
+measure_distinct-requires : tie.Need-measure_distinct-requires
+measure_distinct-requires c κs = search
+
+returns-then-n-lt-FEW : tie.Need-returns-then-n-lt-FEW
+returns-then-n-lt-FEW c = (c.measure_distinct.ensures, c.requires.1.1.1)
+
+measure_distinct-requires-2 : tie.Need-measure_distinct-requires-2
+measure_distinct-requires-2 c κs = let s = c.before.before.before.before in (s.requires.0, (omega (arith, s.requires.1.0), s.requires.1.1))
+
+shape_of-area : tie.Need-shape_of-area
+shape_of-area c = search
 
 returns : tie.Need-returns
-returns c = (c.measure-distinct.ensures, c.before.before.before.before.requires.1.1.1)
-
-measure-distinct-requires-2 : tie.Need-measure-distinct-requires-2
-measure-distinct-requires-2 c κs = let s = c.before.before.before.before in (s.requires.0, (omega (arith, s.requires.1.0), s.requires.1.1))
-
-same_length : tie.Need-same-length
-same_length c = search
-
-returns-2 : tie.Need-returns-2
-returns-2 c = c.before.before.measure-distinct2.ensures
+returns c = c.measure_distinct-2.ensures
 
 pub measure_first_spec : {M : Type 1} → statement M
 measure_first_spec =
     tie.close
     (tie.spec
-    measure-distinct-requires
-    returns
-    measure-distinct-requires-2
-    same_length
-    returns-2)
+    measure_distinct-requires
+    returns-then-n-lt-FEW
+    measure_distinct-requires-2
+    shape_of-area
+    returns)

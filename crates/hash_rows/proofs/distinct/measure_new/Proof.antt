@@ -13,8 +13,8 @@ use Rattle.hash_tables.proofs.TableLaws.{table_none, table_all, within_none, wit
 use Rattle.hash_rows.proofs.distinct.measure_new.Statement.{statement}
 use Rattle.hash_rows.proofs.distinct.measure_new.Tie as tie
 
-abbrev invariant-loop : tie.invariant-loop
-invariant-loop values elements estart a n area₀ o len₀ k₀ left₀ area len k left =
+abbrev invariant-loop-left : tie.invariant-loop-left
+invariant-loop-left values elements estart a n area₀ o len₀ k₀ left₀ area len k left =
     (len + length (later (elem_at values (from estart elements)) a k left) ≡ length (distinct (tab (elem_at values (from estart elements)) a n)))
     × (k + left ≡ n)
     × (len ≤ k)
@@ -22,68 +22,68 @@ invariant-loop values elements estart a n area₀ o len₀ k₀ left₀ area len
     × Within o (o + n + n) area₀ area
     × (length area ≡ length area₀)
 
-abbrev decreases-loop : tie.decreases-loop
-decreases-loop values elements estart a n area₀ o len₀ k₀ left₀ area len k left = left
+abbrev decreases-loop-left : tie.decreases-loop-left
+decreases-loop-left values elements estart a n area₀ o len₀ k₀ left₀ area len k left = left
 
-loop-holds : tie.Need-loop-init invariant-loop decreases-loop
-loop-holds c =
+loop-left-init : tie.Need-loop-left-init invariant-loop-left decreases-loop-left
+loop-left-init c =
     let s = c.before.before in
     let E = elem_at s.args.values.now (from s.args.estart s.args.elements.now) in
     (omega (arith, ap length (later_all E s.args.a s.args.n)), omega arith, omega arith, table_none _ _ _ _ _ s.requires.1.1.0 s.requires.1.1.1, within_none _, refl)
 
-enter-requires : tie.Need-enter-requires invariant-loop decreases-loop
-enter-requires c κs =
+enter-new-requires : tie.Need-enter-new-requires invariant-loop-left decreases-loop-left
+enter-new-requires c κs =
     let s = c.before.before.before.before.before in
-    (s.requires.0, (omega (arith, c.before), (s.requires.1.0, c.before.before.loop.invariant.3)))
+    (s.requires.0, (omega (arith, c.before), (s.requires.1.0, c.loop-left.invariant.3)))
 
-cast-len : tie.Need-overflow-cast-len invariant-loop decreases-loop
-cast-len c = tt
+overflow_cast-len : tie.Need-overflow_cast-len invariant-loop-left decreases-loop-left
+overflow_cast-len c = tt
 
-add-len : tie.Need-overflow-add-len invariant-loop decreases-loop
-add-len c = omega (arith, c.before.before.before.before, bit_le c.before.before.enter.result)
+overflow_add-len : tie.Need-overflow_add-len invariant-loop-left decreases-loop-left
+overflow_add-len c = omega (arith, c.before.before.before.before, bit_le c.enter-new.result)
 
-add-k : tie.Need-overflow-add-k invariant-loop decreases-loop
-add-k c = omega (arith, c.before.before.before.before)
+overflow_add-k : tie.Need-overflow_add-k invariant-loop-left decreases-loop-left
+overflow_add-k c = omega (arith, c.before.before.before.before)
 
-sub-left : tie.Need-overflow-sub-left invariant-loop decreases-loop
-sub-left c = omega (arith, c.before.before.before.before)
+overflow_sub-left : tie.Need-overflow_sub-left invariant-loop-left decreases-loop-left
+overflow_sub-left c = omega (arith, c.before.before.before.before)
 
-loop-less : tie.Need-loop-smaller invariant-loop decreases-loop
-loop-less c = omega (arith, c.before.before.before.before)
+loop-left-smaller : tie.Need-loop-left-smaller invariant-loop-left decreases-loop-left
+loop-left-smaller c = omega (arith, c.before.before.before.before)
 
-loop-again : tie.Need-loop-preserved invariant-loop decreases-loop
-loop-again c =
+loop-left-preserved : tie.Need-loop-left-preserved invariant-loop-left decreases-loop-left
+loop-left-preserved c =
     let i = c.before.before.before.before in
-    let l = i.before.loop in
-    let a = c.before.before.before.before.before.before.before.before.args in
+    let l = i.loop-left in
+    let a = c.args in
     let E = elem_at a.values.now (from a.estart a.elements.now) in
-    let e = ap bit c.before.before.enter.ensures.0 in
-    let p = length-later E a.a l.k l.left i.loop-test.true in
-    (omega (arith, i), omega (arith, i), omega (arith, i, bit_le c.before.before.enter.result), c.before.before.enter.ensures.1.0, within_more l.invariant.4 c.before.before.enter.ensures.1.1, c.before.before.enter.auto.1.1.1.1.1.1.0 ∙ l.invariant.5)
+    let e = ap bit c.enter-new.ensures.0 in
+    let p = length-later E a.a l.k l.left i.loop-left-test.true in
+    (omega (arith, i), omega (arith, i), omega (arith, i, bit_le c.enter-new.result), c.enter-new.ensures.1.0, within_more l.invariant.4 c.enter-new.ensures.1.1, c.enter-new.auto.area ∙ l.invariant.5)
 
-same_length : tie.Need-same-length invariant-loop decreases-loop
-same_length c = c.before.loop.invariant.5
+shape_of-area : tie.Need-shape_of-area invariant-loop-left decreases-loop-left
+shape_of-area c = c.loop-left.invariant.5
 
-returns : tie.Need-returns invariant-loop decreases-loop
+returns : tie.Need-returns invariant-loop-left decreases-loop-left
 returns c =
-    let l = c.before.loop in
-    let a = c.before.before.before.before.args in
+    let l = c.loop-left in
+    let a = c.args in
     let E = elem_at a.values.now (from a.estart a.elements.now) in
-    (omega (arith, ap length (later-none E a.a l.k l.left c.loop-test.false)), (table_all l.invariant.3 (omega (arith, l.invariant.1, c.loop-test.false)), l.invariant.4))
+    (omega (arith, ap length (later-none E a.a l.k l.left c.loop-left-test.false)), (table_all l.invariant.3 (omega (arith, l.invariant.1, c.loop-left-test.false)), l.invariant.4))
 
 pub measure_new_spec : {M : Type 1} → statement M
 measure_new_spec =
     tie.close
     (tie.spec
-    invariant-loop
-    decreases-loop
-    loop-holds
-    enter-requires
-    cast-len
-    add-len
-    add-k
-    sub-left
-    loop-less
-    loop-again
-    same_length
+    invariant-loop-left
+    decreases-loop-left
+    loop-left-init
+    enter-new-requires
+    overflow_cast-len
+    overflow_add-len
+    overflow_add-k
+    overflow_sub-left
+    loop-left-smaller
+    loop-left-preserved
+    shape_of-area
     returns)

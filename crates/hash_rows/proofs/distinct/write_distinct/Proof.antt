@@ -4,20 +4,20 @@ use borrow.Author.Rules.{rules}
 use Rattle.hash_rows.proofs.distinct.write_distinct.Statement.{statement}
 use Rattle.hash_rows.proofs.distinct.write_distinct.Tie as tie
 
-write-new-requires : tie.Need-write-new-requires
-write-new-requires c κs = let s = c.before.before.before.before.before.before in (s.requires.0, (s.requires.1.0, (s.requires.1.1.0, (omega (arith, s.requires.1.1.1.0), s.requires.1.1.1.1))))
+write_new-end-requires : tie.Need-write_new-end-requires
+write_new-end-requires c κs = let s = c.before.before.before.before.before.before in (s.requires.0, (s.requires.1.0, (s.requires.1.1.0, (omega (arith, s.requires.1.1.1.0), s.requires.1.1.1.1))))
 
-clear-tables-requires : tie.Need-clear-tables-requires
-clear-tables-requires c κs = let s = c.before.before.before.before.before.before.before.before.before.before.before.before.before in let f = c.before.before.before.before.before.before.write_new in (omega (arith, s.requires.1.1.1.0, f.auto.1.1.1.1.1.1.1.1.0), λ i p. f.ensures.1.1.above i (omega arith) ∙ s.requires.1.1.1.1 i (omega arith))
+clear_tables-requires : tie.Need-clear_tables-requires
+clear_tables-requires c κs = let s = c.before.before.before.before.before.before.before.before.before.before.before.before.before in let f = c.write_new-end in (omega (arith, s.requires.1.1.1.0, f.auto.area), λ i p. f.ensures.1.1.above i (omega arith) ∙ s.requires.1.1.1.1 i (omega arith))
 
-same_length : tie.Need-same-length
-same_length c = search rules
+shape_of-out_values : tie.Need-shape_of-out_values
+shape_of-out_values c = search rules
 
-same-length-2 : tie.Need-same-length-2
-same-length-2 c = search rules
+shape_of-out_elements : tie.Need-shape_of-out_elements
+shape_of-out_elements c = search rules
 
-same-length-3 : tie.Need-same-length-3
-same-length-3 c = search rules
+shape_of-area : tie.Need-shape_of-area
+shape_of-area c = search rules
 
 returns : tie.Need-returns
 returns c = search rules
@@ -26,9 +26,9 @@ pub write_distinct_spec : {M : Type 1} → statement M
 write_distinct_spec =
     tie.close
     (tie.spec
-    write-new-requires
-    clear-tables-requires
-    same_length
-    same-length-2
-    same-length-3
+    write_new-end-requires
+    clear_tables-requires
+    shape_of-out_values
+    shape_of-out_elements
+    shape_of-area
     returns)

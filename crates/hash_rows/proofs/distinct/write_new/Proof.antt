@@ -16,109 +16,109 @@ use Rattle.hash_tables.proofs.TableLaws.{table_none, table_all, within_none, wit
 use Rattle.hash_rows.proofs.distinct.write_new.Statement.{statement}
 use Rattle.hash_rows.proofs.distinct.write_new.Tie as tie
 
-abbrev invariant-loop : tie.invariant-loop
-invariant-loop values elements estart a n out-values₀ out-elements₀ at area₀ o k₀ left₀ p₀ out-values out-elements area k left p =
+abbrev invariant-loop-left : tie.invariant-loop-left
+invariant-loop-left values elements estart a n out-values₀ out-elements₀ at area₀ o k₀ left₀ p₀ out-values out-elements area k left p =
     Writing (distinct (tab (elem_at values (from estart elements)) a n)) at out-values₀ out-elements₀ (later (elem_at values (from estart elements)) a k left) p out-values out-elements
     × (k + left ≡ n)
     × Table (elem_at values (from estart elements)) a n k o area
     × Within o (o + n + n) area₀ area
     × (length area ≡ length area₀)
 
-abbrev decreases-loop : tie.decreases-loop
-decreases-loop values elements estart a n out-values₀ out-elements₀ at area₀ o k₀ left₀ p₀ out-values out-elements area k left p = left
+abbrev decreases-loop-left : tie.decreases-loop-left
+decreases-loop-left values elements estart a n out-values₀ out-elements₀ at area₀ o k₀ left₀ p₀ out-values out-elements area k left p = left
 
-loop-holds : tie.Need-loop-init invariant-loop decreases-loop
-loop-holds c =
+loop-left-init : tie.Need-loop-left-init invariant-loop-left decreases-loop-left
+loop-left-init c =
     let s = c.before.before.before in
     let E = elem_at s.args.values.now (from s.args.estart s.args.elements.now) in
     (begun _ (later_all E s.args.a s.args.n), omega arith, table_none _ _ _ _ _ s.requires.1.1.1.0 s.requires.1.1.1.1, within_none _, refl)
 
-enter-requires : tie.Need-enter-requires invariant-loop decreases-loop
+enter-requires : tie.Need-enter-requires invariant-loop-left decreases-loop-left
 enter-requires c κs =
     let s = c.before.before.before.before.before.before in
-    (s.requires.0, (omega (arith, c.before), (s.requires.1.1.0, c.before.before.loop.invariant.2)))
+    (s.requires.0, (omega (arith, c.before), (s.requires.1.1.0, c.loop-left.invariant.2)))
 
-add-i : tie.Need-overflow-add-i invariant-loop decreases-loop
-add-i c = omega (arith, c.before.before.before.before.before, c.before.before.before.before.before.before.before.before.before.before.requires.0.inside)
+overflow_add-i : tie.Need-overflow_add-i invariant-loop-left decreases-loop-left
+overflow_add-i c = omega (arith, c.before.before.before.before.before, c.requires.0.inside)
 
-write-elem-requires : tie.Need-write-elem-requires invariant-loop decreases-loop
-write-elem-requires c κs =
+write_elem-requires : tie.Need-write_elem-requires invariant-loop-left decreases-loop-left
+write_elem-requires c κs =
     let i = c.before.before.before.before.before.before.before in
-    let l = i.before.loop in
+    let l = i.loop-left in
     let s = c.before.before.before.before.before.before.before.before.before.before.before.before in
     let E = elem_at s.args.values.now (from s.args.estart s.args.elements.now) in
-    let new = later_new E s.args.a l.k l.left i.loop-test.true (sym (turned_back c.before.before.before.before.before.enter.ensures.0) ∙ ap not c.before.before.if1.true) in
+    let new = later_new E s.args.a l.k l.left i.loop-left-test.true (sym (turned_back c.enter.ensures.0) ∙ ap not c.if-enter.true) in
     (omega (arith, i, s.requires.0.inside), (s.requires.0.bits, room l.invariant.0 _ _ new s.requires.1.0))
 
-add-p : tie.Need-overflow-add-p invariant-loop decreases-loop
-add-p c =
+overflow_add-p : tie.Need-overflow_add-p invariant-loop-left decreases-loop-left
+overflow_add-p c =
     let i = c.before.before.before.before.before.before.before.before.before.before.before in
-    let l = i.before.loop in
+    let l = i.loop-left in
     let s = c.before.before.before.before.before.before.before.before.before.before.before.before.before.before.before.before in
     let E = elem_at s.args.values.now (from s.args.estart s.args.elements.now) in
-    let new = later_new E s.args.a l.k l.left i.loop-test.true (sym (turned_back c.before.before.before.before.before.before.before.before.before.enter.ensures.0) ∙ ap not c.before.before.before.before.before.before.if1.true) in
+    let new = later_new E s.args.a l.k l.left i.loop-left-test.true (sym (turned_back c.enter.ensures.0) ∙ ap not c.if-enter.true) in
     let r = room l.invariant.0 _ _ new s.requires.1.0 in
     omega (arith, i, s)
 
-add-k : tie.Need-overflow-add-k invariant-loop decreases-loop
-add-k c = omega (arith, c.before.before.before.before.before)
+overflow_add-k : tie.Need-overflow_add-k invariant-loop-left decreases-loop-left
+overflow_add-k c = omega (arith, c.before.before.before.before.before)
 
-sub-left : tie.Need-overflow-sub-left invariant-loop decreases-loop
-sub-left c = omega (arith, c.before.before.before.before.before)
+overflow_sub-left : tie.Need-overflow_sub-left invariant-loop-left decreases-loop-left
+overflow_sub-left c = omega (arith, c.before.before.before.before.before)
 
-loop-less : tie.Need-loop-smaller invariant-loop decreases-loop
-loop-less c = omega (arith, c.before.before.before.before.before)
+loop-left-smaller : tie.Need-loop-left-smaller invariant-loop-left decreases-loop-left
+loop-left-smaller c = omega (arith, c.before.before.before.before.before)
 
-loop-again : tie.Need-loop-preserved invariant-loop decreases-loop
-loop-again c =
+loop-left-preserved : tie.Need-loop-left-preserved invariant-loop-left decreases-loop-left
+loop-left-preserved c =
     let i = c.before.before.before.before.before in
-    let l = i.before.loop in
+    let l = i.loop-left in
     let s = c.before.before.before.before.before.before.before.before.before.before in
     let E = elem_at s.args.values.now (from s.args.estart s.args.elements.now) in
-    let n = c.before.before.before.enter in
+    let n = c.enter in
     let among = sym (turned_back n.ensures.0) in (
       ⊎_elim
-          (λ w. rw w.9 (written l.invariant.0 _ _ (later_new E s.args.a l.k l.left i.loop-test.true (among ∙ ap not w.0.taken)) (w.7 ∙ w.3.ensures.0) (w.8 ∙ w.3.ensures.1)))
-          (λ w. rw (w.1, w.2, w.3) (skipped l.invariant.0 _ (later_old E s.args.a l.k l.left i.loop-test.true (among ∙ ap not w.0.left))))
-          c.if1.branch,
+          (λ w. rw w.9 (written l.invariant.0 _ _ (later_new E s.args.a l.k l.left i.loop-left-test.true (among ∙ ap not w.0.taken)) (w.7 ∙ w.3.ensures.0) (w.8 ∙ w.3.ensures.1)))
+          (λ w. rw (w.1, w.2, w.3) (skipped l.invariant.0 _ (later_old E s.args.a l.k l.left i.loop-left-test.true (among ∙ ap not w.0.left))))
+          c.if-enter.branch,
       omega (arith, i),
       n.ensures.1.0,
       within_more l.invariant.3 n.ensures.1.1,
-      n.auto.1.1.1.1.1.1.0 ∙ l.invariant.4,
+      n.auto.area ∙ l.invariant.4,
     )
 
-same_length : tie.Need-same-length invariant-loop decreases-loop
-same_length c = c.before.loop.invariant.0.lv
+shape_of-out_values : tie.Need-shape_of-out_values invariant-loop-left decreases-loop-left
+shape_of-out_values c = c.loop-left.invariant.0.lv
 
-same-length-2 : tie.Need-same-length-2 invariant-loop decreases-loop
-same-length-2 c = c.before.loop.invariant.0.le
+shape_of-out_elements : tie.Need-shape_of-out_elements invariant-loop-left decreases-loop-left
+shape_of-out_elements c = c.loop-left.invariant.0.le
 
-same-length-3 : tie.Need-same-length-3 invariant-loop decreases-loop
-same-length-3 c = c.before.loop.invariant.4
+shape_of-area : tie.Need-shape_of-area invariant-loop-left decreases-loop-left
+shape_of-area c = c.loop-left.invariant.4
 
-returns : tie.Need-returns invariant-loop decreases-loop
+returns : tie.Need-returns invariant-loop-left decreases-loop-left
 returns c =
-    let l = c.before.loop in
+    let l = c.loop-left in
     let s = c.before.before.before.before.before in
     let E = elem_at s.args.values.now (from s.args.estart s.args.elements.now) in
-    (done l.invariant.0 (later-none E s.args.a l.k l.left c.loop-test.false), (table_all l.invariant.2 (omega (arith, l.invariant.1, c.loop-test.false)), l.invariant.3))
+    (done l.invariant.0 (later-none E s.args.a l.k l.left c.loop-left-test.false), (table_all l.invariant.2 (omega (arith, l.invariant.1, c.loop-left-test.false)), l.invariant.3))
 
 pub write_new_spec : {M : Type 1} → statement M
 write_new_spec =
     tie.close
     (tie.spec
-    invariant-loop
-    decreases-loop
-    loop-holds
+    invariant-loop-left
+    decreases-loop-left
+    loop-left-init
     enter-requires
-    add-i
-    write-elem-requires
-    add-p
-    add-k
-    sub-left
-    loop-less
-    loop-again
-    same_length
-    same-length-2
-    same-length-3
+    overflow_add-i
+    write_elem-requires
+    overflow_add-p
+    overflow_add-k
+    overflow_sub-left
+    loop-left-smaller
+    loop-left-preserved
+    shape_of-out_values
+    shape_of-out_elements
+    shape_of-area
     returns)

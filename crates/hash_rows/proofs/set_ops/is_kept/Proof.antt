@@ -9,65 +9,65 @@ use borrow.Author.Rules.{rules}
 use Rattle.hash_rows.proofs.set_ops.is_kept.Statement.{statement}
 use Rattle.hash_rows.proofs.set_ops.is_kept.Tie as tie
 
-add-enter : tie.Need-overflow-add-enter
-add-enter c = search rules
+overflow_add-m : tie.Need-overflow_add-m
+overflow_add-m c = search rules
 
 enter-requires : tie.Need-enter-requires
 enter-requires c κs = search rules
 
-same_length : tie.Need-same-length
-same_length c = search rules
+shape_of-area-then-not-enter : tie.Need-shape_of-area-then-not-enter
+shape_of-area-then-not-enter c = search rules
+
+returns-then-not-enter : tie.Need-returns-then-not-enter
+returns-then-not-enter c =
+    let a = c.args in
+    let O = tab (elem_at a.others.now (from a.ostart a.oelements.now)) a.b a.m in
+    let E = elem_at a.values.now (from a.estart a.elements.now) in
+    let e = c.enter.ensures in
+    (keeps_old a.shared O (tab E a.a a.k) (E (a.a + a.k)) (turned_back e.0) c.if-not-enter.true, e.1)
+
+overflow_add-a : tie.Need-overflow_add-a
+overflow_add-a c = search rules
+
+is_listed-found-requires : tie.Need-is_listed-found-requires
+is_listed-found-requires c κs =
+    let s = c.before.before.before.before.before.before.before.before.before in
+    let e = c.enter in
+    (omega (arith, s.requires.0.inside, s.requires.1.1.0), (s.requires.0.bits, (s.requires.1.0, (s.requires.1.1.1.1.0, table_before s.requires.1.1.1.1.1.0 e.ensures.1.1 e.auto.area))))
+
+shape_of-area-then-shared : tie.Need-shape_of-area-then-shared
+shape_of-area-then-shared c = search rules
+
+returns-then-shared : tie.Need-returns-then-shared
+returns-then-shared c =
+    let a = c.args in
+    let O = tab (elem_at a.others.now (from a.ostart a.oelements.now)) a.b a.m in
+    let E = elem_at a.values.now (from a.estart a.elements.now) in
+    let e = c.enter.ensures in
+    (keeps_shared a.shared O (tab E a.a a.k) (E (a.a + a.k)) (turned_back e.0) c.if-not-enter.false c.is_listed-found.ensures c.if-shared.true, e.1)
+
+shape_of-area : tie.Need-shape_of-area
+shape_of-area c = search rules
 
 returns : tie.Need-returns
 returns c =
-    let a = c.before.before.before.before.before.before.before.before.args in
+    let a = c.args in
     let O = tab (elem_at a.others.now (from a.ostart a.oelements.now)) a.b a.m in
     let E = elem_at a.values.now (from a.estart a.elements.now) in
-    let e = c.before.before.before.enter.ensures in
-    (keeps_old a.shared O (tab E a.a a.k) (E (a.a + a.k)) (turned_back e.0) c.if1.true, e.1)
-
-add-is-listed : tie.Need-overflow-add-is-listed
-add-is-listed c = search rules
-
-is-listed-requires : tie.Need-is-listed-requires
-is-listed-requires c κs =
-    let s = c.before.before.before.before.before.before.before.before.before in
-    let e = c.before.before.before.before.enter in
-    (omega (arith, s.requires.0.inside, s.requires.1.1.0), (s.requires.0.bits, (s.requires.1.0, (s.requires.1.1.1.1.0, table_before s.requires.1.1.1.1.1.0 e.ensures.1.1 e.auto.1.1.1.1.1.1.0))))
-
-same-length-2 : tie.Need-same-length-2
-same-length-2 c = search rules
-
-returns-2 : tie.Need-returns-2
-returns-2 c =
-    let a = c.before.before.before.before.before.before.before.before.before.before.before.args in
-    let O = tab (elem_at a.others.now (from a.ostart a.oelements.now)) a.b a.m in
-    let E = elem_at a.values.now (from a.estart a.elements.now) in
-    let e = c.before.before.before.before.before.before.enter.ensures in
-    (keeps_shared a.shared O (tab E a.a a.k) (E (a.a + a.k)) (turned_back e.0) c.before.before.before.if1.false c.before.is-listed.ensures c.if2.true, e.1)
-
-same-length-3 : tie.Need-same-length-3
-same-length-3 c = search rules
-
-returns-3 : tie.Need-returns-3
-returns-3 c =
-    let a = c.before.before.before.before.before.before.before.before.before.before.before.args in
-    let O = tab (elem_at a.others.now (from a.ostart a.oelements.now)) a.b a.m in
-    let E = elem_at a.values.now (from a.estart a.elements.now) in
-    let e = c.before.before.before.before.before.before.enter.ensures in
-    (keeps_new a.shared O (tab E a.a a.k) (E (a.a + a.k)) (turned_back e.0) c.before.before.before.if1.false c.before.is-listed.ensures c.if2.false, e.1)
+    let e = c.enter.ensures in
+    (keeps_new a.shared O (tab E a.a a.k) (E (a.a + a.k)) (turned_back e.0) c.if-not-enter.false c.is_listed-found.ensures c.if-shared.false, e.1)
 
 pub is_kept_spec : {M : Type 1} → statement M
 is_kept_spec =
     tie.close
     (tie.spec
-    add-enter
+    overflow_add-m
     enter-requires
-    same_length
-    returns
-    add-is-listed
-    is-listed-requires
-    same-length-2
-    returns-2
-    same-length-3
-    returns-3)
+    shape_of-area-then-not-enter
+    returns-then-not-enter
+    overflow_add-a
+    is_listed-found-requires
+    shape_of-area-then-shared
+    returns-then-shared
+    shape_of-area
+    returns)

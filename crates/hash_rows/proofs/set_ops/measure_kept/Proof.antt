@@ -14,8 +14,8 @@ use Rattle.hash_tables.proofs.TableLaws.{table_none, table_before, within_none, 
 use Rattle.hash_rows.proofs.set_ops.measure_kept.Statement.{statement}
 use Rattle.hash_rows.proofs.set_ops.measure_kept.Tie as tie
 
-abbrev invariant-loop : tie.invariant-loop
-invariant-loop values elements estart a n others oelements ostart b m shared area₀ len₀ k₀ left₀ area len k left =
+abbrev invariant-loop-left : tie.invariant-loop-left
+invariant-loop-left values elements estart a n others oelements ostart b m shared area₀ len₀ k₀ left₀ area len k left =
     (len + length (kept_later shared (tab (elem_at others (from ostart oelements)) b m) (elem_at values (from estart elements)) a k left) ≡ length (kept shared (tab (elem_at others (from ostart oelements)) b m) [] (tab (elem_at values (from estart elements)) a n)))
     × (k + left ≡ n)
     × (len ≤ k)
@@ -23,72 +23,72 @@ invariant-loop values elements estart a n others oelements ostart b m shared are
     × Within (m + m) (m + m + n + n) area₀ area
     × (length area ≡ length area₀)
 
-abbrev decreases-loop : tie.decreases-loop
-decreases-loop values elements estart a n others oelements ostart b m shared area₀ len₀ k₀ left₀ area len k left = left
+abbrev decreases-loop-left : tie.decreases-loop-left
+decreases-loop-left values elements estart a n others oelements ostart b m shared area₀ len₀ k₀ left₀ area len k left = left
 
-loop-holds : tie.Need-loop-init invariant-loop decreases-loop
-loop-holds c =
+loop-left-init : tie.Need-loop-left-init invariant-loop-left decreases-loop-left
+loop-left-init c =
     let s = c.before.before.before in
     let a = s.args in
     let O = tab (elem_at a.others.now (from a.ostart a.oelements.now)) a.b a.m in
     (omega (arith, ap length (kept_all a.shared O (elem_at a.values.now (from a.estart a.elements.now)) a.a a.n)), omega arith, omega arith, table_none _ _ _ _ _ s.requires.1.1.1.1.0 s.requires.1.1.1.1.1.1, within_none _, refl)
 
-is-kept-requires : tie.Need-is-kept-requires invariant-loop decreases-loop
-is-kept-requires c κs =
+is_kept-new-requires : tie.Need-is_kept-new-requires invariant-loop-left decreases-loop-left
+is_kept-new-requires c κs =
     let s = c.before.before.before.before.before.before in
-    let l = c.before.before.loop in
+    let l = c.loop-left in
     (s.requires.0, (s.requires.1.0, (omega (arith, c.before), (s.requires.1.1.0, (s.requires.1.1.1.0, (table_before s.requires.1.1.1.1.1.0 l.invariant.4 l.invariant.5, l.invariant.3))))))
 
-cast-len : tie.Need-overflow-cast-len invariant-loop decreases-loop
-cast-len c = tt
+overflow_cast-len : tie.Need-overflow_cast-len invariant-loop-left decreases-loop-left
+overflow_cast-len c = tt
 
-add-len : tie.Need-overflow-add-len invariant-loop decreases-loop
-add-len c = omega (arith, c.before.before.before.before, bit_le c.before.before.is-kept.result)
+overflow_add-len : tie.Need-overflow_add-len invariant-loop-left decreases-loop-left
+overflow_add-len c = omega (arith, c.before.before.before.before, bit_le c.is_kept-new.result)
 
-add-k : tie.Need-overflow-add-k invariant-loop decreases-loop
-add-k c = omega (arith, c.before.before.before.before)
+overflow_add-k : tie.Need-overflow_add-k invariant-loop-left decreases-loop-left
+overflow_add-k c = omega (arith, c.before.before.before.before)
 
-sub-left : tie.Need-overflow-sub-left invariant-loop decreases-loop
-sub-left c = omega (arith, c.before.before.before.before)
+overflow_sub-left : tie.Need-overflow_sub-left invariant-loop-left decreases-loop-left
+overflow_sub-left c = omega (arith, c.before.before.before.before)
 
-loop-less : tie.Need-loop-smaller invariant-loop decreases-loop
-loop-less c = omega (arith, c.before.before.before.before)
+loop-left-smaller : tie.Need-loop-left-smaller invariant-loop-left decreases-loop-left
+loop-left-smaller c = omega (arith, c.before.before.before.before)
 
-loop-again : tie.Need-loop-preserved invariant-loop decreases-loop
-loop-again c =
+loop-left-preserved : tie.Need-loop-left-preserved invariant-loop-left decreases-loop-left
+loop-left-preserved c =
     let i = c.before.before.before.before in
-    let l = i.before.loop in
-    let a = c.before.before.before.before.before.before.before.before.before.args in
+    let l = i.loop-left in
+    let a = c.args in
     let O = tab (elem_at a.others.now (from a.ostart a.oelements.now)) a.b a.m in
     let E = elem_at a.values.now (from a.estart a.elements.now) in
-    let e = c.before.before.is-kept.ensures in
-    let p = length-kept a.shared O E a.a l.k l.left i.loop-test.true e.0 in
-    (omega (arith, i), omega (arith, i), omega (arith, i, bit_le c.before.before.is-kept.result), e.1.0, within_more l.invariant.4 e.1.1, c.before.before.is-kept.auto.1.1.1.1.1.1.1.1.1.1.1.1.0 ∙ l.invariant.5)
+    let e = c.is_kept-new.ensures in
+    let p = length-kept a.shared O E a.a l.k l.left i.loop-left-test.true e.0 in
+    (omega (arith, i), omega (arith, i), omega (arith, i, bit_le c.is_kept-new.result), e.1.0, within_more l.invariant.4 e.1.1, c.is_kept-new.auto.area ∙ l.invariant.5)
 
-same_length : tie.Need-same-length invariant-loop decreases-loop
-same_length c = c.before.loop.invariant.5
+shape_of-area : tie.Need-shape_of-area invariant-loop-left decreases-loop-left
+shape_of-area c = c.loop-left.invariant.5
 
-returns : tie.Need-returns invariant-loop decreases-loop
+returns : tie.Need-returns invariant-loop-left decreases-loop-left
 returns c =
-    let l = c.before.loop in
-    let a = c.before.before.before.before.before.args in
+    let l = c.loop-left in
+    let a = c.args in
     let O = tab (elem_at a.others.now (from a.ostart a.oelements.now)) a.b a.m in
     let E = elem_at a.values.now (from a.estart a.elements.now) in
-    (omega (arith, ap length (kept-none a.shared O E a.a l.k l.left c.loop-test.false)), l.invariant.4)
+    (omega (arith, ap length (kept-none a.shared O E a.a l.k l.left c.loop-left-test.false)), l.invariant.4)
 
 pub measure_kept_spec : {M : Type 1} → statement M
 measure_kept_spec =
     tie.close
     (tie.spec
-    invariant-loop
-    decreases-loop
-    loop-holds
-    is-kept-requires
-    cast-len
-    add-len
-    add-k
-    sub-left
-    loop-less
-    loop-again
-    same_length
+    invariant-loop-left
+    decreases-loop-left
+    loop-left-init
+    is_kept-new-requires
+    overflow_cast-len
+    overflow_add-len
+    overflow_add-k
+    overflow_sub-left
+    loop-left-smaller
+    loop-left-preserved
+    shape_of-area
     returns)

@@ -13,48 +13,48 @@ use borrow.Author.Rules.{rules}
 use Rattle.hash_rows.proofs.set_ops.measure_union.Statement.{statement}
 use Rattle.hash_rows.proofs.set_ops.measure_union.Tie as tie
 
-measure-new-requires : tie.Need-measure-new-requires
-measure-new-requires c κs = let s = c.before.before.before.before in (s.requires.0, (s.requires.1.1.0, (omega (arith, s.requires.1.1.1.1.0), s.requires.1.1.1.1.1)))
+measure_new-first-requires : tie.Need-measure_new-first-requires
+measure_new-first-requires c κs = let s = c.before.before.before.before in (s.requires.0, (s.requires.1.1.0, (omega (arith, s.requires.1.1.1.1.0), s.requires.1.1.1.1.1)))
 
-measure-kept-requires : tie.Need-measure-kept-requires
-measure-kept-requires c κs =
+measure_kept-second-requires : tie.Need-measure_kept-second-requires
+measure_kept-second-requires c κs =
     let s = c.before.before.before.before.before.before.before.before in
-    let f = c.before.before.before.measure-new in
-    (s.requires.1.0, (s.requires.0, (s.requires.1.1.1.0, (s.requires.1.1.0, (omega (arith, s.requires.1.1.1.1.0, f.auto.1.1.1.1.1.0), (f.ensures.1.0, λ i p. f.ensures.1.1.above i (omega arith) ∙ s.requires.1.1.1.1.1 i (omega arith)))))))
+    let f = c.measure_new-first in
+    (s.requires.1.0, (s.requires.0, (s.requires.1.1.1.0, (s.requires.1.1.0, (omega (arith, s.requires.1.1.1.1.0, f.auto.area), (f.ensures.1.0, λ i p. f.ensures.1.1.above i (omega arith) ∙ s.requires.1.1.1.1.1 i (omega arith)))))))
 
-clear-tables-requires : tie.Need-clear-tables-requires
-clear-tables-requires c κs =
+clear_tables-requires : tie.Need-clear_tables-requires
+clear_tables-requires c κs =
     let s = c.before.before.before.before.before.before.before.before.before.before.before.before in
-    let f = c.before.before.before.before.before.before.before.measure-new in
-    let g = c.before.before.before.measure-kept in
-    (omega (arith, s.requires.1.1.1.1.0, f.auto.1.1.1.1.1.0, g.auto.1.1.1.1.1.1.1.1.1.1.1.0), λ i p. g.ensures.1.above i (omega arith) ∙ f.ensures.1.1.above i (omega arith) ∙ s.requires.1.1.1.1.1 i (omega arith))
+    let f = c.measure_new-first in
+    let g = c.measure_kept-second in
+    (omega (arith, s.requires.1.1.1.1.0, f.auto.area, g.auto.area), λ i p. g.ensures.1.above i (omega arith) ∙ f.ensures.1.1.above i (omega arith) ∙ s.requires.1.1.1.1.1 i (omega arith))
 
-add-result : tie.Need-overflow-add-result
-add-result c =
+overflow_add-result : tie.Need-overflow_add-result
+overflow_add-result c =
     let s = c.before.before.before.before.before.before.before.before.before.before.before.before.before.before.before in
     let L = elem_at s.args.lvalues.now (from s.args.lstart s.args.lelements.now) in
     let R = elem_at s.args.rvalues.now (from s.args.rstart s.args.relements.now) in
     let l = tab L s.args.a s.args.n in
     let r = tab R s.args.b s.args.m in
-    omega (arith, s.requires.1.1.0, s.requires.1.1.1.0, c.before.before.before.before.before.before.before.before.before.before.measure-new.ensures.0, c.before.before.before.before.before.before.measure-kept.ensures.0, ap length (firsts-kept [] [] l), kept_le false [] [] l, kept_le false l [] r, length-tab L s.args.a s.args.n, length-tab R s.args.b s.args.m)
+    omega (arith, s.requires.1.1.0, s.requires.1.1.1.0, c.measure_new-first.ensures.0, c.measure_kept-second.ensures.0, ap length (firsts-kept [] [] l), kept_le false [] [] l, kept_le false l [] r, length-tab L s.args.a s.args.n, length-tab R s.args.b s.args.m)
 
-same_length : tie.Need-same-length
-same_length c = search rules
+shape_of-area : tie.Need-shape_of-area
+shape_of-area c = search rules
 
 returns : tie.Need-returns
 returns c =
     let s = c.before.before.before.before.before.before.before.before.before.before.before.before.before.before.before in
     let l = tab (elem_at s.args.lvalues.now (from s.args.lstart s.args.lelements.now)) s.args.a s.args.n in
     let r = tab (elem_at s.args.rvalues.now (from s.args.rstart s.args.relements.now)) s.args.b s.args.m in
-    (rw (union_distinct l r, length-append) (omega (arith, c.before.before.before.before.before.before.before.before.before.before.measure-new.ensures.0, c.before.before.before.before.before.before.measure-kept.ensures.0)), c.before.before.clear-tables.ensures)
+    (rw (union_distinct l r, length-append) (omega (arith, c.measure_new-first.ensures.0, c.measure_kept-second.ensures.0)), c.clear_tables.ensures)
 
 pub measure_union_spec : {M : Type 1} → statement M
 measure_union_spec =
     tie.close
     (tie.spec
-    measure-new-requires
-    measure-kept-requires
-    clear-tables-requires
-    add-result
-    same_length
+    measure_new-first-requires
+    measure_kept-second-requires
+    clear_tables-requires
+    overflow_add-result
+    shape_of-area
     returns)

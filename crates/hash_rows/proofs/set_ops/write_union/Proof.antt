@@ -12,52 +12,52 @@ use borrow.Author.Rules.{rules}
 use Rattle.hash_rows.proofs.set_ops.write_union.Statement.{statement}
 use Rattle.hash_rows.proofs.set_ops.write_union.Tie as tie
 
-write-new-requires : tie.Need-write-new-requires
-write-new-requires c κs =
+write_new-next-requires : tie.Need-write_new-next-requires
+write_new-next-requires c κs =
     let s = c.before.before.before.before.before.before.before in
     let l = tab (elem_at s.args.lvalues.now (from s.args.lstart s.args.lelements.now)) s.args.a s.args.n in
     let r = tab (elem_at s.args.rvalues.now (from s.args.rstart s.args.relements.now)) s.args.b s.args.m in
     (s.requires.0, (place-first (distinct l) (kept false l [] r) (rw (union_distinct l r) at s.requires.1.1.0), (s.requires.1.1.1.0, (omega (arith, s.requires.1.1.1.1.1.0), s.requires.1.1.1.1.1.1))))
 
-write-kept-requires : tie.Need-write-kept-requires
-write-kept-requires c κs =
+write_kept-end-requires : tie.Need-write_kept-end-requires
+write_kept-end-requires c κs =
     let s = c.before.before.before.before.before.before.before.before.before.before.before.before.before.before.before.before in
-    let f = c.before.before.before.before.before.before.before.before.write_new in
+    let f = c.write_new-next in
     let l = tab (elem_at s.args.lvalues.now (from s.args.lstart s.args.lelements.now)) s.args.a s.args.n in
     let r = tab (elem_at s.args.rvalues.now (from s.args.rstart s.args.relements.now)) s.args.b s.args.m in
-    (s.requires.1.0, (s.requires.0, (place_then (distinct l) (kept false l [] r) f.ensures.0 (rw (union_distinct l r) at s.requires.1.1.0), (s.requires.1.1.1.1.0, (s.requires.1.1.1.0, (omega (arith, s.requires.1.1.1.1.1.0, f.auto.1.1.1.1.1.1.1.1.0), (f.ensures.1.0, λ i p. f.ensures.1.1.above i (omega arith) ∙ s.requires.1.1.1.1.1.1 i (omega arith))))))))
+    (s.requires.1.0, (s.requires.0, (place_then (distinct l) (kept false l [] r) f.ensures.0 (rw (union_distinct l r) at s.requires.1.1.0), (s.requires.1.1.1.1.0, (s.requires.1.1.1.0, (omega (arith, s.requires.1.1.1.1.1.0, f.auto.area), (f.ensures.1.0, λ i p. f.ensures.1.1.above i (omega arith) ∙ s.requires.1.1.1.1.1.1 i (omega arith))))))))
 
-clear-tables-requires : tie.Need-clear-tables-requires
-clear-tables-requires c κs =
+clear_tables-requires : tie.Need-clear_tables-requires
+clear_tables-requires c κs =
     let s = c.before.before.before.before.before.before.before.before.before.before.before.before.before.before.before.before.before.before.before.before.before.before.before in
-    let f = c.before.before.before.before.before.before.before.before.before.before.before.before.before.before.before.write_new in
+    let f = c.write_new-next in
     let g = c.before.before.before.before.before.before.write-Kept in
-    (omega (arith, s.requires.1.1.1.1.1.0, f.auto.1.1.1.1.1.1.1.1.0, g.auto.1.1.1.1.1.1.1.1.1.1.1.1.1.1.0), λ i p. g.ensures.1.above i (omega arith) ∙ f.ensures.1.1.above i (omega arith) ∙ s.requires.1.1.1.1.1.1 i (omega arith))
+    (omega (arith, s.requires.1.1.1.1.1.0, f.auto.area, g.auto.1.1.1.1.1.1.1.1.1.1.1.1.1.1.0), λ i p. g.ensures.1.above i (omega arith) ∙ f.ensures.1.1.above i (omega arith) ∙ s.requires.1.1.1.1.1.1 i (omega arith))
 
-same_length : tie.Need-same-length
-same_length c = search rules
+shape_of-out_values : tie.Need-shape_of-out_values
+shape_of-out_values c = search rules
 
-same-length-2 : tie.Need-same-length-2
-same-length-2 c = search rules
+shape_of-out_elements : tie.Need-shape_of-out_elements
+shape_of-out_elements c = search rules
 
-same-length-3 : tie.Need-same-length-3
-same-length-3 c = search rules
+shape_of-area : tie.Need-shape_of-area
+shape_of-area c = search rules
 
 returns : tie.Need-returns
 returns c =
     let s = c.before.before.before.before.before.before.before.before.before.before.before.before.before.before.before.before.before.before.before.before.before.before.before.before.before.before in
     let l = tab (elem_at s.args.lvalues.now (from s.args.lstart s.args.lelements.now)) s.args.a s.args.n in
     let r = tab (elem_at s.args.rvalues.now (from s.args.rstart s.args.relements.now)) s.args.b s.args.m in
-    (rw (union_distinct l r) (written_then (distinct l) (kept false l [] r) c.before.before.before.before.before.before.before.before.before.before.before.before.before.before.before.before.before.before.write_new.ensures.0 c.before.before.before.before.before.before.before.before.before.write-Kept.ensures.0), c.before.before.clear-tables.ensures)
+    (rw (union_distinct l r) (written_then (distinct l) (kept false l [] r) c.write_new-next.ensures.0 c.before.before.before.before.before.before.before.before.before.write-Kept.ensures.0), c.clear_tables.ensures)
 
 pub write_union_spec : {M : Type 1} → statement M
 write_union_spec =
     tie.close
     (tie.spec
-    write-new-requires
-    write-kept-requires
-    clear-tables-requires
-    same_length
-    same-length-2
-    same-length-3
+    write_new-next-requires
+    write_kept-end-requires
+    clear_tables-requires
+    shape_of-out_values
+    shape_of-out_elements
+    shape_of-area
     returns)

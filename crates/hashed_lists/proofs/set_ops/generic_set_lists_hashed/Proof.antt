@@ -14,88 +14,88 @@ use Rattle.hashed_lists.proofs.set_ops.generic_set_lists_hashed.Statement.{state
 use Rattle.hashed_lists.proofs.set_ops.generic_set_lists_hashed.Tie as tie
 
 abbrev C : tie.Start → Column
-C s = let a = s.args in column a.l-offsets.now (from a.l-rows-start a.l-rows.now) a.l-values.now (from a.l-elements-start a.l-elements.now)
+C s = let a = s.args in column a.l_offsets.now (from a.l_rows_start a.l_rows.now) a.l_values.now (from a.l_elements_start a.l_elements.now)
 
 abbrev D : tie.Start → Column
-D s = let a = s.args in column a.r-offsets.now (from a.r-rows-start a.r-rows.now) a.r-values.now (from a.r-elements-start a.r-elements.now)
+D s = let a = s.args in column a.r_offsets.now (from a.r_rows_start a.r_rows.now) a.r_values.now (from a.r_elements_start a.r_elements.now)
 
 abbrev R : tie.Start → Room
-R s = let a = s.args in room (length a.out-offsets.now) (length a.out-rows.now) (length a.out-values.now) (length a.out-elements.now)
+R s = let a = s.args in room (length a.out_offsets.now) (length a.out_rows.now) (length a.out_values.now) (length a.out_elements.now)
 
 -- ---- places: what is written, the refusals passed, the area cleared, the start
 
-abbrev wrote : tie.After-slice-known7 → tie.After-after-three
+abbrev wrote : tie.After-slice_known-7-1 → tie.After-after_three
 wrote c = c.before.before.before.before.before.before.before.before
 
-abbrev passed : tie.After-slice-known7 → tie.Else1
+abbrev passed : tie.After-slice_known-7-1 → tie.Else-k-ne0
 passed c = (wrote c).before.before.before.before.before.before
 
-abbrev clears : tie.After-early → tie.After-clear-area
+abbrev clears : tie.After-early-k → tie.After-clear_area
 clears f = f.before.before.before
 
-abbrev S : tie.After-early → tie.Start
+abbrev S : tie.After-early-k → tie.Start
 S f = f.before.before.before.before.before.before.before.before.before.before.before.before
 
 -- ---- needs
 
-clear-area-requires : tie.Need-clear-area-requires
-clear-area-requires c κs = search
+clear_area-requires : tie.Need-clear_area-requires
+clear_area-requires c κs = search
 
-early-requires : tie.Need-early-requires
-early-requires c κs = search
+early-k-requires : tie.Need-early-k-requires
+early-k-requires c κs = search
 
-same_length : tie.Need-same-length
-same_length c = (clears c.before).clear-area.auto.0
+shape_of-area-then-k-ne0 : tie.Need-shape_of-area-then-k-ne0
+shape_of-area-then-k-ne0 c = (clears c.before).clear-area.auto.0
+
+returns-then-k-ne0 : tie.Need-returns-then-k-ne0
+returns-then-k-ne0 c =
+    let f = c.before in
+    let s = S f in
+    refused_cleared _ (set_early s.args.set_op (C s) (D s) (length s.args.area.now) (R s) _ (f.early-k.ensures.0 s.args.set_op) c.if-k-ne0.true) (clears f).clear-area.ensures
+
+after_three-requires : tie.Need-after_three-requires
+after_three-requires c κs =
+    let e = c.before.before.before.before.before in
+    let f = e.before in
+    let g = f.early-k.ensures.1 e.if-k-ne0.false in
+    (g.left, (g.right, (g.equal, cleared (length (S f).args.area.now) (clears f).clear-area.ensures)))
+
+shape_of-out_offsets : tie.Need-shape_of-out_offsets
+shape_of-out_offsets c = (wrote c).after-three.auto.1.1.1.1.1.1.1.1.1.1.1.1.1.0
+
+shape_of-out_rows : tie.Need-shape_of-out_rows
+shape_of-out_rows c = (wrote c).after-three.auto.1.1.1.1.1.1.1.1.1.1.1.1.1.1.0
+
+shape_of-out_values : tie.Need-shape_of-out_values
+shape_of-out_values c = (wrote c).after-three.auto.1.1.1.1.1.1.1.1.1.1.1.1.1.1.1.0
+
+shape_of-out_elements : tie.Need-shape_of-out_elements
+shape_of-out_elements c = (wrote c).after-three.auto.1.1.1.1.1.1.1.1.1.1.1.1.1.1.1.1.0
+
+shape_of-area : tie.Need-shape_of-area
+shape_of-area c = (wrote c).after-three.auto.1.1.1.1.1.1.1.1.1.1.1.1.1.1.1.1.1.0 ∙ (clears (passed c).before).clear-area.auto.0
 
 returns : tie.Need-returns
 returns c =
-    let f = c.before in
-    let s = S f in
-    refused_cleared _ (set_early s.args.set-op (C s) (D s) (length s.args.area.now) (R s) _ (f.early.ensures.0 s.args.set-op) c.if1.true) (clears f).clear-area.ensures
-
-after-three-requires : tie.Need-after-three-requires
-after-three-requires c κs =
-    let e = c.before.before.before.before.before in
-    let f = e.before in
-    let g = f.early.ensures.1 e.if1.false in
-    (g.left, (g.right, (g.equal, cleared (length (S f).args.area.now) (clears f).clear-area.ensures)))
-
-same-length-2 : tie.Need-same-length-2
-same-length-2 c = (wrote c).after-three.auto.1.1.1.1.1.1.1.1.1.1.1.1.1.0
-
-same-length-3 : tie.Need-same-length-3
-same-length-3 c = (wrote c).after-three.auto.1.1.1.1.1.1.1.1.1.1.1.1.1.1.0
-
-same-length-4 : tie.Need-same-length-4
-same-length-4 c = (wrote c).after-three.auto.1.1.1.1.1.1.1.1.1.1.1.1.1.1.1.0
-
-same-length-5 : tie.Need-same-length-5
-same-length-5 c = (wrote c).after-three.auto.1.1.1.1.1.1.1.1.1.1.1.1.1.1.1.1.0
-
-same-length-6 : tie.Need-same-length-6
-same-length-6 c = (wrote c).after-three.auto.1.1.1.1.1.1.1.1.1.1.1.1.1.1.1.1.1.0 ∙ (clears (passed c).before).clear-area.auto.0
-
-returns-2 : tie.Need-returns-2
-returns-2 c =
     let e = passed c in
     let f = e.before in
     let s = S f in
-    let o = s.args.set-op in
+    let o = s.args.set_op in
     let w = (wrote c).after-three in
-    walked (set_goes o (C s) (D s) (length s.args.area.now) (R s) _ (f.early.ensures.0 o) e.if1.left (f.early.ensures.1 e.if1.left).equal ∙ ap (λ (j : ℕ). hash_after (Pair o) (C s) (D s) j (R s)) (sym (clears f).clear-area.kept.0)) w.ensures.0 w.ensures.1 (w.kept.1.1.1.1.1.1.1.1.1.1.1.1.1.1.1.1.1.0 ∙ (clears f).clear-area.kept.0)
+    walked (set_goes o (C s) (D s) (length s.args.area.now) (R s) _ (f.early-k.ensures.0 o) e.if-k-ne0.false (f.early-k.ensures.1 e.if-k-ne0.false).equal ∙ ap (λ (j : ℕ). hash_after (Pair o) (C s) (D s) j (R s)) (sym (clears f).clear-area.kept.0)) w.ensures.0 w.ensures.1 (w.kept.1.1.1.1.1.1.1.1.1.1.1.1.1.1.1.1.1.0 ∙ (clears f).clear-area.kept.0)
 
-pub generic_set-lists-hashed_spec : {M : Type 1} → statement M
-generic_set-lists-hashed_spec =
+pub generic_set_lists_hashed_spec : {M : Type 1} → statement M
+generic_set_lists_hashed_spec =
     tie.close
     (tie.spec
-    clear-area-requires
-    early-requires
-    same_length
-    returns
-    after-three-requires
-    same-length-2
-    same-length-3
-    same-length-4
-    same-length-5
-    same-length-6
-    returns-2)
+    clear_area-requires
+    early-k-requires
+    shape_of-area-then-k-ne0
+    returns-then-k-ne0
+    after_three-requires
+    shape_of-out_offsets
+    shape_of-out_rows
+    shape_of-out_values
+    shape_of-out_elements
+    shape_of-area
+    returns)

@@ -11,49 +11,49 @@ use Rattle.index.proofs.slice.count_steps.Tie as tie
 within : narrow.offset < 2 ^ hbits w32
 within = omega arith
 
-sub-count-down : tie.Need-overflow-sub-count-down
-sub-count-down c = let s = c.before in laws.down_distance narrow w32 within _ _ _ s.ranges.from s.ranges.to s.ranges.stride s.requires c.if1.true
+overflow_sub-from : tie.Need-overflow_sub-from
+overflow_sub-from c = let s = c.before in laws.down_distance narrow w32 within _ _ _ s.ranges.from s.ranges.to s.ranges.stride s.requires c.if-stride-lt0.true
 
-count-down-requires : tie.Need-count-down-requires
-count-down-requires c κs = let s = c.before in laws.down_asks narrow w32 within _ _ _ s.ranges.from s.ranges.to s.ranges.stride s.requires c.if1.true
+count_down-requires : tie.Need-count_down-requires
+count_down-requires c κs = let s = c.before in laws.down_asks narrow w32 within _ _ _ s.ranges.from s.ranges.to s.ranges.stride s.requires c.if-stride-lt0.true
+
+returns-then-stride-lt0 : tie.Need-returns-then-stride-lt0
+returns-then-stride-lt0 c =
+    let s = c.before.before in
+    laws.down-counts narrow w32 within _ _ _ s.ranges.from s.ranges.to s.ranges.stride s.requires c.if-stride-lt0.true _ (record { sfits = c.count_down.type_inv }) c.count_down.ensures
+
+overflow_sub-distance : tie.Need-overflow_sub-distance
+overflow_sub-distance c = let s = c.before in laws.up_distance narrow w32 within _ _ _ s.ranges.from s.ranges.to s.ranges.stride s.requires c.if-stride-lt0.false
+
+overflow_add-result : tie.Need-overflow_add-result
+overflow_add-result c = let s = c.before.before in laws.single_fits narrow w32 within _ _ _ s.ranges.from s.ranges.to s.ranges.stride s.requires c.if-stride-lt0.false
+
+returns-then-stride-eq1 : tie.Need-returns-then-stride-eq1
+returns-then-stride-eq1 c =
+    let s = c.before.before in
+    laws.single_counts narrow w32 within _ _ _ s.ranges.from s.ranges.to s.ranges.stride s.requires c.if-stride-lt0.false (ap (to_z w32) c.if-stride-eq1.true)
+
+overflow_sub-stride : tie.Need-overflow_sub-stride
+overflow_sub-stride c = let s = c.before.before in laws.turn_fits narrow w32 within _ _ _ s.ranges.from s.ranges.to s.ranges.stride s.requires c.if-stride-lt0.false
+
+count_down-requires-2 : tie.Need-count_down-requires-2
+count_down-requires-2 c κs = let s = c.before.before in laws.up_asks narrow w32 within _ _ _ s.ranges.from s.ranges.to s.ranges.stride s.requires c.if-stride-lt0.false
 
 returns : tie.Need-returns
 returns c =
-    let s = c.before.before in
-    laws.down-counts narrow w32 within _ _ _ s.ranges.from s.ranges.to s.ranges.stride s.requires c.before.if1.true _ (record { sfits = c.count_down.type-inv }) c.count_down.ensures
-
-sub-distance : tie.Need-overflow-sub-distance
-sub-distance c = let s = c.before in laws.up_distance narrow w32 within _ _ _ s.ranges.from s.ranges.to s.ranges.stride s.requires c.if1.false
-
-add-result : tie.Need-overflow-add-result
-add-result c = let s = c.before.before in laws.single_fits narrow w32 within _ _ _ s.ranges.from s.ranges.to s.ranges.stride s.requires c.before.if1.false
-
-returns-2 : tie.Need-returns-2
-returns-2 c =
-    let s = c.before.before in
-    laws.single_counts narrow w32 within _ _ _ s.ranges.from s.ranges.to s.ranges.stride s.requires c.before.if1.false (ap (to_z w32) c.if2.true)
-
-sub-count-down-2 : tie.Need-overflow-sub-count-down-2
-sub-count-down-2 c = let s = c.before.before in laws.turn_fits narrow w32 within _ _ _ s.ranges.from s.ranges.to s.ranges.stride s.requires c.before.if1.false
-
-count-down-requires-2 : tie.Need-count-down-requires-2
-count-down-requires-2 c κs = let s = c.before.before in laws.up_asks narrow w32 within _ _ _ s.ranges.from s.ranges.to s.ranges.stride s.requires c.before.if1.false
-
-returns-3 : tie.Need-returns-3
-returns-3 c =
     let s = c.before.before.before in
-    laws.up_counts narrow w32 within _ _ _ s.ranges.from s.ranges.to s.ranges.stride s.requires c.before.before.if1.false _ (record { sfits = c.count-down2.type-inv }) c.count-down2.ensures
+    laws.up_counts narrow w32 within _ _ _ s.ranges.from s.ranges.to s.ranges.stride s.requires c.if-stride-lt0.false _ (record { sfits = c.count_down-2.type_inv }) c.count_down-2.ensures
 
 pub count_steps_spec : {M : Type 1} → statement M
 count_steps_spec =
     tie.close
     (tie.spec
-    sub-count-down
-    count-down-requires
-    returns
-    sub-distance
-    add-result
-    returns-2
-    sub-count-down-2
-    count-down-requires-2
-    returns-3)
+    overflow_sub-from
+    count_down-requires
+    returns-then-stride-lt0
+    overflow_sub-distance
+    overflow_add-result
+    returns-then-stride-eq1
+    overflow_sub-stride
+    count_down-requires-2
+    returns)

@@ -4,11 +4,15 @@ use Rattle.index.proofs.ReadLaws.{down-against, up_against}
 use Rattle.index.proofs.slice.is_against.Statement.{statement}
 use Rattle.index.proofs.slice.is_against.Tie as tie
 
-returns : tie.Need-returns
-returns c = let s = c.before in down-against narrow w32 w64 _ _ _ s.ranges.from s.ranges.to s.ranges.stride s.requires.0 s.requires.1 c.if1.true
+returns-then-stride-lt0 : tie.Need-returns-then-stride-lt0
+returns-then-stride-lt0 c = let s = c.before in down-against narrow w32 w64 _ _ _ s.ranges.from s.ranges.to s.ranges.stride s.requires.0 s.requires.1 c.if-stride-lt0.true
 
-returns-2 : tie.Need-returns-2
-returns-2 c = let s = c.before in up_against narrow w32 w64 _ _ _ s.ranges.from s.ranges.to s.ranges.stride s.requires.0 s.requires.1 c.if1.false
+returns : tie.Need-returns
+returns c = let s = c.before in up_against narrow w32 w64 _ _ _ s.ranges.from s.ranges.to s.ranges.stride s.requires.0 s.requires.1 c.if-stride-lt0.false
 
 pub is_against_spec : {M : Type 1} → statement M
-is_against_spec = tie.close (tie.spec returns returns-2)
+is_against_spec =
+    tie.close
+    (tie.spec
+    returns-then-stride-lt0
+    returns)

@@ -9,36 +9,49 @@ use Rattle.index.proofs.ReadLaws as laws
 use Rattle.index.proofs.slice.steps_of.Statement.{statement}
 use Rattle.index.proofs.slice.steps_of.Tie as tie
 
-abbrev invariant-loop : tie.invariant-loop
-invariant-loop distance stride left₀ taken₀ left taken = Stepping narrow.offset (nat_abs (to_z w32 distance)) (nat_abs (to_z w32 stride)) left taken
+abbrev invariant-loop-left : tie.invariant-loop-left
+invariant-loop-left distance stride left₀ taken₀ left taken = Stepping narrow.offset (nat_abs (to_z w32 distance)) (nat_abs (to_z w32 stride)) left taken
 
-abbrev decreases-loop : tie.decreases-loop
-decreases-loop distance stride left₀ taken₀ left taken = left
+abbrev decreases-loop-left : tie.decreases-loop-left
+decreases-loop-left distance stride left₀ taken₀ left taken = left
 
 within : narrow.offset < 2 ^ hbits w32
 within = omega arith
 
-loop-holds : tie.Need-loop-init invariant-loop decreases-loop
-loop-holds c = laws.count_begun narrow w32 within _ _ c.ranges.distance c.ranges.stride c.requires.0 c.requires.1
+loop-left-init : tie.Need-loop-left-init invariant-loop-left decreases-loop-left
+loop-left-init c = laws.count_begun narrow w32 within _ _ c.ranges.distance c.ranges.stride c.requires.0 c.requires.1
 
-add-loop : tie.Need-overflow-add-loop invariant-loop decreases-loop
-add-loop c = let s = c.before in laws.count_fits narrow w32 within _ _ s.ranges.distance s.ranges.stride s.requires.0 s.requires.1 c.loop.invariant
+overflow_add-left : tie.Need-overflow_add-left invariant-loop-left decreases-loop-left
+overflow_add-left c = let s = c.before in laws.count_fits narrow w32 within _ _ s.ranges.distance s.ranges.stride s.requires.0 s.requires.1 c.loop-left.invariant
 
-add_left : tie.Need-overflow-add-left invariant-loop decreases-loop
-add_left c = let l = c.before in let s = l.before in laws.count_fits narrow w32 within _ _ s.ranges.distance s.ranges.stride s.requires.0 s.requires.1 l.loop.invariant
+overflow_add-left : tie.Need-overflow_add-left invariant-loop-left decreases-loop-left
+overflow_add-left c = let l = c.before in let s = l.before in laws.count_fits narrow w32 within _ _ s.ranges.distance s.ranges.stride s.requires.0 s.requires.1 l.loop-left.invariant
 
-add-taken : tie.Need-overflow-add-taken invariant-loop decreases-loop
-add-taken c = let l = c.before in let s = l.before in laws.count_room narrow w32 within _ _ s.ranges.distance s.ranges.stride s.requires.0 s.requires.1 l.loop.invariant c.loop-test.true
+overflow_add-taken : tie.Need-overflow_add-taken invariant-loop-left decreases-loop-left
+overflow_add-taken c = let l = c.before in let s = l.before in laws.count_room narrow w32 within _ _ s.ranges.distance s.ranges.stride s.requires.0 s.requires.1 l.loop-left.invariant c.loop-left-test.true
 
-loop-less : tie.Need-loop-smaller invariant-loop decreases-loop
-loop-less c = let l = c.before in let s = l.before in laws.count_less narrow w32 within _ _ s.ranges.distance s.ranges.stride s.requires.0 s.requires.1 l.loop.invariant c.loop-test.true
+loop-left-smaller : tie.Need-loop-left-smaller invariant-loop-left decreases-loop-left
+loop-left-smaller c = let l = c.before in let s = l.before in laws.count_less narrow w32 within _ _ s.ranges.distance s.ranges.stride s.requires.0 s.requires.1 l.loop-left.invariant c.loop-left-test.true
 
-loop-again : tie.Need-loop-preserved invariant-loop decreases-loop
-loop-again c = let l = c.before in let s = l.before in laws.count-more narrow w32 within _ _ s.ranges.distance s.ranges.stride s.requires.0 s.requires.1 l.loop.invariant c.loop-test.true
+loop-left-preserved : tie.Need-loop-left-preserved invariant-loop-left decreases-loop-left
+loop-left-preserved c = let l = c.before in let s = l.before in laws.count-more narrow w32 within _ _ s.ranges.distance s.ranges.stride s.requires.0 s.requires.1 l.loop-left.invariant c.loop-left-test.true
 
-returns : tie.Need-returns invariant-loop decreases-loop
-returns c = let l = c.before in let s = l.before in laws.count_done narrow w32 within _ _ s.ranges.distance s.ranges.stride s.requires.0 s.requires.1 l.loop.invariant c.loop-test.false
+returns : tie.Need-returns invariant-loop-left decreases-loop-left
+returns c = let l = c.before in let s = l.before in laws.count_done narrow w32 within _ _ s.ranges.distance s.ranges.stride s.requires.0 s.requires.1 l.loop-left.invariant c.loop-left-test.false
+
+overflow_add-left-in-loop-left : tie.Need-overflow_add-left-in-loop-left invariant-loop-left decreases-loop-left
+overflow_add-left-in-loop-left c = search rules
 
 pub steps_of_spec : {M : Type 1} → statement M
 steps_of_spec =
-    tie.close (tie.spec invariant-loop decreases-loop loop-holds add-loop add_left add-taken loop-less loop-again returns)
+    tie.close
+    (tie.spec
+    invariant-loop-left
+    decreases-loop-left
+    loop-left-init
+    overflow_add-left
+    overflow_add-left-in-loop-left
+    overflow_add-taken
+    loop-left-smaller
+    loop-left-preserved
+    returns)

@@ -8,42 +8,49 @@ use borrow.Author.Rules.{rules}
 use Rattle.kept_elements.proofs.set_ops.is_kept.Statement.{statement}
 use Rattle.kept_elements.proofs.set_ops.is_kept.Tie as tie
 
-add-i : tie.Need-overflow-add-i
-add-i c = search rules
+overflow_add-i : tie.Need-overflow_add-i
+overflow_add-i c = search rules
 
-is-among-requires : tie.Need-is-among-requires
-is-among-requires c κs =
-    let r = c.before.before.requires.0 in
+is_among-requires : tie.Need-is_among-requires
+is_among-requires c κs =
+    let r = c.requires.0 in
     (omega (arith, r.inside), (r.bits, (omega (arith, r.inside), r.bits)))
 
-returns : tie.Need-returns
-returns c =
-    let a = c.before.before.before.before.args in
+returns-then-is_among : tie.Need-returns-then-is_among
+returns-then-is_among c =
+    let a = c.args in
     let O = tab (elem_at a.others.now (from a.ostart a.oelements.now)) a.b a.m in
     let E = elem_at a.values.now (from a.estart a.elements.now) in
-    keeps_old a.shared O (tab E a.a a.k) (E (a.a + a.k)) c.before.is_among.ensures c.if1.true
+    keeps_old a.shared O (tab E a.a a.k) (E (a.a + a.k)) c.is_among.ensures c.if-is_among.true
 
-is-among-requires-2 : tie.Need-is-among-requires-2
-is-among-requires-2 c κs =
+is_among-found-requires : tie.Need-is_among-found-requires
+is_among-found-requires c κs =
     let s = c.before.before.before.before in
     (omega (arith, s.requires.0.inside), (s.requires.0.bits, (s.requires.1.inside, s.requires.1.bits)))
 
-returns-2 : tie.Need-returns-2
-returns-2 c =
+returns-then-shared : tie.Need-returns-then-shared
+returns-then-shared c =
     let f = c.before.before in
-    let a = f.before.before.before.before.args in
+    let a = f.args in
     let O = tab (elem_at a.others.now (from a.ostart a.oelements.now)) a.b a.m in
     let E = elem_at a.values.now (from a.estart a.elements.now) in
-    keeps_shared a.shared O (tab E a.a a.k) (E (a.a + a.k)) f.before.is_among.ensures f.if1.false c.before.is-among2.ensures c.if2.true
+    keeps_shared a.shared O (tab E a.a a.k) (E (a.a + a.k)) f.is_among.ensures f.if-is_among.false c.is_among-found.ensures c.if-shared.true
 
-returns-3 : tie.Need-returns-3
-returns-3 c =
+returns : tie.Need-returns
+returns c =
     let f = c.before.before in
-    let a = f.before.before.before.before.args in
+    let a = f.args in
     let O = tab (elem_at a.others.now (from a.ostart a.oelements.now)) a.b a.m in
     let E = elem_at a.values.now (from a.estart a.elements.now) in
-    keeps_new a.shared O (tab E a.a a.k) (E (a.a + a.k)) f.before.is_among.ensures f.if1.false c.before.is-among2.ensures c.if2.false
+    keeps_new a.shared O (tab E a.a a.k) (E (a.a + a.k)) f.is_among.ensures f.if-is_among.false c.is_among-found.ensures c.if-shared.false
 
 pub is_kept_spec : {M : Type 1} → statement M
 is_kept_spec =
-    tie.close (tie.spec add-i is-among-requires returns is-among-requires-2 returns-2 returns-3)
+    tie.close
+    (tie.spec
+    overflow_add-i
+    is_among-requires
+    returns-then-is_among
+    is_among-found-requires
+    returns-then-shared
+    returns)

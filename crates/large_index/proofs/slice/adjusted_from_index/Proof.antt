@@ -3,23 +3,31 @@ use Rattle.index.proofs.ReadLaws as laws
 use Rattle.large_index.proofs.slice.adjusted_from_index.Statement.{statement}
 use Rattle.large_index.proofs.slice.adjusted_from_index.Tie as tie
 
-add_at : tie.Need-overflow-add-at
-add_at c = let s = c.before in laws.from-end-fits w64 _ _ s.ranges.index s.ranges.len s.requires c.if1.true
+overflow_add-at : tie.Need-overflow_add-at
+overflow_add-at c = let s = c.before in laws.from-end-fits w64 _ _ s.ranges.index s.ranges.len s.requires c.if-index-lt0.true
+
+returns-then-at-lt0 : tie.Need-returns-then-at-lt0
+returns-then-at-lt0 c = let s = c.before.before in laws.from_before w64 _ _ s.ranges.index s.ranges.len s.requires c.if-index-lt0.true c.if-at-lt0.true
+
+returns-then-index-lt0 : tie.Need-returns-then-index-lt0
+returns-then-index-lt0 c = let s = c.before.before in laws.from_back w64 _ _ s.ranges.index s.ranges.len s.requires c.if-index-lt0.true c.if-at-lt0.false
+
+returns-then-index-lt1 : tie.Need-returns-then-index-lt1
+returns-then-index-lt1 c = let s = c.before.before in laws.from-first-place w64 _ _ s.ranges.index s.ranges.len s.requires c.if-index-lt0.false c.if-index-lt1.true
+
+overflow_sub-result : tie.Need-overflow_sub-result
+overflow_sub-result c = let s = c.before.before in laws.from_less_fits w64 _ _ s.ranges.index s.ranges.len s.requires c.if-index-lt1.false
 
 returns : tie.Need-returns
-returns c = let s = c.before.before in laws.from_before w64 _ _ s.ranges.index s.ranges.len s.requires c.before.if1.true c.if2.true
-
-returns-2 : tie.Need-returns-2
-returns-2 c = let s = c.before.before in laws.from_back w64 _ _ s.ranges.index s.ranges.len s.requires c.before.if1.true c.if2.false
-
-returns-3 : tie.Need-returns-3
-returns-3 c = let s = c.before.before in laws.from-first-place w64 _ _ s.ranges.index s.ranges.len s.requires c.before.if1.false c.if3.true
-
-sub-result : tie.Need-overflow-sub-result
-sub-result c = let s = c.before.before in laws.from_less_fits w64 _ _ s.ranges.index s.ranges.len s.requires c.if3.false
-
-returns-4 : tie.Need-returns-4
-returns-4 c = let s = c.before.before in laws.from_less w64 _ _ s.ranges.index s.ranges.len s.requires c.if3.false
+returns c = let s = c.before.before in laws.from_less w64 _ _ s.ranges.index s.ranges.len s.requires c.if-index-lt1.false
 
 pub adjusted_from_index_spec : {M : Type 1} → statement M
-adjusted_from_index_spec = tie.close (tie.spec add_at returns returns-2 returns-3 sub-result returns-4)
+adjusted_from_index_spec =
+    tie.close
+    (tie.spec
+    overflow_add-at
+    returns-then-at-lt0
+    returns-then-index-lt0
+    returns-then-index-lt1
+    overflow_sub-result
+    returns)

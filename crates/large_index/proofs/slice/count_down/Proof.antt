@@ -15,72 +15,72 @@ most = omega arith
 
 -- ---- one by one
 
-steps-of-requires : tie.Need-steps-of-requires
-steps-of-requires c κs = let s = c.before in laws.alone_asks wide w64 within _ _ s.ranges.distance s.ranges.stride s.requires.0 s.requires.1
+steps_of-requires : tie.Need-steps_of-requires
+steps_of-requires c κs = let s = c.before in laws.alone_asks wide w64 within _ _ s.ranges.distance s.ranges.stride s.requires.0 s.requires.1
 
-add-result : tie.Need-overflow-add-result
-add-result c = let s = c.before.before in laws.alone_fits wide w64 within _ _ s.ranges.distance s.ranges.stride s.requires.0 s.requires.1 _ (record { sfits = c.steps_of.type-inv }) c.steps_of.ensures
+overflow_add-result : tie.Need-overflow_add-result
+overflow_add-result c = let s = c.before.before in laws.alone_fits wide w64 within _ _ s.ranges.distance s.ranges.stride s.requires.0 s.requires.1 _ (record { sfits = c.steps_of.type_inv }) c.steps_of.ensures
 
-returns : tie.Need-returns
-returns c = let s = c.before.before in laws.alone_counts wide w64 within _ _ s.ranges.distance s.ranges.stride s.requires.0 s.requires.1 _ (record { sfits = c.steps_of.type-inv }) c.steps_of.ensures
+returns-then-stride-ltminus1152921504606846976 : tie.Need-returns-then-stride-ltminus1152921504606846976
+returns-then-stride-ltminus1152921504606846976 c = let s = c.before.before in laws.alone_counts wide w64 within _ _ s.ranges.distance s.ranges.stride s.requires.0 s.requires.1 _ (record { sfits = c.steps_of.type_inv }) c.steps_of.ensures
 
 -- ---- eight at once
 
-mul-eight : tie.Need-overflow-mul-eight
-mul-eight c = let s = c.before in laws.eight_fits wide w64 within _ _ s.ranges.distance s.ranges.stride s.requires.0 s.requires.1 1152921504606846975 most c.if1.false
+overflow_mul-eight : tie.Need-overflow_mul-eight
+overflow_mul-eight c = let s = c.before in laws.eight_fits wide w64 within _ _ s.ranges.distance s.ranges.stride s.requires.0 s.requires.1 1152921504606846975 most c.if-stride-ltminus1152921504606846976.false
 
-steps-of-requires-2 : tie.Need-steps-of-requires-2
-steps-of-requires-2 c κs = let s = c.before in laws.eight_asks wide w64 within _ _ s.ranges.distance s.ranges.stride s.requires.0 s.requires.1 1152921504606846975 most c.if1.false
+steps_of-many-requires : tie.Need-steps_of-many-requires
+steps_of-many-requires c κs = let s = c.before in laws.eight_asks wide w64 within _ _ s.ranges.distance s.ranges.stride s.requires.0 s.requires.1 1152921504606846975 most c.if-stride-ltminus1152921504606846976.false
 
-mul-rest : tie.Need-overflow-mul-rest
-mul-rest c =
+overflow_mul-rest : tie.Need-overflow_mul-rest
+overflow_mul-rest c =
     let s = c.before.before in
-    laws.product_fits wide w64 within _ _ s.ranges.distance s.ranges.stride s.requires.0 s.requires.1 1152921504606846975 most c.before.if1.false _ (record { sfits = c.steps-of2.type-inv }) c.steps-of2.ensures
+    laws.product_fits wide w64 within _ _ s.ranges.distance s.ranges.stride s.requires.0 s.requires.1 1152921504606846975 most c.if-stride-ltminus1152921504606846976.false _ (record { sfits = c.steps_of-many.type_inv }) c.steps_of-many.ensures
 
-add-rest : tie.Need-overflow-add-rest
-add-rest c =
+overflow_add-rest : tie.Need-overflow_add-rest
+overflow_add-rest c =
     let s = c.before.before in
-    laws.rest_fits wide w64 within _ _ s.ranges.distance s.ranges.stride s.requires.0 s.requires.1 1152921504606846975 most c.before.if1.false _ (record { sfits = c.steps-of2.type-inv }) c.steps-of2.ensures
+    laws.rest_fits wide w64 within _ _ s.ranges.distance s.ranges.stride s.requires.0 s.requires.1 1152921504606846975 most c.if-stride-ltminus1152921504606846976.false _ (record { sfits = c.steps_of-many.type_inv }) c.steps_of-many.ensures
 
-steps-of-requires-3 : tie.Need-steps-of-requires-3
-steps-of-requires-3 c κs =
+steps_of-few-requires : tie.Need-steps_of-few-requires
+steps_of-few-requires c κs =
     let s = c.before.before in
-    laws.rest_asks wide w64 within _ _ s.ranges.distance s.ranges.stride s.requires.0 s.requires.1 1152921504606846975 most c.before.if1.false _ (record { sfits = c.steps-of2.type-inv }) c.steps-of2.ensures
+    laws.rest_asks wide w64 within _ _ s.ranges.distance s.ranges.stride s.requires.0 s.requires.1 1152921504606846975 most c.if-stride-ltminus1152921504606846976.false _ (record { sfits = c.steps_of-many.type_inv }) c.steps_of-many.ensures
 
-module _ (c : tie.After-steps-of3) where
+module _ (c : tie.After-steps_of-few) where
   abbrev s : tie.Start
   s = c.before.before.before
 
-  all : laws.Counted wide w64 within _ _ s.fits.distance s.fits.stride s.pre.0 s.pre.1 1152921504606846975 most c.before.before.if1.false c.before.steps-of2.result c.steps-of3.result
+  all : laws.Counted wide w64 within _ _ s.ranges.distance s.ranges.stride s.requires.0 s.requires.1 1152921504606846975 most c.if-stride-ltminus1152921504606846976.false c.steps_of-many.result c.steps_of-few.result
   all =
-      laws.counted wide w64 within _ _ s.fits.distance s.fits.stride s.pre.0 s.pre.1 1152921504606846975 most c.before.before.if1.false _ (record { sfits = c.before.steps-of2.type-inv }) c.before.steps-of2.ensures _
-      (record { sfits = c.steps-of3.type-inv }) c.steps-of3.ensures
+      laws.counted wide w64 within _ _ s.ranges.distance s.ranges.stride s.requires.0 s.requires.1 1152921504606846975 most c.if-stride-ltminus1152921504606846976.false _ (record { sfits = c.steps_of-many.type_inv }) c.steps_of-many.ensures _
+      (record { sfits = c.steps_of-few.type_inv }) c.steps_of-few.ensures
 
-mul-result : tie.Need-overflow-mul-result
-mul-result c = (all c).eights
+overflow_mul-result : tie.Need-overflow_mul-result
+overflow_mul-result c = (all c).eights
 
-add-result-2 : tie.Need-overflow-add-result-2
-add-result-2 c = (all c).sum
+overflow_add-result-2 : tie.Need-overflow_add-result-2
+overflow_add-result-2 c = (all c).sum
 
-add-result-3 : tie.Need-overflow-add-result-3
-add-result-3 c = (all c).more
+overflow_add-result-3 : tie.Need-overflow_add-result-3
+overflow_add-result-3 c = (all c).more
 
-returns-2 : tie.Need-returns-2
-returns-2 c = (all c).is
+returns : tie.Need-returns
+returns c = (all c).is
 
-pub count-down_spec : {M : Type 1} → statement M
-count-down_spec =
+pub count_down_spec : {M : Type 1} → statement M
+count_down_spec =
     tie.close
     (tie.spec
-    steps-of-requires
-    add-result
-    returns
-    mul-eight
-    steps-of-requires-2
-    mul-rest
-    add-rest
-    steps-of-requires-3
-    mul-result
-    add-result-2
-    add-result-3
-    returns-2)
+    steps_of-requires
+    overflow_add-result
+    returns-then-stride-ltminus1152921504606846976
+    overflow_mul-eight
+    steps_of-many-requires
+    overflow_mul-rest
+    overflow_add-rest
+    steps_of-few-requires
+    overflow_mul-result
+    overflow_add-result-2
+    overflow_add-result-3
+    returns)

@@ -2,14 +2,19 @@ use mathlib.Core.Path.{refl}
 use Rattle.list_walk.proofs.large.lengths.Statement.{statement}
 use Rattle.list_walk.proofs.large.lengths.Tie as tie
 
-slice-aggregate-lengths-at : tie.Need-slice-aggregate-lengths-at
-slice-aggregate-lengths-at c = refl
+slice_bounds-lengths_at-end : tie.Need-slice_bounds-lengths_at-end
+slice_bounds-lengths_at-end c = refl
 
-lengths-at-requires : tie.Need-lengths-at-requires
-lengths-at-requires c κs = tt
+lengths_at-requires : tie.Need-lengths_at-requires
+lengths_at-requires c κs = tt
 
 returns : tie.Need-returns
-returns c = c.lengths-at.ensures
+returns c = c.lengths_at.ensures
 
 pub lengths_spec : {M : Type 1} → statement M
-lengths_spec = tie.close (tie.spec slice-aggregate-lengths-at lengths-at-requires returns)
+lengths_spec =
+    tie.close
+    (tie.spec
+    slice_bounds-lengths_at-end
+    lengths_at-requires
+    returns)

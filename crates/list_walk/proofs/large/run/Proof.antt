@@ -3,29 +3,29 @@ use Rattle.list_walk.proofs.large.run.Statement.{statement}
 use Rattle.list_walk.proofs.large.run.Tie as tie
 
 -- the walk, from where it has returned
-abbrev ran : tie.After-out-offsets → tie.After-run-at
+abbrev ran : tie.After-out_offsets-1 → tie.After-run_at
 ran c = c.before.before.before.before.before.before.before
 
-slice-aggregate-run-at : tie.Need-slice-aggregate-run-at
-slice-aggregate-run-at c = refl
+slice_bounds-run_at-end : tie.Need-slice_bounds-run_at-end
+slice_bounds-run_at-end c = refl
 
-slice-aggregate-run-at-2 : tie.Need-slice-aggregate-run-at-2
-slice-aggregate-run-at-2 c = refl
+slice_bounds-run_at-end-2 : tie.Need-slice_bounds-run_at-end-2
+slice_bounds-run_at-end-2 c = refl
 
-run-at-requires : tie.Need-run-at-requires
-run-at-requires c κs = tt
+run_at-requires : tie.Need-run_at-requires
+run_at-requires c κs = tt
 
-same_length : tie.Need-same-length
-same_length c = (ran c).run_at.auto.1.1.1.1.1.1.1.1.1.1.1.1.1.1.1.1.1.1.1.1.1.1.0
+shape_of-out_offsets : tie.Need-shape_of-out_offsets
+shape_of-out_offsets c = (ran c).run_at.auto.1.1.1.1.1.1.1.1.1.1.1.1.1.1.1.1.1.1.1.1.1.1.0
 
-same-length-2 : tie.Need-same-length-2
-same-length-2 c = (ran c).run_at.auto.1.1.1.1.1.1.1.1.1.1.1.1.1.1.1.1.1.0
+shape_of-out_rows : tie.Need-shape_of-out_rows
+shape_of-out_rows c = (ran c).run_at.auto.1.1.1.1.1.1.1.1.1.1.1.1.1.1.1.1.1.0
 
-same-length-3 : tie.Need-same-length-3
-same-length-3 c = (ran c).run_at.auto.1.1.1.1.1.1.1.1.1.1.1.1.1.1.1.1.1.1.0
+shape_of-out_values : tie.Need-shape_of-out_values
+shape_of-out_values c = (ran c).run_at.auto.1.1.1.1.1.1.1.1.1.1.1.1.1.1.1.1.1.1.0
 
-same-length-4 : tie.Need-same-length-4
-same-length-4 c = (ran c).run_at.auto.1.1.1.1.1.1.1.1.1.1.1.1.1.1.1.1.1.1.1.0
+shape_of-out_elements : tie.Need-shape_of-out_elements
+shape_of-out_elements c = (ran c).run_at.auto.1.1.1.1.1.1.1.1.1.1.1.1.1.1.1.1.1.1.1.0
 
 returns : tie.Need-returns
 returns c = (ran c).run_at.ensures
@@ -34,11 +34,11 @@ pub run_spec : {M : Type 1} → statement M
 run_spec =
     tie.close
     (tie.spec
-    slice-aggregate-run-at
-    slice-aggregate-run-at-2
-    run-at-requires
-    same_length
-    same-length-2
-    same-length-3
-    same-length-4
+    slice_bounds-run_at-end
+    slice_bounds-run_at-end-2
+    run_at-requires
+    shape_of-out_offsets
+    shape_of-out_rows
+    shape_of-out_values
+    shape_of-out_elements
     returns)

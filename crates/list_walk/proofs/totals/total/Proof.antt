@@ -28,126 +28,126 @@ Z s = arguments s.args.zs.now (from s.args.zstart s.args.zbits.now)
 
 -- ---- places: the start, from what comes before the match
 
-abbrev S : tie.After-shared-slice-known5 → tie.Start
+abbrev S : tie.After-shared_slice_known-5-1 → tie.Start
 S k = k.before.before.before.before.before
 
 -- ---- needs
 
-enum-known-op : tie.Need-enum-known-op
-enum-known-op c = search rules
+enum_known-op : tie.Need-enum_known-op
+enum_known-op c = search rules
 
-measure-rows-requires : tie.Need-measure-rows-requires
-measure-rows-requires c κs = (S c.before.before.before).requires.0
+measure_rows-requires : tie.Need-measure_rows-requires
+measure_rows-requires c κs = (S c.before).requires.0
 
-enum_told : tie.Need-enum-told
-enum_told c = search rules
+enum_told-1 : tie.Need-enum_told-1
+enum_told-1 c = search rules
 
-measure-rows-requires-2 : tie.Need-measure-rows-requires-2
-measure-rows-requires-2 c κs = let s = S c.before.before in (s.pre.0, (s.pre.1, is_slice_lem s.args.op c.enum_told.given.1))
+measure_rows-requires-in-Slice : tie.Need-measure_rows-requires-in-Slice
+measure_rows-requires-in-Slice c κs = let s = S c.before in (s.requires.0, (s.requires.1, is_slice_lem s.args.op c.in-Slice.is))
 
-enum-told-2 : tie.Need-enum-told-2
-enum-told-2 c = search rules
+enum_told-in-SliceBy : tie.Need-enum_told-in-SliceBy
+enum_told-in-SliceBy c = search rules
 
-measure-rows-requires-3 : tie.Need-measure-rows-requires-3
-measure-rows-requires-3 c κs = let s = S c.before.before in (s.pre.0, (s.pre.1, is_strided s.args.op c.enum-told2.given.1))
+measure_rows-requires-in-SliceBy : tie.Need-measure_rows-requires-in-SliceBy
+measure_rows-requires-in-SliceBy c κs = let s = S c.before in (s.requires.0, (s.requires.1, is_strided s.args.op c.in-SliceBy.is))
 
-enum-told-3 : tie.Need-enum-told-3
-enum-told-3 c = search rules
+enum_told-in-Resize : tie.Need-enum_told-in-Resize
+enum_told-in-Resize c = search rules
 
-row-count-requires : tie.Need-row-count-requires
-row-count-requires c κs = search
+row_count-requires : tie.Need-row_count-requires
+row_count-requires c κs = search
 
-measure-resize-requires : tie.Need-measure-resize-requires
-measure-resize-requires c κs =
-    let s = S c.before.before.before in
-    rw c.row_count.ensures (s.pre.0.rows, counts-served s.args.op (is_resize_lem s.args.op c.before.enum-told3.given.1) s.pre.1)
+measure_resize-requires : tie.Need-measure_resize-requires
+measure_resize-requires c κs =
+    let s = S c.before.before in
+    rw c.row_count.ensures (s.requires.0.rows, counts-served s.args.op (is_resize_lem s.args.op c.in-Resize.is) s.requires.1)
 
-enum-told-4 : tie.Need-enum-told-4
-enum-told-4 c = search rules
+enum_told-in-ResizeWith : tie.Need-enum_told-in-ResizeWith
+enum_told-in-ResizeWith c = search rules
 
-row-count-requires-2 : tie.Need-row-count-requires-2
-row-count-requires-2 c κs = search
+row_count-requires-in-ResizeWith : tie.Need-row_count-requires-in-ResizeWith
+row_count-requires-in-ResizeWith c κs = search
 
-measure-resize-requires-2 : tie.Need-measure-resize-requires-2
-measure-resize-requires-2 c κs =
-    let s = S c.before.before.before in
-    rw c.row-count2.ensures (s.pre.0.rows, counts-served s.args.op (is_filled s.args.op c.before.enum-told4.given.1) s.pre.1)
+measure_resize-requires-in-ResizeWith : tie.Need-measure_resize-requires-in-ResizeWith
+measure_resize-requires-in-ResizeWith c κs =
+    let s = S c.before.before in
+    rw c.row_count-in-ResizeWith.ensures (s.requires.0.rows, counts-served s.args.op (is_filled s.args.op c.in-ResizeWith.is) s.requires.1)
 
-enum-told-5 : tie.Need-enum-told-5
-enum-told-5 c = search rules
+enum_told-in-Replace : tie.Need-enum_told-in-Replace
+enum_told-in-Replace c = search rules
 
-measure-rows-requires-4 : tie.Need-measure-rows-requires-4
-measure-rows-requires-4 c κs = let s = S c.before.before in (s.pre.0, replace_takes c.enum-told5.given.1 s.pre.1)
+measure_rows-requires-in-Replace : tie.Need-measure_rows-requires-in-Replace
+measure_rows-requires-in-Replace c κs = let s = S c.before in (s.requires.0, replace_takes c.in-Replace.is s.requires.1)
 
-enum-told-6 : tie.Need-enum-told-6
-enum-told-6 c = search rules
+enum_told-in-Remove : tie.Need-enum_told-in-Remove
+enum_told-in-Remove c = search rules
 
-measure-rows-requires-5 : tie.Need-measure-rows-requires-5
-measure-rows-requires-5 c κs = let s = S c.before.before in (s.pre.0, remove_takes c.enum-told6.given.1 s.pre.1)
+measure_rows-requires-in-Remove : tie.Need-measure_rows-requires-in-Remove
+measure_rows-requires-in-Remove c κs = let s = S c.before in (s.requires.0, remove_takes c.in-Remove.is s.requires.1)
 
-returns : tie.Need-returns
+returns-in-Plain : tie.Need-returns-in-Plain
 unfolding let_through
-returns c =
-    let o = c.before.before in
-    let s = S o.before.before in
-    (plain-total (N s) s.args.op (C s) (X s) (Y s) (Z s) o.op.given.0.0 c.measure-rows.result o.op.given.1 c.measure-rows.ensures.0, c.measure-rows.ensures.1)
+returns-in-Plain c =
+    let o = c.before in
+    let s = S o.before in
+    (plain-total (N s) s.args.op (C s) (X s) (Y s) (Z s) o.in-Plain.u c.measure_rows.result o.in-Plain.is c.measure_rows.ensures.0, c.measure_rows.ensures.1)
 
-returns-2 : tie.Need-returns-2
-returns-2 c =
+returns-in-Slice : tie.Need-returns-in-Slice
+returns-in-Slice c =
+    let s = S c.before.before in
+    (slice-total (N s) s.args.op (C s) (X s) (Y s) (Z s) (is_slice_lem s.args.op c.in-Slice.is) c.measure_rows-in-Slice.ensures.0, c.measure_rows-in-Slice.ensures.1)
+
+returns-in-SliceBy : tie.Need-returns-in-SliceBy
+returns-in-SliceBy c =
+    let s = S c.before.before in
+    (slice-total (N s) s.args.op (C s) (X s) (Y s) (Z s) (is_strided s.args.op c.in-SliceBy.is) c.measure_rows-in-SliceBy.ensures.0, c.measure_rows-in-SliceBy.ensures.1)
+
+returns-in-Resize : tie.Need-returns-in-Resize
+returns-in-Resize c =
     let s = S c.before.before.before in
-    (slice-total (N s) s.args.op (C s) (X s) (Y s) (Z s) (is_slice_lem s.args.op c.before.enum_told.given.1) c.measure-rows2.ensures.0, c.measure-rows2.ensures.1)
+    (resize-total (N s) s.args.op (C s) (X s) (Y s) (Z s) (is_resize_lem s.args.op c.in-Resize.is) (c.measure_resize.ensures.0 ∙ ap (λ (n : ℕ). resize_measure (N s) (C s).rows (X s) n) c.row_count.ensures), c.measure_resize.ensures.1)
 
-returns-3 : tie.Need-returns-3
-returns-3 c =
+returns-in-ResizeWith : tie.Need-returns-in-ResizeWith
+returns-in-ResizeWith c =
     let s = S c.before.before.before in
-    (slice-total (N s) s.args.op (C s) (X s) (Y s) (Z s) (is_strided s.args.op c.before.enum-told2.given.1) c.measure-rows3.ensures.0, c.measure-rows3.ensures.1)
+    (resize-total (N s) s.args.op (C s) (X s) (Y s) (Z s) (is_filled s.args.op c.in-ResizeWith.is) (c.measure_resize-in-ResizeWith.ensures.0 ∙ ap (λ (n : ℕ). resize_measure (N s) (C s).rows (X s) n) c.row_count-in-ResizeWith.ensures), c.measure_resize-in-ResizeWith.ensures.1)
 
-returns-4 : tie.Need-returns-4
-returns-4 c =
-    let s = S c.before.before.before.before in
-    (resize-total (N s) s.args.op (C s) (X s) (Y s) (Z s) (is_resize_lem s.args.op c.before.before.enum-told3.given.1) (c.measure-resize.ensures.0 ∙ ap (λ (n : ℕ). resize_measure (N s) (C s).rows (X s) n) c.before.row_count.ensures), c.measure-resize.ensures.1)
-
-returns-5 : tie.Need-returns-5
-returns-5 c =
-    let s = S c.before.before.before.before in
-    (resize-total (N s) s.args.op (C s) (X s) (Y s) (Z s) (is_filled s.args.op c.before.before.enum-told4.given.1) (c.measure-resize2.ensures.0 ∙ ap (λ (n : ℕ). resize_measure (N s) (C s).rows (X s) n) c.before.row-count2.ensures), c.measure-resize2.ensures.1)
-
-returns-6 : tie.Need-returns-6
+returns-in-Replace : tie.Need-returns-in-Replace
 unfolding let_through
-returns-6 c =
-    let s = S c.before.before.before in
-    (replace-total (N s) s.args.op (C s) (X s) (Y s) (Z s) c.measure-rows4.result c.before.enum-told5.given.1 c.measure-rows4.ensures.0, c.measure-rows4.ensures.1)
+returns-in-Replace c =
+    let s = S c.before.before in
+    (replace-total (N s) s.args.op (C s) (X s) (Y s) (Z s) c.measure_rows-in-Replace.result c.in-Replace.is c.measure_rows-in-Replace.ensures.0, c.measure_rows-in-Replace.ensures.1)
 
-returns-7 : tie.Need-returns-7
+returns-in-Remove : tie.Need-returns-in-Remove
 unfolding let_through
-returns-7 c =
-    let s = S c.before.before.before in
-    (remove-total (N s) s.args.op (C s) (X s) (Y s) (Z s) c.measure-rows5.result c.before.enum-told6.given.1 c.measure-rows5.ensures.0, c.measure-rows5.ensures.1)
+returns-in-Remove c =
+    let s = S c.before.before in
+    (remove-total (N s) s.args.op (C s) (X s) (Y s) (Z s) c.measure_rows-in-Remove.result c.in-Remove.is c.measure_rows-in-Remove.ensures.0, c.measure_rows-in-Remove.ensures.1)
 
 pub total_spec : {M : Type 1} → statement M
 total_spec =
     tie.close
     (tie.spec
-    enum-known-op
-    measure-rows-requires
-    enum_told
-    measure-rows-requires-2
-    enum-told-2
-    measure-rows-requires-3
-    enum-told-3
-    row-count-requires
-    measure-resize-requires
-    enum-told-4
-    row-count-requires-2
-    measure-resize-requires-2
-    enum-told-5
-    measure-rows-requires-4
-    enum-told-6
-    measure-rows-requires-5
-    returns
-    returns-2
-    returns-3
-    returns-4
-    returns-5
-    returns-6
-    returns-7)
+    enum_known-op
+    measure_rows-requires
+    enum_told-1
+    measure_rows-requires-in-Slice
+    enum_told-in-SliceBy
+    measure_rows-requires-in-SliceBy
+    enum_told-in-Resize
+    row_count-requires
+    measure_resize-requires
+    enum_told-in-ResizeWith
+    row_count-requires-in-ResizeWith
+    measure_resize-requires-in-ResizeWith
+    enum_told-in-Replace
+    measure_rows-requires-in-Replace
+    enum_told-in-Remove
+    measure_rows-requires-in-Remove
+    returns-in-Plain
+    returns-in-Slice
+    returns-in-SliceBy
+    returns-in-Resize
+    returns-in-ResizeWith
+    returns-in-Replace
+    returns-in-Remove)

@@ -10,4 +10,8 @@ unfolding call_of
 returns c = c.lengths.ensures
 
 pub lengths_spec : {M : Type 1} → statement M
-lengths_spec = tie.close (tie.spec lengths-requires returns)
+lengths_spec =
+    tie.close
+    (tie.spec
+    lengths-requires
+    returns)

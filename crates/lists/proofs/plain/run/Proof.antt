@@ -5,22 +5,29 @@ use Rattle.lists.proofs.plain.run.Tie as tie
 run-requires : tie.Need-run-requires
 run-requires c κs = search
 
-same_length : tie.Need-same-length
-same_length c = search
+shape_of-out_offsets : tie.Need-shape_of-out_offsets
+shape_of-out_offsets c = search
 
-same-length-2 : tie.Need-same-length-2
-same-length-2 c = search
+shape_of-out_rows : tie.Need-shape_of-out_rows
+shape_of-out_rows c = search
 
-same-length-3 : tie.Need-same-length-3
-same-length-3 c = search
+shape_of-out_values : tie.Need-shape_of-out_values
+shape_of-out_values c = search
 
-same-length-4 : tie.Need-same-length-4
-same-length-4 c = search
+shape_of-out_elements : tie.Need-shape_of-out_elements
+shape_of-out_elements c = search
 
 returns : tie.Need-returns
 unfolding call_of
-returns c = c.before.before.before.before.before.before.run.ensures
+returns c = c.run.ensures
 
 pub run_spec : {M : Type 1} → statement M
 run_spec =
-    tie.close (tie.spec run-requires same_length same-length-2 same-length-3 same-length-4 returns)
+    tie.close
+    (tie.spec
+    run-requires
+    shape_of-out_offsets
+    shape_of-out_rows
+    shape_of-out_values
+    shape_of-out_elements
+    returns)

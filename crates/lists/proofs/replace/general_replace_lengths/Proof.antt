@@ -9,5 +9,9 @@ returns : tie.Need-returns
 unfolding call_of
 returns c = c.lengths.ensures
 
-pub general_replace-lengths_spec : {M : Type 1} → statement M
-general_replace-lengths_spec = tie.close (tie.spec lengths-requires returns)
+pub general_replace_lengths_spec : {M : Type 1} → statement M
+general_replace_lengths_spec =
+    tie.close
+    (tie.spec
+    lengths-requires
+    returns)

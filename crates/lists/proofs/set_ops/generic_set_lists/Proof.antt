@@ -3,38 +3,38 @@ use Rattle.lists.proofs.set_ops.generic_set_lists.Statement.{statement}
 use Rattle.lists.proofs.set_ops.generic_set_lists.Tie as tie
 
 -- the walk, from where it has returned
-abbrev ran : tie.After-none2 → tie.After-run
+abbrev ran : tie.After-none-2-1 → tie.After-run
 ran c = c.before.before.before.before.before.before.before
 
-slice-aggregate-run : tie.Need-slice-aggregate-run
-slice-aggregate-run c = refl
+slice_bounds-run-end : tie.Need-slice_bounds-run-end
+slice_bounds-run-end c = refl
 
 run-requires : tie.Need-run-requires
 run-requires c κs = tt
 
-same_length : tie.Need-same-length
-same_length c = (ran c).run.auto.1.1.1.1.1.1.1.1.1.1.1.1.1.0
+shape_of-out_offsets : tie.Need-shape_of-out_offsets
+shape_of-out_offsets c = (ran c).run.auto.1.1.1.1.1.1.1.1.1.1.1.1.1.0
 
-same-length-2 : tie.Need-same-length-2
-same-length-2 c = (ran c).run.auto.1.1.1.1.1.1.1.1.1.1.1.1.1.1.0
+shape_of-out_rows : tie.Need-shape_of-out_rows
+shape_of-out_rows c = (ran c).run.auto.1.1.1.1.1.1.1.1.1.1.1.1.1.1.0
 
-same-length-3 : tie.Need-same-length-3
-same-length-3 c = (ran c).run.auto.1.1.1.1.1.1.1.1.1.1.1.1.1.1.1.0
+shape_of-out_values : tie.Need-shape_of-out_values
+shape_of-out_values c = (ran c).run.auto.1.1.1.1.1.1.1.1.1.1.1.1.1.1.1.0
 
-same-length-4 : tie.Need-same-length-4
-same-length-4 c = (ran c).run.auto.1.1.1.1.1.1.1.1.1.1.1.1.1.1.1.1.0
+shape_of-out_elements : tie.Need-shape_of-out_elements
+shape_of-out_elements c = (ran c).run.auto.1.1.1.1.1.1.1.1.1.1.1.1.1.1.1.1.0
 
 returns : tie.Need-returns
 returns c = (ran c).run.ensures
 
-pub generic_set-lists_spec : {M : Type 1} → statement M
-generic_set-lists_spec =
+pub generic_set_lists_spec : {M : Type 1} → statement M
+generic_set_lists_spec =
     tie.close
     (tie.spec
-    slice-aggregate-run
+    slice_bounds-run-end
     run-requires
-    same_length
-    same-length-2
-    same-length-3
-    same-length-4
+    shape_of-out_offsets
+    shape_of-out_rows
+    shape_of-out_values
+    shape_of-out_elements
     returns)

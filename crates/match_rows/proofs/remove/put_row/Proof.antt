@@ -14,89 +14,89 @@ use Rattle.match_rows.proofs.remove.put_row.Tie as tie
 
 -- ---- places: the start, from the limit read and from what comes after
 
-abbrev start : tie.After-limit-of → tie.Start
-start l = l.before.before.before.before.before.before.before.before.before
+abbrev start : tie.After-limit_of → tie.Start
+start l = l.before.before.before.before.before.before
 
-abbrev limited : tie.After-slice-known5 → tie.After-limit-of
+abbrev limited : tie.After-slice_known-in-Value-element-1 → tie.After-limit_of
 limited p = p.before.before.before.before.before.before
 
 -- the row that is made
-row_is : (l : tie.After-limit-of) → let a = (start l).args in let es = tab (elem_at a.values.now (from a.estart a.elements.now)) a.a a.len in row_made (op_made (remove_op a.element a.limit) es) ≡ list_row (removed l.limit-of.result (elem_of a.element) es)
+row_is : (l : tie.After-limit_of) → let a = (start l).args in let es = tab (elem_at a.values.now (from a.estart a.elements.now)) a.a a.len in row_made (op_made (remove_op a.element a.limit-1) es) ≡ list_row (removed l.limit_of.result (elem_of a.element) es)
 row_is l =
-    let k = l.before.before.before in
-    removed-made _ _ _ _ (matched _ _ _ _ _ l.before.enum-told3.given.1 k.before.limit.given.1 (rw (back64 _ k.known-told.given.0.1) at l.limit-of.ensures))
+    let k = l.before.before in
+    removed-made _ _ _ _ (matched _ _ _ _ _ l.in-Value-element.is k.in-Value.is (rw (back64 _ k.in-Value.known_told-1-own.given.0.1) at l.limit_of.ensures))
 
-enum_told : tie.Need-enum-told
-enum_told c = search
+enum_told-1 : tie.Need-enum_told-1
+enum_told-1 c = search
 
-push-bit-requires : tie.Need-push-bit-requires
-push-bit-requires c κs = omega (arith, c.before.before.before.before.before.before.requires.1.rows)
+push_bit-requires : tie.Need-push_bit-requires
+push_bit-requires c κs = omega (arith, c.requires.1.rows)
 
-enum-known-limit : tie.Need-enum-known-limit
-enum-known-limit c = search
+enum_known-limit : tie.Need-enum_known-limit
+enum_known-limit c = search
 
-enum-told-2 : tie.Need-enum-told-2
-enum-told-2 c = search
+enum_told-in-Null-element : tie.Need-enum_told-in-Null-element
+enum_told-in-Null-element c = search
 
-push-bit-requires-2 : tie.Need-push-bit-requires-2
-push-bit-requires-2 c κs = omega (arith, c.before.before.before.before.before.before.before.before.before.requires.1.rows)
+push_bit-requires-in-Null-element : tie.Need-push_bit-requires-in-Null-element
+push_bit-requires-in-Null-element c κs = omega (arith, c.requires.1.rows)
 
-enum-told-3 : tie.Need-enum-told-3
-enum-told-3 c = search
+enum_told-in-Value-element : tie.Need-enum_told-in-Value-element
+enum_told-in-Value-element c = search
 
-limit-of-requires : tie.Need-limit-of-requires
-limit-of-requires c κs = search
+limit_of-requires : tie.Need-limit_of-requires
+limit_of-requires c κs = search
 
-write-removed-requires : tie.Need-write-removed-requires
-write-removed-requires c κs = let l = c.before.before in ((start l).requires.0, list-room _ _ _ _ (row_is l) (start l).requires.1)
+write_removed-next-requires : tie.Need-write_removed-next-requires
+write_removed-next-requires c κs = let l = c.before.before in ((start l).requires.0, list-room _ _ _ _ (row_is l) (start l).requires.1)
 
-push-bit-requires-3 : tie.Need-push-bit-requires-3
-push-bit-requires-3 c κs = omega (arith, (start (limited c.before)).requires.1.rows)
+push_bit-requires-in-Value-element : tie.Need-push_bit-requires-in-Value-element
+push_bit-requires-in-Value-element c κs = omega (arith, (start (limited c.before)).requires.1.rows)
 
-same_length : tie.Need-same-length
-same_length c = search
+shape_of-out_rows-in-Null : tie.Need-shape_of-out_rows-in-Null
+shape_of-out_rows-in-Null c = search
 
-returns : tie.Need-returns
-returns c = null_put _ _ _ _ _ (null_made _ _ (unlimited _ _ c.before.before.before.before.enum_told.given.1)) c.before.before.push-bit.ensures
+returns-in-Null : tie.Need-returns-in-Null
+returns-in-Null c = null_put _ _ _ _ _ (null_made _ _ (unlimited _ _ c.in-Null.is)) c.push_bit.ensures
 
-same-length-2 : tie.Need-same-length-2
-same-length-2 c = search
+shape_of-out_rows-in-Null-element : tie.Need-shape_of-out_rows-in-Null-element
+shape_of-out_rows-in-Null-element c = search
 
-returns-2 : tie.Need-returns-2
-returns-2 c = null_put _ _ _ _ _ (null_made _ _ (unmatched _ _ c.before.before.before.before.enum-told2.given.1)) c.before.before.push-bit2.ensures
+returns-in-Null-element : tie.Need-returns-in-Null-element
+returns-in-Null-element c = null_put _ _ _ _ _ (null_made _ _ (unmatched _ _ c.in-Null-element.is)) c.push_bit-in-Null-element.ensures
 
-same-length-3 : tie.Need-same-length-3
-same-length-3 c = search
+shape_of-out_rows-in-Value-element : tie.Need-shape_of-out_rows-in-Value-element
+shape_of-out_rows-in-Value-element c = search
 
-same-length-4 : tie.Need-same-length-4
-same-length-4 c = search
+shape_of-out_values : tie.Need-shape_of-out_values
+shape_of-out_values c = search
 
-same-length-5 : tie.Need-same-length-5
-same-length-5 c = search
+shape_of-out_elements : tie.Need-shape_of-out_elements
+shape_of-out_elements c = search
 
-returns-3 : tie.Need-returns-3
-returns-3 c =
+returns-in-Value-element : tie.Need-returns-in-Value-element
+returns-in-Value-element c =
     let p = c.before.before.before.before in
-    list_put _ _ _ _ (row_is (limited p)) c.before.before.push-bit3.ensures p.before.before.before.write-removed.ensures
+    list_put _ _ _ _ (row_is (limited p)) c.push_bit-in-Value-element.ensures p.write_removed-next.ensures
 
 pub put_row_spec : {M : Type 1} → statement M
 put_row_spec =
     tie.close
     (tie.spec
-    enum_told
-    push-bit-requires
-    enum-known-limit
-    enum-told-2
-    push-bit-requires-2
-    enum-told-3
-    limit-of-requires
-    write-removed-requires
-    push-bit-requires-3
-    same_length
-    returns
-    same-length-2
-    returns-2
-    same-length-3
-    same-length-4
-    same-length-5
-    returns-3)
+    enum_told-1
+    push_bit-requires
+    enum_known-limit
+    enum_told-in-Null-element
+    push_bit-requires-in-Null-element
+    enum_told-in-Value-element
+    limit_of-requires
+    write_removed-next-requires
+    push_bit-requires-in-Value-element
+    shape_of-out_rows-in-Null
+    returns-in-Null
+    shape_of-out_rows-in-Null-element
+    returns-in-Null-element
+    shape_of-out_rows-in-Value-element
+    shape_of-out_values
+    shape_of-out_elements
+    returns-in-Value-element)

@@ -2,19 +2,25 @@ use Rattle.match_rows.specs.Limits.{replaced_length}
 use Rattle.match_rows.proofs.replace.replaced_length.Statement.{statement}
 use Rattle.match_rows.proofs.replace.replaced_length.Tie as tie
 
-enum_told : tie.Need-enum-told
-enum_told c = search
+enum_told-1 : tie.Need-enum_told-1
+enum_told-1 c = search
 
-enum-told-2 : tie.Need-enum-told-2
-enum-told-2 c = search
+enum_told-in-Value : tie.Need-enum_told-in-Value
+enum_told-in-Value c = search
 
-returns : tie.Need-returns
+returns-in-Null : tie.Need-returns-in-Null
 unfolding replaced_length
-returns c = rw c.enum_told.given.1
+returns-in-Null c = rw c.in-Null.is
 
-returns-2 : tie.Need-returns-2
+returns-in-Value : tie.Need-returns-in-Value
 unfolding replaced_length
-returns-2 c = rw c.enum-told2.given.1
+returns-in-Value c = rw c.in-Value.is
 
-pub replaced-length_spec : {M : Type 1} → statement M
-replaced-length_spec = tie.close (tie.spec enum_told enum-told-2 returns returns-2)
+pub replaced_length_spec : {M : Type 1} → statement M
+replaced_length_spec =
+    tie.close
+    (tie.spec
+    enum_told-1
+    enum_told-in-Value
+    returns-in-Null
+    returns-in-Value)

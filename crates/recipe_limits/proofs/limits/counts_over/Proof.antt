@@ -6,64 +6,64 @@ use Rattle.recipe_limits.proofs.LimitedLaws.{Counting, counts_begun, counts-more
 use Rattle.recipe_limits.proofs.limits.counts_over.Statement.{statement}
 use Rattle.recipe_limits.proofs.limits.counts_over.Tie as tie
 
-abbrev invariant-loop : tie.invariant-loop
-invariant-loop rows rstart n args bits start a most sum₀ r₀ left₀ sum r left = Counting most (count_at (from rstart rows) (arguments args (from start bits)) a) n sum r left
+abbrev invariant-loop-left : tie.invariant-loop-left
+invariant-loop-left rows rstart n args bits start a most sum₀ r₀ left₀ sum r left = Counting most (count_at (from rstart rows) (arguments args (from start bits)) a) n sum r left
 
-abbrev decreases-loop : tie.decreases-loop
-decreases-loop rows rstart n args bits start a most sum₀ r₀ left₀ sum r left = left
+abbrev decreases-loop-left : tie.decreases-loop-left
+decreases-loop-left rows rstart n args bits start a most sum₀ r₀ left₀ sum r left = left
 
 -- ---- places: the start, a turn, and the walk there
 
-abbrev S : tie.At-loop invariant-loop decreases-loop → tie.Start invariant-loop decreases-loop
+abbrev S : tie.At-loop-left invariant-loop-left decreases-loop-left → tie.Start invariant-loop-left decreases-loop-left
 S l = l.before.before.before
 
-abbrev turn : tie.After-plus invariant-loop decreases-loop → tie.In-loop invariant-loop decreases-loop
+abbrev turn : tie.After-plus-sum invariant-loop-left decreases-loop-left → tie.In-loop-left invariant-loop-left decreases-loop-left
 turn c = c.before.before
 
-abbrev walk : tie.After-plus invariant-loop decreases-loop → tie.At-loop invariant-loop decreases-loop
+abbrev walk : tie.After-plus-sum invariant-loop-left decreases-loop-left → tie.At-loop-left invariant-loop-left decreases-loop-left
 walk c = (turn c).before
 
 -- ---- needs
 
-loop-holds : tie.Need-loop-init invariant-loop decreases-loop
-loop-holds c = counts_begun _ _ _
+loop-left-init : tie.Need-loop-left-init invariant-loop-left decreases-loop-left
+loop-left-init c = counts_begun _ _ _
 
-count-at-requires : tie.Need-count-at-requires invariant-loop decreases-loop
-count-at-requires c κs =
+count_at-count-requires : tie.Need-count_at-count-requires invariant-loop-left decreases-loop-left
+count_at-count-requires c κs =
     let l = c.before in
     let p = (S l).requires in
-    (p.0, (p.1.0, (p.1.1, omega (arith, l.loop.invariant.rows, c.loop-test.true))))
+    (p.0, (p.1.0, (p.1.1, omega (arith, l.loop-left.invariant.rows, c.loop-left-test.true))))
 
-plus-requires : tie.Need-plus-requires invariant-loop decreases-loop
-plus-requires c κs = c.before.before.loop.invariant.small
+plus-sum-requires : tie.Need-plus-sum-requires invariant-loop-left decreases-loop-left
+plus-sum-requires c κs = c.loop-left.invariant.small
 
-add_r : tie.Need-overflow-add-r invariant-loop decreases-loop
-add_r c = omega (arith, (walk c).loop.invariant.rows, (turn c).loop-test.true)
+overflow_add-r : tie.Need-overflow_add-r invariant-loop-left decreases-loop-left
+overflow_add-r c = omega (arith, (walk c).loop.invariant.rows, (turn c).loop-test.true)
 
-sub-left : tie.Need-overflow-sub-left invariant-loop decreases-loop
-sub-left c = omega (arith, (turn c).loop-test.true)
+overflow_sub-left : tie.Need-overflow_sub-left invariant-loop-left decreases-loop-left
+overflow_sub-left c = omega (arith, (turn c).loop-test.true)
 
-loop-less : tie.Need-loop-smaller invariant-loop decreases-loop
-loop-less c = omega (arith, (turn c).loop-test.true)
+loop-left-smaller : tie.Need-loop-left-smaller invariant-loop-left decreases-loop-left
+loop-left-smaller c = omega (arith, (turn c).loop-test.true)
 
-loop-again : tie.Need-loop-preserved invariant-loop decreases-loop
-loop-again c = counts-more _ _ _ (walk c).loop.invariant _ _ (turn c).loop-test.true c.before.count_at.ensures c.plus.ensures
+loop-left-preserved : tie.Need-loop-left-preserved invariant-loop-left decreases-loop-left
+loop-left-preserved c = counts-more _ _ _ (walk c).loop.invariant _ _ (turn c).loop-test.true c.count_at-count.ensures c.plus-sum.ensures
 
-returns : tie.Need-returns invariant-loop decreases-loop
+returns : tie.Need-returns invariant-loop-left decreases-loop-left
 unfolding counts_from
-returns c = counts_done _ _ _ c.before.loop.invariant c.loop-test.false
+returns c = counts_done _ _ _ c.loop-left.invariant c.loop-left-test.false
 
-pub counts-over_spec : {M : Type 1} → statement M
-counts-over_spec =
+pub counts_over_spec : {M : Type 1} → statement M
+counts_over_spec =
     tie.close
     (tie.spec
-    invariant-loop
-    decreases-loop
-    loop-holds
-    count-at-requires
-    plus-requires
-    add_r
-    sub-left
-    loop-less
-    loop-again
+    invariant-loop-left
+    decreases-loop-left
+    loop-left-init
+    count_at-count-requires
+    plus-sum-requires
+    overflow_add-r
+    overflow_sub-left
+    loop-left-smaller
+    loop-left-preserved
     returns)

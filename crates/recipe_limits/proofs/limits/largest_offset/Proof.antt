@@ -1,17 +1,23 @@
 use Rattle.recipe_limits.proofs.limits.largest_offset.Statement.{statement}
 use Rattle.recipe_limits.proofs.limits.largest_offset.Tie as tie
 
-enum_told : tie.Need-enum-told
-enum_told c = search
+enum_told-1 : tie.Need-enum_told-1
+enum_told-1 c = search
 
-returns : tie.Need-returns
-returns c = rw c.enum_told.given.1
+returns-in-Narrow : tie.Need-returns-in-Narrow
+returns-in-Narrow c = rw c.in-Narrow.is
 
-enum-told-2 : tie.Need-enum-told-2
-enum-told-2 c = search
+enum_told-in-Wide : tie.Need-enum_told-in-Wide
+enum_told-in-Wide c = search
 
-returns-2 : tie.Need-returns-2
-returns-2 c = rw c.enum-told2.given.1
+returns-in-Wide : tie.Need-returns-in-Wide
+returns-in-Wide c = rw c.in-Wide.is
 
-pub largest-offset_spec : {M : Type 1} → statement M
-largest-offset_spec = tie.close (tie.spec enum_told enum-told-2 returns returns-2)
+pub largest_offset_spec : {M : Type 1} → statement M
+largest_offset_spec =
+    tie.close
+    (tie.spec
+    enum_told-1
+    enum_told-in-Wide
+    returns-in-Narrow
+    returns-in-Wide)

@@ -2,31 +2,31 @@ use Rattle.column.proofs.OffsetLaws.{back64}
 use Rattle.rows.proofs.utils.before_each.Statement.{statement}
 use Rattle.rows.proofs.utils.before_each.Tie as tie
 
-enum_told : tie.Need-enum-told
-enum_told c = search
+enum_told-1 : tie.Need-enum_told-1
+enum_told-1 c = search
 
-before-null-requires : tie.Need-before-null-requires
-before-null-requires c κs = c.before.before.before.requires
+before_null-requires : tie.Need-before_null-requires
+before_null-requires c κs = c.requires
 
-enum-known-cell : tie.Need-enum-known-cell
-enum-known-cell c = search
+enum_known-cell : tie.Need-enum_known-cell
+enum_known-cell c = search
 
-before-equal-requires : tie.Need-before-equal-requires
-before-equal-requires c κs = c.before.before.before.before.requires
+before_equal-requires : tie.Need-before_equal-requires
+before_equal-requires c κs = c.requires
 
-returns : tie.Need-returns
-returns c = rw c.before.enum_told.given.1 c.before-null.ensures
+returns-in-Null : tie.Need-returns-in-Null
+returns-in-Null c = rw c.in-Null.is c.before_null.ensures
 
-returns-2 : tie.Need-returns-2
-returns-2 c = let k = c.before in rw k.before.cell.given.1 (rw (back64 _ k.known-told.given.0.1) at c.before-equal.ensures)
+returns-in-Value : tie.Need-returns-in-Value
+returns-in-Value c = let k = c.before in rw k.in-Value.is (rw (back64 _ k.in-Value.known_told-1-own.given.0.1) at c.before_equal.ensures)
 
 pub before_each_spec : {M : Type 1} → statement M
 before_each_spec =
     tie.close
     (tie.spec
-    enum_told
-    before-null-requires
-    enum-known-cell
-    before-equal-requires
-    returns
-    returns-2)
+    enum_told-1
+    before_null-requires
+    enum_known-cell
+    before_equal-requires
+    returns-in-Null
+    returns-in-Value)

@@ -14,97 +14,97 @@ use Rattle.rows.proofs.CellLaws.{none_more}
 use Rattle.rows.proofs.utils.before_equal.Statement.{statement}
 use Rattle.rows.proofs.utils.before_equal.Tie as tie
 
-abbrev invariant-loop : tie.invariant-loop
-invariant-loop values elements estart a n v r₀ r = (r ≤ n) × ((i : ℕ) → i < r → same_elem (elem_at values (from estart elements) (a + i)) (val (to_z w64 v)) ≡ false)
+abbrev invariant-loop-r : tie.invariant-loop-r
+invariant-loop-r values elements estart a n v r₀ r = (r ≤ n) × ((i : ℕ) → i < r → same_elem (elem_at values (from estart elements) (a + i)) (val (to_z w64 v)) ≡ false)
 
-abbrev decreases-loop : tie.decreases-loop
-decreases-loop values elements estart a n v r₀ r = n - r
+abbrev decreases-loop-r : tie.decreases-loop-r
+decreases-loop-r values elements estart a n v r₀ r = n - r
 
 -- ---- places: the loop and the start, from the values before the next equal one
 
-abbrev turn : tie.After-before-value invariant-loop decreases-loop → tie.At-loop invariant-loop decreases-loop
+abbrev turn : tie.After-before_value-r invariant-loop-r decreases-loop-r → tie.At-loop-r invariant-loop-r decreases-loop-r
 turn b = b.before.before
 
-abbrev start : tie.After-before-value invariant-loop decreases-loop → tie.Start invariant-loop decreases-loop
+abbrev start : tie.After-before_value-r invariant-loop-r decreases-loop-r → tie.Start invariant-loop-r decreases-loop-r
 start b = (turn b).before.before
 
 -- the values that differ are passed
-passed : (b : tie.After-before-value invariant-loop decreases-loop) → let a = (start b).args in (i : ℕ) → i < (turn b).loop.r + b.before-value.result → same_elem (elem_at a.values.now (from a.estart a.elements.now) (a.a + i)) (val a.v) ≡ false
+passed : (b : tie.After-before_value-r invariant-loop-r decreases-loop-r) → let a = (start b).args in (i : ℕ) → i < (turn b).loop.r + b.before_value-r.result → same_elem (elem_at a.values.now (from a.estart a.elements.now) (a.a + i)) (val a.v) ≡ false
 passed b =
     let f = (start b).ranges.v.sfits in
-    none_more _ _ _ _ _ _ _ (rw (back64 _ f) at (turn b).loop.invariant.1) (rw (back64 _ f) at b.before-value.ensures)
+    none_more _ _ _ _ _ _ _ (rw (back64 _ f) at (turn b).loop.invariant.1) (rw (back64 _ f) at b.before_value-r.ensures)
 
-loop-holds : tie.Need-loop-init invariant-loop decreases-loop
-loop-holds c = (omega arith, below_none _)
+loop-r-init : tie.Need-loop-r-init invariant-loop-r decreases-loop-r
+loop-r-init c = (omega arith, below_none _)
 
-add-before-value : tie.Need-overflow-add-before-value invariant-loop decreases-loop
-add-before-value c = omega (arith, c.before.before.before.requires.inside)
+overflow_add-a : tie.Need-overflow_add-a invariant-loop-r decreases-loop-r
+overflow_add-a c = omega (arith, c.requires.inside)
 
-sub-before-value : tie.Need-overflow-sub-before-value invariant-loop decreases-loop
-sub-before-value c = omega (arith, c.loop-test.true)
+overflow_sub-n : tie.Need-overflow_sub-n invariant-loop-r decreases-loop-r
+overflow_sub-n c = omega (arith, c.loop-r-test.true)
 
-before-value-requires : tie.Need-before-value-requires invariant-loop decreases-loop
-before-value-requires c κs = omega (arith, c.before.before.before.requires.inside, c.loop-test.true)
+before_value-r-requires : tie.Need-before_value-r-requires invariant-loop-r decreases-loop-r
+before_value-r-requires c κs = omega (arith, c.requires.inside, c.loop-r-test.true)
 
-add_r : tie.Need-overflow-add-r invariant-loop decreases-loop
-add_r c = omega (arith, c.before-value.ensures.inside)
+overflow_add-r : tie.Need-overflow_add-r invariant-loop-r decreases-loop-r
+overflow_add-r c = omega (arith, c.before_value-r.ensures.inside)
 
-returns : tie.Need-returns invariant-loop decreases-loop
+returns-then-r-n : tie.Need-returns-then-r-n invariant-loop-r decreases-loop-r
 unfolding elem_of
-returns c = let b = c.before in record { inside = omega (arith, c.if1.true); none = passed b; found = λ h. let z : ⊥ = omega (arith, c.if1.true) in absurd z }
+returns-then-r-n c = let b = c.before in record { inside = omega (arith, c.if-r-n.true); none = passed b; found = λ h. let z : ⊥ = omega (arith, c.if-r-n.true) in absurd z }
 
-add-compare-element-to-list : tie.Need-overflow-add-compare-element-to-list invariant-loop decreases-loop
-add-compare-element-to-list c = let b = c.before in omega (arith, b.before-value.ensures.inside, (start b).requires.inside)
+overflow_add-a-in-loop-r : tie.Need-overflow_add-a-in-loop-r invariant-loop-r decreases-loop-r
+overflow_add-a-in-loop-r c = let b = c.before in omega (arith, b.before_value-r.ensures.inside, (start b).requires.inside)
 
-compare-element-to-list-requires : tie.Need-compare-element-to-list-requires invariant-loop decreases-loop
-compare-element-to-list-requires c κs = let b = c.before in (omega (arith, b.before-value.ensures.inside, (start b).requires.inside, c.if1.false), (start b).requires.bits)
+compare_element_to_list-requires : tie.Need-compare_element_to_list-requires invariant-loop-r decreases-loop-r
+compare_element_to_list-requires c κs = let b = c.before in (omega (arith, b.before_value-r.ensures.inside, (start b).requires.inside, c.if-r-n.false), (start b).requires.bits)
 
-returns-2 : tie.Need-returns-2 invariant-loop decreases-loop
+returns-then-compare_element_to_list : tie.Need-returns-then-compare_element_to_list invariant-loop-r decreases-loop-r
 unfolding elem_of
-returns-2 c =
+returns-then-compare_element_to_list c =
     let b = c.before.before.before in
     record {
-      inside = omega (arith, b.before-value.ensures.inside);
+      inside = omega (arith, b.before_value-r.ensures.inside);
       none = passed b;
-      found = λ h. sym (rw (back64 _ (start b).ranges.v.sfits) at c.before.compare-element-to-list.ensures) ∙ c.if2.true;
+      found = λ h. sym (rw (back64 _ (start b).ranges.v.sfits) at c.compare_element_to_list.ensures) ∙ c.if-compare_element_to_list.true;
     }
 
-add-r-2 : tie.Need-overflow-add-r-2 invariant-loop decreases-loop
-add-r-2 c = let b = c.before.before.before in omega (arith, b.before-value.ensures.inside, c.before.before.if1.false)
+overflow_add-r-in-loop-r : tie.Need-overflow_add-r-in-loop-r invariant-loop-r decreases-loop-r
+overflow_add-r-in-loop-r c = let b = c.before.before.before in omega (arith, b.before_value-r.ensures.inside, c.if-r-n.false)
 
-loop-less : tie.Need-loop-smaller invariant-loop decreases-loop
-loop-less c = let b = c.before.before.before in omega (arith, b.before.loop-test.true, b.before-value.ensures.inside)
+loop-r-smaller : tie.Need-loop-r-smaller invariant-loop-r decreases-loop-r
+loop-r-smaller c = let b = c.before.before.before in omega (arith, b.loop-r-test.true, b.before_value-r.ensures.inside)
 
-loop-again : tie.Need-loop-preserved invariant-loop decreases-loop
+loop-r-preserved : tie.Need-loop-r-preserved invariant-loop-r decreases-loop-r
 unfolding elem_of
-loop-again c =
+loop-r-preserved c =
     let b = c.before.before.before in (
-      omega (arith, b.before-value.ensures.inside, c.before.before.if1.false),
-      rw (back64 _ (start b).ranges.v.sfits) (below_more _ _ (passed b) (sym (rw (back64 _ (start b).ranges.v.sfits) at c.before.compare-element-to-list.ensures) ∙ c.if2.false)),
+      omega (arith, b.before_value-r.ensures.inside, c.if-r-n.false),
+      rw (back64 _ (start b).ranges.v.sfits) (below_more _ _ (passed b) (sym (rw (back64 _ (start b).ranges.v.sfits) at c.compare_element_to_list.ensures) ∙ c.if-compare_element_to_list.false)),
     )
 
-returns-3 : tie.Need-returns-3 invariant-loop decreases-loop
+returns : tie.Need-returns invariant-loop-r decreases-loop-r
 unfolding elem_of
-returns-3 c =
-    let l = c.before.loop in
-    record { inside = l.invariant.0; none = rw (back64 _ c.before.before.before.ranges.v.sfits) at l.invariant.1; found = λ h. let z : ⊥ = omega arith in absurd z }
+returns c =
+    let l = c.loop-r in
+    record { inside = l.invariant.0; none = rw (back64 _ c.ranges.v.sfits) at l.invariant.1; found = λ h. let z : ⊥ = omega arith in absurd z }
 
 pub before_equal_spec : {M : Type 1} → statement M
 before_equal_spec =
     tie.close
     (tie.spec
-    invariant-loop
-    decreases-loop
-    loop-holds
-    add-before-value
-    sub-before-value
-    before-value-requires
-    add_r
-    returns
-    add-compare-element-to-list
-    compare-element-to-list-requires
-    returns-2
-    add-r-2
-    loop-less
-    loop-again
-    returns-3)
+    invariant-loop-r
+    decreases-loop-r
+    loop-r-init
+    overflow_add-a
+    overflow_sub-n
+    before_value-r-requires
+    overflow_add-r
+    returns-then-r-n
+    overflow_add-a-in-loop-r
+    compare_element_to_list-requires
+    returns-then-compare_element_to_list
+    overflow_add-r-in-loop-r
+    loop-r-smaller
+    loop-r-preserved
+    returns)

@@ -10,56 +10,56 @@ use Rattle.rows.proofs.utils.before_match.Statement.{statement}
 use Rattle.rows.proofs.utils.before_match.Tie as tie
 
 -- the bitmap is empty
-none_null : (c : tie.Else1) → length c.before.before.args.elements.now ≡ 0
+none_null : (c : tie.Else-elements-gt0) → length c.args.elements.now ≡ 0
 none_null c = omega arith
 
-before-each-requires : tie.Need-before-each-requires
-before-each-requires c κs = search
+before_each-requires : tie.Need-before_each-requires
+before_each-requires c κs = search
 
-returns : tie.Need-returns
-returns c = search
+returns-then-elements-gt0 : tie.Need-returns-then-elements-gt0
+returns-then-elements-gt0 c = search
 
-enum_told : tie.Need-enum-told
-enum_told c = search
+enum_told-1 : tie.Need-enum_told-1
+enum_told-1 c = search
 
-enum-known-cell : tie.Need-enum-known-cell
-enum-known-cell c = search
+enum_known-cell : tie.Need-enum_known-cell
+enum_known-cell c = search
 
-before-value-requires : tie.Need-before-value-requires
-before-value-requires c κs = search
+before_value-requires : tie.Need-before_value-requires
+before_value-requires c κs = search
 
-returns-2 : tie.Need-returns-2
+returns-in-Null : tie.Need-returns-in-Null
 unfolding elem_of
-returns-2 c =
-    let a = c.before.before.before.before.args in
-    rw c.enum_told.given.1
+returns-in-Null c =
+    let a = c.args in
+    rw c.in-Null.is
     (record {
       inside = omega arith;
-      none = λ i h. plain_null a.values.now (from a.estart a.elements.now) (none_null c.before.before) (a.a + i);
+      none = λ i h. plain_null a.values.now (from a.estart a.elements.now) (none_null c.before) (a.a + i);
       found = λ h. let z : ⊥ = omega arith in absurd z;
     })
 
-returns-3 : tie.Need-returns-3
+returns-in-Value : tie.Need-returns-in-Value
 unfolding elem_of
-returns-3 c =
+returns-in-Value c =
     let k = c.before in
-    let a = k.before.before.before.before.before.args in
-    let b = rw (back64 _ k.known-told.given.0.1) at c.before-value.ensures in
-    rw k.before.cell.given.1
+    let a = k.args in
+    let b = rw (back64 _ k.in-Value.known_told-1-own.given.0.1) at c.before_value.ensures in
+    rw k.in-Value.is
     (record {
       inside = b.inside;
-      none = λ i h. sym (plain_value a.values.now (from a.estart a.elements.now) (none_null k.before.before.before) (a.a + i) _) ∙ b.none i h;
-      found = λ h. sym (plain_value a.values.now (from a.estart a.elements.now) (none_null k.before.before.before) (a.a + _) _) ∙ b.found h;
+      none = λ i h. sym (plain_value a.values.now (from a.estart a.elements.now) (none_null k.before) (a.a + i) _) ∙ b.none i h;
+      found = λ h. sym (plain_value a.values.now (from a.estart a.elements.now) (none_null k.before) (a.a + _) _) ∙ b.found h;
     })
 
 pub before_match_spec : {M : Type 1} → statement M
 before_match_spec =
     tie.close
     (tie.spec
-    before-each-requires
-    returns
-    enum_told
-    enum-known-cell
-    before-value-requires
-    returns-2
-    returns-3)
+    before_each-requires
+    returns-then-elements-gt0
+    enum_told-1
+    enum_known-cell
+    before_value-requires
+    returns-in-Null
+    returns-in-Value)

@@ -11,49 +11,49 @@ use Rattle.rows.specs.declared.Cell.TheVariants as C
 use Rattle.rows.proofs.utils.before_null.Statement.{statement}
 use Rattle.rows.proofs.utils.before_null.Tie as tie
 
-abbrev invariant-loop : tie.invariant-loop
-invariant-loop values elements estart a n r₀ r = (r ≤ n) × ((i : ℕ) → i < r → same_elem (elem_at values (from estart elements) (a + i)) (elem_of C.Null) ≡ false)
+abbrev invariant-loop-r : tie.invariant-loop-r
+invariant-loop-r values elements estart a n r₀ r = (r ≤ n) × ((i : ℕ) → i < r → same_elem (elem_at values (from estart elements) (a + i)) (elem_of C.Null) ≡ false)
 
-abbrev decreases-loop : tie.decreases-loop
-decreases-loop values elements estart a n r₀ r = n - r
+abbrev decreases-loop-r : tie.decreases-loop-r
+decreases-loop-r values elements estart a n r₀ r = n - r
 
-loop-holds : tie.Need-loop-init invariant-loop decreases-loop
-loop-holds c = (omega arith, below_none _)
+loop-r-init : tie.Need-loop-r-init invariant-loop-r decreases-loop-r
+loop-r-init c = (omega arith, below_none _)
 
-add-compare-element-to-list : tie.Need-overflow-add-compare-element-to-list invariant-loop decreases-loop
-add-compare-element-to-list c = omega (arith, c.before.before.before.requires.inside)
+overflow_add-a : tie.Need-overflow_add-a invariant-loop-r decreases-loop-r
+overflow_add-a c = omega (arith, c.requires.inside)
 
-compare-element-to-list-requires : tie.Need-compare-element-to-list-requires invariant-loop decreases-loop
-compare-element-to-list-requires c κs = let s = c.before.before.before in (omega (arith, s.requires.inside), s.requires.bits)
+compare_element_to_list-requires : tie.Need-compare_element_to_list-requires invariant-loop-r decreases-loop-r
+compare_element_to_list-requires c κs = let s = c.before.before.before in (omega (arith, s.requires.inside), s.requires.bits)
 
-returns : tie.Need-returns invariant-loop decreases-loop
-returns c =
-    let l = c.before.before.before.loop in
-    record { inside = l.invariant.0; none = l.invariant.1; found = λ h. sym c.before.compare-element-to-list.ensures ∙ c.if1.true }
+returns-then-compare_element_to_list : tie.Need-returns-then-compare_element_to_list invariant-loop-r decreases-loop-r
+returns-then-compare_element_to_list c =
+    let l = c.loop-r in
+    record { inside = l.invariant.0; none = l.invariant.1; found = λ h. sym c.compare_element_to_list.ensures ∙ c.if-compare_element_to_list.true }
 
-add_r : tie.Need-overflow-add-r invariant-loop decreases-loop
-add_r c = omega (arith, c.before.before.loop-test.true)
+overflow_add-r : tie.Need-overflow_add-r invariant-loop-r decreases-loop-r
+overflow_add-r c = omega (arith, c.loop-r-test.true)
 
-loop-less : tie.Need-loop-smaller invariant-loop decreases-loop
-loop-less c = omega (arith, c.before.before.loop-test.true)
+loop-r-smaller : tie.Need-loop-r-smaller invariant-loop-r decreases-loop-r
+loop-r-smaller c = omega (arith, c.loop-r-test.true)
 
-loop-again : tie.Need-loop-preserved invariant-loop decreases-loop
-loop-again c = (omega (arith, c.before.before), below_more _ _ c.before.before.before.loop.invariant.1 (sym c.before.compare-element-to-list.ensures ∙ c.if1.false))
+loop-r-preserved : tie.Need-loop-r-preserved invariant-loop-r decreases-loop-r
+loop-r-preserved c = (omega (arith, c.before.before), below_more _ _ c.loop-r.invariant.1 (sym c.compare_element_to_list.ensures ∙ c.if-compare_element_to_list.false))
 
-returns-2 : tie.Need-returns-2 invariant-loop decreases-loop
-returns-2 c = let l = c.before.loop in record { inside = l.invariant.0; none = l.invariant.1; found = λ h. let z : ⊥ = omega arith in absurd z }
+returns : tie.Need-returns invariant-loop-r decreases-loop-r
+returns c = let l = c.loop-r in record { inside = l.invariant.0; none = l.invariant.1; found = λ h. let z : ⊥ = omega arith in absurd z }
 
 pub before_null_spec : {M : Type 1} → statement M
 before_null_spec =
     tie.close
     (tie.spec
-    invariant-loop
-    decreases-loop
-    loop-holds
-    add-compare-element-to-list
-    compare-element-to-list-requires
-    returns
-    add_r
-    loop-less
-    loop-again
-    returns-2)
+    invariant-loop-r
+    decreases-loop-r
+    loop-r-init
+    overflow_add-a
+    compare_element_to_list-requires
+    returns-then-compare_element_to_list
+    overflow_add-r
+    loop-r-smaller
+    loop-r-preserved
+    returns)

@@ -15,54 +15,54 @@ use Rattle.set_elements.proofs.ElementLaws.{eq_bits}
 use Rattle.rows.proofs.utils.before_value.Statement.{statement}
 use Rattle.rows.proofs.utils.before_value.Tie as tie
 
-abbrev invariant-loop : tie.invariant-loop
-invariant-loop values a n v r₀ r = (r ≤ n) × ((i : ℕ) → i < r → eq_z (get_or values (a + i) (pos 0)) (to_z w64 v) ≡ false)
+abbrev invariant-loop-r : tie.invariant-loop-r
+invariant-loop-r values a n v r₀ r = (r ≤ n) × ((i : ℕ) → i < r → eq_z (get_or values (a + i) (pos 0)) (to_z w64 v) ≡ false)
 
-abbrev decreases-loop : tie.decreases-loop
-decreases-loop values a n v r₀ r = n - r
+abbrev decreases-loop-r : tie.decreases-loop-r
+decreases-loop-r values a n v r₀ r = n - r
 
-loop-holds : tie.Need-loop-init invariant-loop decreases-loop
-loop-holds c = (omega arith, below_none _)
+loop-r-init : tie.Need-loop-r-init invariant-loop-r decreases-loop-r
+loop-r-init c = (omega arith, below_none _)
 
-add-if1 : tie.Need-overflow-add-if1 invariant-loop decreases-loop
-add-if1 c = search rules
+overflow_add-a : tie.Need-overflow_add-a invariant-loop-r decreases-loop-r
+overflow_add-a c = search rules
 
-mul-if1 : tie.Need-overflow-mul-if1 invariant-loop decreases-loop
-mul-if1 c = search rules
+offset_bounds-values-a : tie.Need-offset_bounds-values-a invariant-loop-r decreases-loop-r
+offset_bounds-values-a c = search rules
 
-shared-slice-copy-out-if1 : tie.Need-shared-slice-copy-out-if1 invariant-loop decreases-loop
-shared-slice-copy-out-if1 c = search rules
+bounds-values-a : tie.Need-bounds-values-a invariant-loop-r decreases-loop-r
+bounds-values-a c = search rules
 
-returns : tie.Need-returns invariant-loop decreases-loop
-returns c =
-    let l = c.before.before.before.loop in
+returns-then-values-a : tie.Need-returns-then-values-a invariant-loop-r decreases-loop-r
+returns-then-values-a c =
+    let l = c.loop-r in
     let s = c.before.before.before.before in
     record {
       inside = l.invariant.0;
       none = rw (back64 _ s.ranges.v.sfits) at l.invariant.1;
-      found = λ h. sym (eq_bits _ _ (record { sfits = c.before.if12.given }) s.ranges.v) ∙ eq-eqb _ _ c.if1.true;
+      found = λ h. sym (eq_bits _ _ (record { sfits = c.t10-1.given }) s.ranges.v) ∙ eq-eqb _ _ c.if-values-a.true;
     }
 
-add_r : tie.Need-overflow-add-r invariant-loop decreases-loop
-add_r c = search rules
+overflow_add-r : tie.Need-overflow_add-r invariant-loop-r decreases-loop-r
+overflow_add-r c = search rules
 
-loop-less : tie.Need-loop-smaller invariant-loop decreases-loop
-loop-less c = search rules
+loop-r-smaller : tie.Need-loop-r-smaller invariant-loop-r decreases-loop-r
+loop-r-smaller c = search rules
 
-loop-again : tie.Need-loop-preserved invariant-loop decreases-loop
-loop-again c =
+loop-r-preserved : tie.Need-loop-r-preserved invariant-loop-r decreases-loop-r
+loop-r-preserved c =
     let s = c.before.before.before.before in (
       omega (arith, c.before.before),
-      below_more _ _ c.before.before.before.loop.invariant.1
-          (rw (back64 _ s.ranges.v.sfits) (sym (eq_bits _ _ (record { sfits = c.before.if12.given }) s.ranges.v) ∙ ne_eqb _ _ c.if1.false)),
+      below_more _ _ c.loop-r.invariant.1
+          (rw (back64 _ s.ranges.v.sfits) (sym (eq_bits _ _ (record { sfits = c.t10-1.given }) s.ranges.v) ∙ ne_eqb _ _ c.if-values-a.false)),
     )
 
-returns-2 : tie.Need-returns-2 invariant-loop decreases-loop
-returns-2 c =
-    let l = c.before.loop in
+returns : tie.Need-returns invariant-loop-r decreases-loop-r
+returns c =
+    let l = c.loop-r in
     record {
       inside = l.invariant.0;
-      none = rw (back64 _ c.before.before.ranges.v.sfits) at l.invariant.1;
+      none = rw (back64 _ c.ranges.v.sfits) at l.invariant.1;
       found = λ h. let z : ⊥ = omega arith in absurd z;
     }
 
@@ -70,14 +70,14 @@ pub before_value_spec : {M : Type 1} → statement M
 before_value_spec =
     tie.close
     (tie.spec
-    invariant-loop
-    decreases-loop
-    loop-holds
-    add-if1
-    mul-if1
-    shared-slice-copy-out-if1
-    returns
-    add_r
-    loop-less
-    loop-again
-    returns-2)
+    invariant-loop-r
+    decreases-loop-r
+    loop-r-init
+    overflow_add-a
+    offset_bounds-values-a
+    bounds-values-a
+    returns-then-values-a
+    overflow_add-r
+    loop-r-smaller
+    loop-r-preserved
+    returns)

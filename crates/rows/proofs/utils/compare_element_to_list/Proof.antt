@@ -8,52 +8,52 @@ use Rattle.rows.proofs.CellLaws.{same_null, null_same, value_same}
 use Rattle.rows.proofs.utils.compare_element_to_list.Statement.{statement}
 use Rattle.rows.proofs.utils.compare_element_to_list.Tie as tie
 
-is-valid-requires : tie.Need-is-valid-requires
-is-valid-requires c κs = search
+is_valid-valid-requires : tie.Need-is_valid-valid-requires
+is_valid-valid-requires c κs = search
 
-enum_told : tie.Need-enum-told
-enum_told c = search
+enum_told-1 : tie.Need-enum_told-1
+enum_told-1 c = search
 
-enum-known-cell : tie.Need-enum-known-cell
-enum-known-cell c = search
+enum_known-cell : tie.Need-enum_known-cell
+enum_known-cell c = search
 
-returns : tie.Need-returns
+returns-then-not-valid : tie.Need-returns-then-not-valid
 unfolding elem_of
-returns c =
-    let e = c.before.before in
-    rw (e.cell.given.1, elem_null _ _ _ (sym e.before.before.is-valid.ensures ∙ not-true _ c.if1.true)) (null_same _)
+returns-then-not-valid c =
+    let e = c.before in
+    rw (e.in-Value.is, elem_null _ _ _ (sym e.is_valid-valid.ensures ∙ not-true _ c.if-not-valid.true)) (null_same _)
 
-mul-same-value : tie.Need-overflow-mul-same-value
-mul-same-value c = search rules
+offset_bounds-values-i : tie.Need-offset_bounds-values-i
+offset_bounds-values-i c = search rules
 
-shared-slice-copy-out-same-value : tie.Need-shared-slice-copy-out-same-value
-shared-slice-copy-out-same-value c = search
+bounds-values-i : tie.Need-bounds-values-i
+bounds-values-i c = search
 
-same-value-requires : tie.Need-same-value-requires
-same-value-requires c κs = search
+same_value-requires : tie.Need-same_value-requires
+same_value-requires c κs = search
 
-returns-2 : tie.Need-returns-2
+returns-in-Null : tie.Need-returns-in-Null
 unfolding elem_of
-returns-2 c = rw (c.enum_told.given.1, ← same_null, is_val_elem, ← c.before.before.is-valid.ensures)
+returns-in-Null c = rw (c.in-Null.is, ← same_null, is_val_elem, ← c.is_valid-valid.ensures)
 
-returns-3 : tie.Need-returns-3
+returns-else-not-valid : tie.Need-returns-else-not-valid
 unfolding elem_of
-returns-3 c =
+returns-else-not-valid c =
     let t = c.before.before in
-    let e = t.before.before in
-    rw (e.cell.given.1, elem_valid _ _ _ (sym e.before.before.is-valid.ensures ∙ not-false _ t.if1.false))
-    (rw (back64 _ c.before.same-value-arg.given, back64 _ t.before.known-told.given.0.1) at c.same-value.ensures ∙ value_same _ _)
+    let e = t.before in
+    rw (e.in-Value.is, elem_valid _ _ _ (sym e.is_valid-valid.ensures ∙ not-false _ t.if-not-valid.false))
+    (rw (back64 _ c.same_value-arg-1.given, back64 _ t.in-Value.known_told-1-own.given.0.1) at c.same_value.ensures ∙ value_same _ _)
 
-pub compare_element-to-list_spec : {M : Type 1} → statement M
-compare_element-to-list_spec =
+pub compare_element_to_list_spec : {M : Type 1} → statement M
+compare_element_to_list_spec =
     tie.close
     (tie.spec
-    is-valid-requires
-    enum_told
-    enum-known-cell
-    returns
-    mul-same-value
-    shared-slice-copy-out-same-value
-    same-value-requires
-    returns-2
-    returns-3)
+    is_valid-valid-requires
+    enum_told-1
+    enum_known-cell
+    returns-then-not-valid
+    offset_bounds-values-i
+    bounds-values-i
+    same_value-requires
+    returns-in-Null
+    returns-else-not-valid)

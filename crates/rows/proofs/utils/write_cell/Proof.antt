@@ -3,51 +3,51 @@ use Rattle.rows.specs.Cells.{elem_of}
 use Rattle.rows.proofs.utils.write_cell.Statement.{statement}
 use Rattle.rows.proofs.utils.write_cell.Tie as tie
 
-enum_told : tie.Need-enum-told
-enum_told c = search
+enum_told-1 : tie.Need-enum_told-1
+enum_told-1 c = search
 
-write-null-requires : tie.Need-write-null-requires
-write-null-requires c κs = search
+write_null-requires : tie.Need-write_null-requires
+write_null-requires c κs = search
 
-enum-known-cell : tie.Need-enum-known-cell
-enum-known-cell c = search
+enum_known-cell : tie.Need-enum_known-cell
+enum_known-cell c = search
 
-write-value-requires : tie.Need-write-value-requires
-write-value-requires c κs = search
+write_value-requires : tie.Need-write_value-requires
+write_value-requires c κs = search
 
-same_length : tie.Need-same-length
-same_length c = search
+shape_of-out_values-in-Null : tie.Need-shape_of-out_values-in-Null
+shape_of-out_values-in-Null c = search
 
-same-length-2 : tie.Need-same-length-2
-same-length-2 c = search
+shape_of-out_elements-in-Null : tie.Need-shape_of-out_elements-in-Null
+shape_of-out_elements-in-Null c = search
 
-returns : tie.Need-returns
+returns-in-Null : tie.Need-returns-in-Null
 unfolding elem_of
-returns c = let w = c.before.before.before in rw w.before.before.before.enum_told.given.1 w.write-null.ensures
+returns-in-Null c = let w = c.before.before.before in rw w.in-Null.is w.write_null.ensures
 
-same-length-3 : tie.Need-same-length-3
-same-length-3 c = search
+shape_of-out_values-in-Value : tie.Need-shape_of-out_values-in-Value
+shape_of-out_values-in-Value c = search
 
-same-length-4 : tie.Need-same-length-4
-same-length-4 c = search
+shape_of-out_elements-in-Value : tie.Need-shape_of-out_elements-in-Value
+shape_of-out_elements-in-Value c = search
 
-returns-2 : tie.Need-returns-2
+returns-in-Value : tie.Need-returns-in-Value
 unfolding elem_of
-returns-2 c = let w = c.before.before.before in
+returns-in-Value c = let w = c.before.before.before in
     let k = w.before.before.before in
-    rw k.before.cell.given.1 (rw (back64 _ k.known-told.given.0.1) at w.write-value.ensures)
+    rw k.in-Value.is (rw (back64 _ k.in-Value.known_told-1-own.given.0.1) at w.write_value.ensures)
 
 pub write_cell_spec : {M : Type 1} → statement M
 write_cell_spec =
     tie.close
     (tie.spec
-    enum_told
-    write-null-requires
-    enum-known-cell
-    write-value-requires
-    same_length
-    same-length-2
-    returns
-    same-length-3
-    same-length-4
-    returns-2)
+    enum_told-1
+    write_null-requires
+    enum_known-cell
+    write_value-requires
+    shape_of-out_values-in-Null
+    shape_of-out_elements-in-Null
+    returns-in-Null
+    shape_of-out_values-in-Value
+    shape_of-out_elements-in-Value
+    returns-in-Value)

@@ -5,25 +5,32 @@ use Rattle.rows.specs.Cells.{elem_of}
 use Rattle.rows.proofs.utils.write_value.Statement.{statement}
 use Rattle.rows.proofs.utils.write_value.Tie as tie
 
-mul-v : tie.Need-overflow-mul-v
-mul-v c = search rules
+offset_bounds-out_values-k : tie.Need-offset_bounds-out_values-k
+offset_bounds-out_values-k c = search rules
 
-slice-set-from-v : tie.Need-slice-set-from-v
-slice-set-from-v c = search
+bounds-out_values-k : tie.Need-bounds-out_values-k
+bounds-out_values-k c = search
 
-push-bit-requires : tie.Need-push-bit-requires
-push-bit-requires c κs = search
+push_bit-requires : tie.Need-push_bit-requires
+push_bit-requires c κs = search
 
-same_length : tie.Need-same-length
-same_length c = search rules
+shape_of-out_values : tie.Need-shape_of-out_values
+shape_of-out_values c = search rules
 
-same-length-2 : tie.Need-same-length-2
-same-length-2 c = search
+shape_of-out_elements : tie.Need-shape_of-out_elements
+shape_of-out_elements c = search
 
 returns : tie.Need-returns
 unfolding elem_of value_of is_val
-returns c = (rw (back64 _ c.before.before.before.before.before.ranges.v.sfits), c.before.before.push-bit.ensures)
+returns c = (rw (back64 _ c.ranges.v.sfits), c.push_bit.ensures)
 
 pub write_value_spec : {M : Type 1} → statement M
 write_value_spec =
-    tie.close (tie.spec mul-v slice-set-from-v push-bit-requires same_length same-length-2 returns)
+    tie.close
+    (tie.spec
+    offset_bounds-out_values-k
+    bounds-out_values-k
+    push_bit-requires
+    shape_of-out_values
+    shape_of-out_elements
+    returns)

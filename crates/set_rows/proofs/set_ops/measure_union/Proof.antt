@@ -11,21 +11,21 @@ use borrow.Author.Rules.{rules}
 use Rattle.set_rows.proofs.set_ops.measure_union.Statement.{statement}
 use Rattle.set_rows.proofs.set_ops.measure_union.Tie as tie
 
-measure-kept-requires : tie.Need-measure-kept-requires
-measure-kept-requires c κs = search rules
+measure_kept-first-requires : tie.Need-measure_kept-first-requires
+measure_kept-first-requires c κs = search rules
 
-measure-kept-requires-2 : tie.Need-measure-kept-requires-2
-measure-kept-requires-2 c κs = search
+measure_kept-second-requires : tie.Need-measure_kept-second-requires
+measure_kept-second-requires c κs = search
 
-add-result : tie.Need-overflow-add-result
+overflow_add-result : tie.Need-overflow_add-result
 unfolding tab
-add-result c =
+overflow_add-result c =
     let s = c.before.before.before.before in
     let L = elem_at s.args.lvalues.now (from s.args.lstart s.args.lelements.now) in
     let R = elem_at s.args.rvalues.now (from s.args.rstart s.args.relements.now) in
     let l = tab L s.args.a s.args.n in
     let r = tab R s.args.b s.args.m in
-    omega (arith, s.requires.1.1, c.before.measure-kept.ensures, c.measure-kept2.ensures, kept_le false [] [] l, kept_le false l [] r, length-tab L s.args.a s.args.n, length-tab R s.args.b s.args.m)
+    omega (arith, s.requires.1.1, c.measure_kept-first.ensures, c.measure_kept-second.ensures, kept_le false [] [] l, kept_le false l [] r, length-tab L s.args.a s.args.n, length-tab R s.args.b s.args.m)
 
 returns : tie.Need-returns
 unfolding tab
@@ -33,8 +33,13 @@ returns c =
     let s = c.before.before.before.before in
     let l = tab (elem_at s.args.lvalues.now (from s.args.lstart s.args.lelements.now)) s.args.a s.args.n in
     let r = tab (elem_at s.args.rvalues.now (from s.args.rstart s.args.relements.now)) s.args.b s.args.m in
-    rw (union_kept l r, length-append) (omega (arith, c.before.measure-kept.ensures, c.measure-kept2.ensures))
+    rw (union_kept l r, length-append) (omega (arith, c.measure_kept-first.ensures, c.measure_kept-second.ensures))
 
 pub measure_union_spec : {M : Type 1} → statement M
 measure_union_spec =
-    tie.close (tie.spec measure-kept-requires measure-kept-requires-2 add-result returns)
+    tie.close
+    (tie.spec
+    measure_kept-first-requires
+    measure_kept-second-requires
+    overflow_add-result
+    returns)

@@ -4,154 +4,154 @@ use borrow.Author.Rules.{rules}
 use Rattle.set_rows.proofs.set_ops.write_intersect.Statement.{statement}
 use Rattle.set_rows.proofs.set_ops.write_intersect.Tie as tie
 
-add-longer : tie.Need-overflow-add-longer
-add-longer c = search rules
+overflow_add-a : tie.Need-overflow_add-a
+overflow_add-a c = search rules
 
-mul-longer : tie.Need-overflow-mul-longer
-mul-longer c = search rules
+offset_bounds-lvalues-a : tie.Need-offset_bounds-lvalues-a
+offset_bounds-lvalues-a c = search rules
 
-sub-longer : tie.Need-overflow-sub-longer
-sub-longer c = search rules
+slice_bounds-longer-count : tie.Need-slice_bounds-longer-count
+slice_bounds-longer-count c = search rules
 
-part-longer-start : tie.Need-slice-bounds-longer-start
-part-longer-start c = search rules
+slice_bounds-longer-start : tie.Need-slice_bounds-longer-start
+slice_bounds-longer-start c = search rules
 
-part-longer-end : tie.Need-slice-bounds-longer-end
-part-longer-end c = search
+slice_bounds-longer-end : tie.Need-slice_bounds-longer-end
+slice_bounds-longer-end c = search
 
-add-longer-2 : tie.Need-overflow-add-longer-2
-add-longer-2 c = search rules
+overflow_add-b : tie.Need-overflow_add-b
+overflow_add-b c = search rules
 
-mul-longer-2 : tie.Need-overflow-mul-longer-2
-mul-longer-2 c = search rules
+offset_bounds-rvalues-b : tie.Need-offset_bounds-rvalues-b
+offset_bounds-rvalues-b c = search rules
 
-sub-longer-2 : tie.Need-overflow-sub-longer-2
-sub-longer-2 c = search rules
+slice_bounds-longer-count-2 : tie.Need-slice_bounds-longer-count-2
+slice_bounds-longer-count-2 c = search rules
 
-part-longer-start-2 : tie.Need-slice-bounds-longer-start-2
-part-longer-start-2 c = search rules
+slice_bounds-longer-start-2 : tie.Need-slice_bounds-longer-start-2
+slice_bounds-longer-start-2 c = search rules
 
-part-longer-end-2 : tie.Need-slice-bounds-longer-end-2
-part-longer-end-2 c = search
+slice_bounds-longer-end-2 : tie.Need-slice_bounds-longer-end-2
+slice_bounds-longer-end-2 c = search
 
-longer-requires : tie.Need-longer-requires
-longer-requires c κs = search
+longer-walked-requires : tie.Need-longer-walked-requires
+longer-walked-requires c κs = search
 
-bits-from-requires : tie.Need-bits-from-requires
-bits-from-requires c κs = search rules
+bits_from-bits-requires : tie.Need-bits_from-bits-requires
+bits_from-bits-requires c κs = search rules
 
-start-from-requires : tie.Need-start-from-requires
-start-from-requires c κs = search
+start_from-start-requires : tie.Need-start_from-start-requires
+start_from-start-requires c κs = search
 
 -- the places that are used below
-abbrev start-from-of-slice-known2 : tie.After-slice-known2 → tie.After-start-from
+abbrev start-from-of-slice-known2 : tie.After-slice_known-then-n-m-1 → tie.After-start_from-start
 start-from-of-slice-known2 p = p.before.before.before.before.before.before
 
-abbrev start-from2-of-slice-known3 : tie.After-slice-known3 → tie.After-start-from2
+abbrev start-from2-of-slice-known3 : tie.After-slice_known-2-1 → tie.After-start_from-start-2
 start-from2-of-slice-known3 p = p.before.before.before.before.before.before
 
-abbrev then1-of-slice-known2 : tie.After-slice-known2 → tie.Then1
+abbrev then1-of-slice-known2 : tie.After-slice_known-then-n-m-1 → tie.Then-n-m
 then1-of-slice-known2 p = p.before.before.before.before.before.before.before.before
 
-abbrev else1-of-slice-known3 : tie.After-slice-known3 → tie.Else1
+abbrev else1-of-slice-known3 : tie.After-slice_known-2-1 → tie.Else-n-m
 else1-of-slice-known3 p = p.before.before.before.before.before.before.before.before
 
-abbrev longer-of-write-kept-arg2 : tie.After-write-kept-arg2 → tie.After-longer
+abbrev longer-of-write-kept-arg2 : tie.After-write_kept-arg-then-n-m-1 → tie.After-longer-walked
 longer-of-write-kept-arg2 p = p.before.before.before.before.before
 
-abbrev start-of-longer : tie.After-longer → tie.Start
+abbrev start-of-longer : tie.After-longer-walked → tie.Start
 start-of-longer p = p.before.before.before.before.before.before
 
-abbrev start-of-write-kept-arg2 : tie.After-write-kept-arg2 → tie.Start
+abbrev start-of-write-kept-arg2 : tie.After-write_kept-arg-then-n-m-1 → tie.Start
 start-of-write-kept-arg2 p = start-of-longer (longer-of-write-kept-arg2 p)
 
-abbrev start-of-write-kept-arg4 : tie.After-write-kept-arg4 → tie.Start
+abbrev start-of-write-kept-arg4 : tie.After-write_kept-arg-3-1 → tie.Start
 start-of-write-kept-arg4 p = start-of-longer p.before.before.before.before.before
 
-abbrev start-of-slice-known2 : tie.After-slice-known2 → tie.Start
+abbrev start-of-slice-known2 : tie.After-slice_known-then-n-m-1 → tie.Start
 start-of-slice-known2 p = start-of-write-kept-arg2 p.before.before.before.before
 
-abbrev start-of-slice-known3 : tie.After-slice-known3 → tie.Start
+abbrev start-of-slice-known3 : tie.After-slice_known-2-1 → tie.Start
 start-of-slice-known3 p = start-of-write-kept-arg4 p.before.before.before.before
 
-write-kept-requires : tie.Need-write-kept-requires
-write-kept-requires c κs =
+write_kept-requires : tie.Need-write_kept-requires
+write_kept-requires c κs =
     let s = start-of-write-kept-arg2 c in
     let a = s.args in
     let t = c.before.before.before.before in
     let r = c.before.before in
-    let e = right_walked a.lvalues.now (from a.lstart a.lelements.now) a.a a.n a.rvalues.now (from a.rstart a.relements.now) a.b a.m s.pre.0 s.pre.1.0 t.before.longer.ensures t.if1.true r.start-from.ensures r.before.bits-from.ensures in
-    (right_source a.lvalues.now (from a.lstart a.lelements.now) a.a a.n a.rvalues.now (from a.rstart a.relements.now) a.b a.m s.pre.0 s.pre.1.0 t.before.longer.ensures t.if1.true r.start-from.ensures r.before.bits-from.ensures, (s.pre.0, rw e at s.pre.1.1))
+    let e = right_walked a.lvalues.now (from a.lstart a.lelements.now) a.a a.n a.rvalues.now (from a.rstart a.relements.now) a.b a.m s.requires.0 s.requires.1.0 t.longer-walked.ensures t.if-n-m.true r.start_from-start.ensures r.bits_from-bits.ensures in
+    (right_source a.lvalues.now (from a.lstart a.lelements.now) a.a a.n a.rvalues.now (from a.rstart a.relements.now) a.b a.m s.requires.0 s.requires.1.0 t.longer-walked.ensures t.if-n-m.true r.start_from-start.ensures r.bits_from-bits.ensures, (s.requires.0, rw e at s.requires.1.1))
 
-same_length : tie.Need-same-length
-same_length c = search
+shape_of-out_values-then-n-m : tie.Need-shape_of-out_values-then-n-m
+shape_of-out_values-then-n-m c = search
 
-same-length-2 : tie.Need-same-length-2
-same-length-2 c = search
+shape_of-out_elements-then-n-m : tie.Need-shape_of-out_elements-then-n-m
+shape_of-out_elements-then-n-m c = search
 
-returns : tie.Need-returns
-returns c =
+returns-then-n-m : tie.Need-returns-then-n-m
+returns-then-n-m c =
     let s = start-of-slice-known2 c in
     let a = s.args in
     let t = then1-of-slice-known2 c in
     let r = start-from-of-slice-known2 c in
-    let e = right_walked a.lvalues.now (from a.lstart a.lelements.now) a.a a.n a.rvalues.now (from a.rstart a.relements.now) a.b a.m s.pre.0 s.pre.1.0 t.before.longer.ensures t.if1.taken r.start-from.ensures r.before.bits-from.ensures in
+    let e = right_walked a.lvalues.now (from a.lstart a.lelements.now) a.a a.n a.rvalues.now (from a.rstart a.relements.now) a.b a.m s.requires.0 s.requires.1.0 t.longer-walked.ensures t.if-n-m.true r.start_from-start.ensures r.bits_from-bits.ensures in
     rw e c.before.before.before.write-Kept.ensures
 
-bits-from-requires-2 : tie.Need-bits-from-requires-2
-bits-from-requires-2 c κs = search rules
+bits_from-bits-requires-2 : tie.Need-bits_from-bits-requires-2
+bits_from-bits-requires-2 c κs = search rules
 
-start-from-requires-2 : tie.Need-start-from-requires-2
-start-from-requires-2 c κs = search
+start_from-start-requires-2 : tie.Need-start_from-start-requires-2
+start_from-start-requires-2 c κs = search
 
-write-kept-requires-2 : tie.Need-write-kept-requires-2
-write-kept-requires-2 c κs =
+write_kept-requires-2 : tie.Need-write_kept-requires-2
+write_kept-requires-2 c κs =
     let s = start-of-write-kept-arg4 c in
     let a = s.args in
     let t = c.before.before.before.before in
     let r = c.before.before in
-    let e = left_walked a.lvalues.now (from a.lstart a.lelements.now) a.a a.n a.rvalues.now (from a.rstart a.relements.now) a.b a.m s.pre.0 s.pre.1.0 t.before.longer.ensures t.if1.false r.start-from2.ensures r.before.bits-from2.ensures in
-    (left_source a.lvalues.now (from a.lstart a.lelements.now) a.a a.n a.rvalues.now (from a.rstart a.relements.now) a.b a.m s.pre.0 s.pre.1.0 t.before.longer.ensures t.if1.false r.start-from2.ensures r.before.bits-from2.ensures, (s.pre.1.0, rw e at s.pre.1.1))
+    let e = left_walked a.lvalues.now (from a.lstart a.lelements.now) a.a a.n a.rvalues.now (from a.rstart a.relements.now) a.b a.m s.requires.0 s.requires.1.0 t.longer-walked.ensures t.if-n-m.false r.start_from-start-2.ensures r.bits_from-bits-2.ensures in
+    (left_source a.lvalues.now (from a.lstart a.lelements.now) a.a a.n a.rvalues.now (from a.rstart a.relements.now) a.b a.m s.requires.0 s.requires.1.0 t.longer-walked.ensures t.if-n-m.false r.start_from-start-2.ensures r.bits_from-bits-2.ensures, (s.requires.1.0, rw e at s.requires.1.1))
 
-same-length-3 : tie.Need-same-length-3
-same-length-3 c = search
+shape_of-out_values : tie.Need-shape_of-out_values
+shape_of-out_values c = search
 
-same-length-4 : tie.Need-same-length-4
-same-length-4 c = search
+shape_of-out_elements : tie.Need-shape_of-out_elements
+shape_of-out_elements c = search
 
-returns-2 : tie.Need-returns-2
-returns-2 c =
+returns : tie.Need-returns
+returns c =
     let s = start-of-slice-known3 c in
     let a = s.args in
     let t = else1-of-slice-known3 c in
     let r = start-from2-of-slice-known3 c in
-    let e = left_walked a.lvalues.now (from a.lstart a.lelements.now) a.a a.n a.rvalues.now (from a.rstart a.relements.now) a.b a.m s.pre.0 s.pre.1.0 t.before.longer.ensures t.if1.left r.start-from2.ensures r.before.bits-from2.ensures in
-    rw e c.before.before.before.write-kept2.ensures
+    let e = left_walked a.lvalues.now (from a.lstart a.lelements.now) a.a a.n a.rvalues.now (from a.rstart a.relements.now) a.b a.m s.requires.0 s.requires.1.0 t.longer-walked.ensures t.if-n-m.false r.start_from-start-2.ensures r.bits_from-bits-2.ensures in
+    rw e c.write_kept-2.ensures
 
 pub write_intersect_spec : {M : Type 1} → statement M
 write_intersect_spec =
     tie.close
     (tie.spec
-    add-longer
-    mul-longer
-    sub-longer
-    part-longer-start
-    part-longer-end
-    add-longer-2
-    mul-longer-2
-    sub-longer-2
-    part-longer-start-2
-    part-longer-end-2
-    longer-requires
-    bits-from-requires
-    start-from-requires
-    write-kept-requires
-    same_length
-    same-length-2
-    returns
-    bits-from-requires-2
-    start-from-requires-2
-    write-kept-requires-2
-    same-length-3
-    same-length-4
-    returns-2)
+    overflow_add-a
+    offset_bounds-lvalues-a
+    slice_bounds-longer-count
+    slice_bounds-longer-start
+    slice_bounds-longer-end
+    overflow_add-b
+    offset_bounds-rvalues-b
+    slice_bounds-longer-count-2
+    slice_bounds-longer-start-2
+    slice_bounds-longer-end-2
+    longer-walked-requires
+    bits_from-bits-requires
+    start_from-start-requires
+    write_kept-requires
+    shape_of-out_values-then-n-m
+    shape_of-out_elements-then-n-m
+    returns-then-n-m
+    bits_from-bits-requires-2
+    start_from-start-requires-2
+    write_kept-requires-2
+    shape_of-out_values
+    shape_of-out_elements
+    returns)

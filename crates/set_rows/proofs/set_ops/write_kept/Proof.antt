@@ -12,105 +12,105 @@ use Rattle.set_rows.proofs.SetLaws.{kept_later, kept_all, kept-none, kept-taken,
 use Rattle.set_rows.proofs.set_ops.write_kept.Statement.{statement}
 use Rattle.set_rows.proofs.set_ops.write_kept.Tie as tie
 
-abbrev invariant-loop : tie.invariant-loop
-invariant-loop values elements estart a n others oelements ostart b m shared out-values₀ out-elements₀ at k₀ left₀ p₀ out-values out-elements k left p =
+abbrev invariant-loop-left : tie.invariant-loop-left
+invariant-loop-left values elements estart a n others oelements ostart b m shared out-values₀ out-elements₀ at k₀ left₀ p₀ out-values out-elements k left p =
     Writing (kept shared (tab (elem_at others (from ostart oelements)) b m) [] (tab (elem_at values (from estart elements)) a n)) at out-values₀ out-elements₀ (kept_later shared (tab (elem_at others (from ostart oelements)) b m) (elem_at values (from estart elements)) a k left) p out-values out-elements
     × (k + left ≡ n)
 
-abbrev decreases-loop : tie.decreases-loop
-decreases-loop values elements estart a n others oelements ostart b m shared out-values₀ out-elements₀ at k₀ left₀ p₀ out-values out-elements k left p =
+abbrev decreases-loop-left : tie.decreases-loop-left
+decreases-loop-left values elements estart a n others oelements ostart b m shared out-values₀ out-elements₀ at k₀ left₀ p₀ out-values out-elements k left p =
     left
 
-loop-holds : tie.Need-loop-init invariant-loop decreases-loop
-loop-holds c =
-    let a = c.before.before.before.args in
+loop-left-init : tie.Need-loop-left-init invariant-loop-left decreases-loop-left
+loop-left-init c =
+    let a = c.args in
     let O = tab (elem_at a.others.now (from a.ostart a.oelements.now)) a.b a.m in
     (begun _ (kept_all a.shared O (elem_at a.values.now (from a.estart a.elements.now)) a.a a.n), omega arith)
 
-is-kept-requires : tie.Need-is-kept-requires invariant-loop decreases-loop
-is-kept-requires c κs =
+is_kept-requires : tie.Need-is_kept-requires invariant-loop-left decreases-loop-left
+is_kept-requires c κs =
     let s = c.before.before.before.before.before in
     (record { inside = omega (arith, s.requires.0.inside); bits = s.requires.0.bits }, s.requires.1.0)
 
-add-i : tie.Need-overflow-add-i invariant-loop decreases-loop
-add-i c = let i = c.before.before in omega (arith, i, i.before.before.before.before.before.requires.0.inside)
+overflow_add-i : tie.Need-overflow_add-i invariant-loop-left decreases-loop-left
+overflow_add-i c = let i = c.before.before in omega (arith, i, i.requires.0.inside)
 
-write-elem-requires : tie.Need-write-elem-requires invariant-loop decreases-loop
-write-elem-requires c κs =
+write_elem-requires : tie.Need-write_elem-requires invariant-loop-left decreases-loop-left
+write_elem-requires c κs =
     let t = c.before.before in
     let i = t.before.before in
-    let l = i.before.loop in
+    let l = i.loop-left in
     let s = i.before.before.before.before.before in
     let O = tab (elem_at s.args.others.now (from s.args.ostart s.args.oelements.now)) s.args.b s.args.m in
     let E = elem_at s.args.values.now (from s.args.estart s.args.elements.now) in
-    let new = kept-taken s.args.shared O E s.args.a l.k l.left i.loop-test.true t.before.is-kept.ensures t.if1.true in
+    let new = kept-taken s.args.shared O E s.args.a l.k l.left i.loop-left-test.true t.is_kept.ensures t.if-is_kept.true in
     (omega (arith, i, s.requires.0.inside), (s.requires.0.bits, room l.invariant.0 _ _ new s.requires.1.1))
 
-add-p : tie.Need-overflow-add-p invariant-loop decreases-loop
-add-p c =
+overflow_add-p : tie.Need-overflow_add-p invariant-loop-left decreases-loop-left
+overflow_add-p c =
     let t = c.before.before.before.before.before.before in
     let i = t.before.before in
-    let l = i.before.loop in
+    let l = i.loop-left in
     let s = i.before.before.before.before.before in
     let O = tab (elem_at s.args.others.now (from s.args.ostart s.args.oelements.now)) s.args.b s.args.m in
     let E = elem_at s.args.values.now (from s.args.estart s.args.elements.now) in
-    let new = kept-taken s.args.shared O E s.args.a l.k l.left i.loop-test.true t.before.is-kept.ensures t.if1.true in
+    let new = kept-taken s.args.shared O E s.args.a l.k l.left i.loop-left-test.true t.is_kept.ensures t.if-is_kept.true in
     let r = room l.invariant.0 _ _ new s.requires.1.1 in
     omega (arith, i, s)
 
-add-k : tie.Need-overflow-add-k invariant-loop decreases-loop
-add-k c = omega (arith, c.before.before)
+overflow_add-k : tie.Need-overflow_add-k invariant-loop-left decreases-loop-left
+overflow_add-k c = omega (arith, c.before.before)
 
-sub-left : tie.Need-overflow-sub-left invariant-loop decreases-loop
-sub-left c = omega (arith, c.before.before)
+overflow_sub-left : tie.Need-overflow_sub-left invariant-loop-left decreases-loop-left
+overflow_sub-left c = omega (arith, c.before.before)
 
-loop-less : tie.Need-loop-smaller invariant-loop decreases-loop
-loop-less c = omega (arith, c.before.before)
+loop-left-smaller : tie.Need-loop-left-smaller invariant-loop-left decreases-loop-left
+loop-left-smaller c = omega (arith, c.before.before)
 
-loop-again : tie.Need-loop-preserved invariant-loop decreases-loop
-loop-again c =
+loop-left-preserved : tie.Need-loop-left-preserved invariant-loop-left decreases-loop-left
+loop-left-preserved c =
     let i = c.before.before in
-    let l = i.before.loop in
+    let l = i.loop-left in
     let s = i.before.before.before.before.before in
     let O = tab (elem_at s.args.others.now (from s.args.ostart s.args.oelements.now)) s.args.b s.args.m in
     let E = elem_at s.args.values.now (from s.args.estart s.args.elements.now) in
-    let keeps = c.before.is-kept.ensures in (
+    let keeps = c.is_kept.ensures in (
       ⊎_elim
-          (λ w. rw w.9 (written l.invariant.0 _ _ (kept-taken s.args.shared O E s.args.a l.k l.left i.loop-test.true keeps w.0.taken) (w.7 ∙ w.3.ensures.0) (w.8 ∙ w.3.ensures.1)))
-          (λ w. rw (w.1, w.2, w.3) (skipped l.invariant.0 _ (kept_passed s.args.shared O E s.args.a l.k l.left i.loop-test.true keeps w.0.left)))
-          c.if1.branch,
+          (λ w. rw w.9 (written l.invariant.0 _ _ (kept-taken s.args.shared O E s.args.a l.k l.left i.loop-left-test.true keeps w.0.taken) (w.7 ∙ w.3.ensures.0) (w.8 ∙ w.3.ensures.1)))
+          (λ w. rw (w.1, w.2, w.3) (skipped l.invariant.0 _ (kept_passed s.args.shared O E s.args.a l.k l.left i.loop-left-test.true keeps w.0.left)))
+          c.if-is_kept.branch,
       omega (arith, i),
     )
 
-same_length : tie.Need-same-length invariant-loop decreases-loop
-same_length c = c.before.loop.invariant.0.lv
+shape_of-out_values : tie.Need-shape_of-out_values invariant-loop-left decreases-loop-left
+shape_of-out_values c = c.loop-left.invariant.0.lv
 
-same-length-2 : tie.Need-same-length-2 invariant-loop decreases-loop
-same-length-2 c = c.before.loop.invariant.0.le
+shape_of-out_elements : tie.Need-shape_of-out_elements invariant-loop-left decreases-loop-left
+shape_of-out_elements c = c.loop-left.invariant.0.le
 
-returns : tie.Need-returns invariant-loop decreases-loop
+returns : tie.Need-returns invariant-loop-left decreases-loop-left
 returns c =
-    let l = c.before.loop in
+    let l = c.loop-left in
     let s = c.before.before.before.before.before in
     let O = tab (elem_at s.args.others.now (from s.args.ostart s.args.oelements.now)) s.args.b s.args.m in
     let E = elem_at s.args.values.now (from s.args.estart s.args.elements.now) in
-    done l.invariant.0 (kept-none s.args.shared O E s.args.a l.k l.left c.loop-test.false)
+    done l.invariant.0 (kept-none s.args.shared O E s.args.a l.k l.left c.loop-left-test.false)
 
 pub write_kept_spec : {M : Type 1} → statement M
 write_kept_spec =
     tie.close
     (tie.spec
-    invariant-loop
-    decreases-loop
-    loop-holds
-    is-kept-requires
-    add-i
-    write-elem-requires
-    add-p
-    add-k
-    sub-left
-    loop-less
-    loop-again
-    same_length
-    same-length-2
+    invariant-loop-left
+    decreases-loop-left
+    loop-left-init
+    is_kept-requires
+    overflow_add-i
+    write_elem-requires
+    overflow_add-p
+    overflow_add-k
+    overflow_sub-left
+    loop-left-smaller
+    loop-left-preserved
+    shape_of-out_values
+    shape_of-out_elements
     returns)

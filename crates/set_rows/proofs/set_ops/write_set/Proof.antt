@@ -1,47 +1,47 @@
 use Rattle.set_rows.proofs.set_ops.write_set.Statement.{statement}
 use Rattle.set_rows.proofs.set_ops.write_set.Tie as tie
 
-enum_told : tie.Need-enum-told
-enum_told c = search
+enum_told-1 : tie.Need-enum_told-1
+enum_told-1 c = search
 
-write-union-requires : tie.Need-write-union-requires
-write-union-requires c κs = let s = c.before.before.before.before.before.before.before in (s.requires.0, (s.requires.1.0, rw c.before.before.enum_told.given.1 at s.requires.1.1))
+write_union-requires : tie.Need-write_union-requires
+write_union-requires c κs = let s = c.before.before.before.before.before.before in (s.requires.0, (s.requires.1.0, rw c.in-Union.is at s.requires.1.1))
 
-enum-told-2 : tie.Need-enum-told-2
-enum-told-2 c = search
+enum_told-in-Intersect : tie.Need-enum_told-in-Intersect
+enum_told-in-Intersect c = search
 
-write-intersect-requires : tie.Need-write-intersect-requires
-write-intersect-requires c κs = let s = c.before.before.before.before.before.before.before in (s.requires.0, (s.requires.1.0, rw c.before.before.enum-told2.given.1 at s.requires.1.1))
+write_intersect-requires : tie.Need-write_intersect-requires
+write_intersect-requires c κs = let s = c.before.before.before.before.before.before in (s.requires.0, (s.requires.1.0, rw c.in-Intersect.is at s.requires.1.1))
 
-same_length : tie.Need-same-length
-same_length c = search
+shape_of-out_values-in-Union : tie.Need-shape_of-out_values-in-Union
+shape_of-out_values-in-Union c = search
 
-same-length-2 : tie.Need-same-length-2
-same-length-2 c = search
+shape_of-out_elements-in-Union : tie.Need-shape_of-out_elements-in-Union
+shape_of-out_elements-in-Union c = search
 
-returns : tie.Need-returns
-returns c = let w = c.before.before.before in rw w.before.before.before.enum_told.given.1 w.write-union.ensures
+returns-in-Union : tie.Need-returns-in-Union
+returns-in-Union c = let w = c.before.before.before in rw w.in-Union.is w.write_union.ensures
 
-same-length-3 : tie.Need-same-length-3
-same-length-3 c = search
+shape_of-out_values-in-Intersect : tie.Need-shape_of-out_values-in-Intersect
+shape_of-out_values-in-Intersect c = search
 
-same-length-4 : tie.Need-same-length-4
-same-length-4 c = search
+shape_of-out_elements-in-Intersect : tie.Need-shape_of-out_elements-in-Intersect
+shape_of-out_elements-in-Intersect c = search
 
-returns-2 : tie.Need-returns-2
-returns-2 c = let w = c.before.before.before in rw w.before.before.before.enum-told2.given.1 w.write-intersect.ensures
+returns-in-Intersect : tie.Need-returns-in-Intersect
+returns-in-Intersect c = let w = c.before.before.before in rw w.in-Intersect.is w.write_intersect.ensures
 
 pub write_set_spec : {M : Type 1} → statement M
 write_set_spec =
     tie.close
     (tie.spec
-    enum_told
-    write-union-requires
-    enum-told-2
-    write-intersect-requires
-    same_length
-    same-length-2
-    returns
-    same-length-3
-    same-length-4
-    returns-2)
+    enum_told-1
+    write_union-requires
+    enum_told-in-Intersect
+    write_intersect-requires
+    shape_of-out_values-in-Union
+    shape_of-out_elements-in-Union
+    returns-in-Union
+    shape_of-out_values-in-Intersect
+    shape_of-out_elements-in-Intersect
+    returns-in-Intersect)

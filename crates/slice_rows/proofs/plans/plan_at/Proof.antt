@@ -7,45 +7,45 @@ use Rattle.slice_rows.specs.Sliced.{plan_at}
 use Rattle.slice_rows.proofs.plans.plan_at.Statement.{statement}
 use Rattle.slice_rows.proofs.plans.plan_at.Tie as tie
 
+returns-then-not-valid : tie.Need-returns-then-not-valid
+unfolding plan_at
+returns-then-not-valid c = rw (not-true c.args.valid c.if-not-valid.true)
+
+offset_bounds-xs-r : tie.Need-offset_bounds-xs-r
+offset_bounds-xs-r c = omega (arith, c.requires.0)
+
+bounds-xs-r : tie.Need-bounds-xs-r
+bounds-xs-r c = c.requires.0
+
+offset_bounds-ys-r : tie.Need-offset_bounds-ys-r
+offset_bounds-ys-r c = omega (arith, c.requires.1.0)
+
+bounds-ys-r : tie.Need-bounds-ys-r
+bounds-ys-r c = c.requires.1.0
+
+stride_at-requires : tie.Need-stride_at-requires
+stride_at-requires c κs = c.requires.1.1.0
+
+plan_of-requires : tie.Need-plan_of-requires
+plan_of-requires c κs = c.requires.1.1.1
+
 returns : tie.Need-returns
 unfolding plan_at
-returns c = rw (not-true c.before.args.valid c.if1.true)
-
-mul-plan-of : tie.Need-overflow-mul-plan-of
-mul-plan-of c = omega (arith, c.before.requires.0)
-
-shared-slice-copy-out-plan-of : tie.Need-shared-slice-copy-out-plan-of
-shared-slice-copy-out-plan-of c = c.before.requires.0
-
-mul-plan-of-2 : tie.Need-overflow-mul-plan-of-2
-mul-plan-of-2 c = omega (arith, c.before.before.requires.1.0)
-
-shared-slice-copy-out-plan-of-2 : tie.Need-shared-slice-copy-out-plan-of-2
-shared-slice-copy-out-plan-of-2 c = c.before.before.requires.1.0
-
-stride-at-requires : tie.Need-stride-at-requires
-stride-at-requires c κs = c.before.before.before.requires.1.1.0
-
-plan-of-requires : tie.Need-plan-of-requires
-plan-of-requires c κs = c.before.before.before.before.requires.1.1.1
-
-returns-2 : tie.Need-returns-2
-unfolding plan_at
-returns-2 c =
-    let s = c.before.stride-at in
+returns c =
+    let s = c.stride_at in
     let e = c.before.before.before.before in
-    rw (not-false e.before.args.valid e.if1.false, ← s.ensures)
-    (rw (back64 _ c.before.before.before.plan-of-arg.given, back64 _ c.before.before.plan-of-arg2.given, read_back w64 s.result (record { sfits = s.type-inv })) at c.plan-of.ensures)
+    rw (not-false e.args.valid e.if-not-valid.false, ← s.ensures)
+    (rw (back64 _ c.plan_of-arg-1.given, back64 _ c.plan_of-arg-2-1.given, read_back w64 s.result (record { sfits = s.type_inv })) at c.plan_of.ensures)
 
 pub plan_at_spec : {M : Type 1} → statement M
 plan_at_spec =
     tie.close
     (tie.spec
-    returns
-    mul-plan-of
-    shared-slice-copy-out-plan-of
-    mul-plan-of-2
-    shared-slice-copy-out-plan-of-2
-    stride-at-requires
-    plan-of-requires
-    returns-2)
+    returns-then-not-valid
+    offset_bounds-xs-r
+    bounds-xs-r
+    offset_bounds-ys-r
+    bounds-ys-r
+    stride_at-requires
+    plan_of-requires
+    returns)

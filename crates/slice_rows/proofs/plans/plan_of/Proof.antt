@@ -4,39 +4,39 @@ use Rattle.index.proofs.SignedLaws.{read_back}
 use Rattle.slice_rows.proofs.plans.plan_of.Statement.{statement}
 use Rattle.slice_rows.proofs.plans.plan_of.Tie as tie
 
-enum_told : tie.Need-enum-told
-enum_told c = search
+enum_told-1 : tie.Need-enum_told-1
+enum_told-1 c = search
 
-compute-slice-plan-requires : tie.Need-compute-slice-plan-requires
-compute-slice-plan-requires c κs = rw c.enum_told.given.1 at c.before.before.requires
+compute_slice_plan-requires : tie.Need-compute_slice_plan-requires
+compute_slice_plan-requires c κs = rw c.in-Narrow.is at c.requires
 
-enum-told-2 : tie.Need-enum-told-2
-enum-told-2 c = search
+enum_told-in-Wide : tie.Need-enum_told-in-Wide
+enum_told-in-Wide c = search
 
-compute-slice-plan-requires-2 : tie.Need-compute-slice-plan-requires-2
-compute-slice-plan-requires-2 c κs = rw c.enum-told2.given.1 at c.before.before.requires
+compute_slice_plan-requires-in-Wide : tie.Need-compute_slice_plan-requires-in-Wide
+compute_slice_plan-requires-in-Wide c κs = rw c.in-Wide.is at c.requires
 
-returns : tie.Need-returns
+returns-in-Narrow : tie.Need-returns-in-Narrow
 unfolding stride_in
-returns c =
-    let s = c.before.before.before in
-    rw c.before.enum_told.given.1
-    (rw (read_back w64 s.args.from s.ranges.from, read_back w64 s.args.to s.ranges.to, read_back w64 s.args.stride s.ranges.stride) at c.compute-slice-plan.ensures)
+returns-in-Narrow c =
+    let s = c.before.before in
+    rw c.in-Narrow.is
+    (rw (read_back w64 s.args.from s.ranges.from, read_back w64 s.args.to s.ranges.to, read_back w64 s.args.stride s.ranges.stride) at c.compute_slice_plan.ensures)
 
-returns-2 : tie.Need-returns-2
+returns-in-Wide : tie.Need-returns-in-Wide
 unfolding stride_in
-returns-2 c =
-    let s = c.before.before.before in
-    rw c.before.enum-told2.given.1
-    (rw (read_back w64 s.args.from s.ranges.from, read_back w64 s.args.to s.ranges.to, read_back w64 s.args.stride s.ranges.stride) at c.compute-slice-plan2.ensures)
+returns-in-Wide c =
+    let s = c.before.before in
+    rw c.in-Wide.is
+    (rw (read_back w64 s.args.from s.ranges.from, read_back w64 s.args.to s.ranges.to, read_back w64 s.args.stride s.ranges.stride) at c.compute_slice_plan-in-Wide.ensures)
 
 pub plan_of_spec : {M : Type 1} → statement M
 plan_of_spec =
     tie.close
     (tie.spec
-    enum_told
-    compute-slice-plan-requires
-    enum-told-2
-    compute-slice-plan-requires-2
-    returns
-    returns-2)
+    enum_told-1
+    compute_slice_plan-requires
+    enum_told-in-Wide
+    compute_slice_plan-requires-in-Wide
+    returns-in-Narrow
+    returns-in-Wide)

@@ -2,34 +2,34 @@ use Rattle.slice_rows.specs.Sliced.{plan_refusal}
 use Rattle.slice_rows.proofs.plans.refusal_of.Statement.{statement}
 use Rattle.slice_rows.proofs.plans.refusal_of.Tie as tie
 
-enum_told : tie.Need-enum-told
-enum_told c = search
+enum_told-1 : tie.Need-enum_told-1
+enum_told-1 c = search
 
-enum-told-2 : tie.Need-enum-told-2
-enum-told-2 c = search
+enum_told-in-Steps : tie.Need-enum_told-in-Steps
+enum_told-in-Steps c = search
 
-enum-known-plan : tie.Need-enum-known-plan
-enum-known-plan c = search
+enum_known-plan : tie.Need-enum_known-plan
+enum_known-plan c = search
 
-returns : tie.Need-returns
+returns-in-Empty : tie.Need-returns-in-Empty
 unfolding plan_refusal
-returns c = rw c.enum_told.given.1
+returns-in-Empty c = rw c.in-Empty.is
 
-returns-2 : tie.Need-returns-2
+returns-in-Steps : tie.Need-returns-in-Steps
 unfolding plan_refusal
-returns-2 c = rw c.enum-told2.given.1
+returns-in-Steps c = rw c.in-Steps.is
 
-returns-3 : tie.Need-returns-3
+returns-in-Refused : tie.Need-returns-in-Refused
 unfolding plan_refusal
-returns-3 c = rw c.before.plan.given.1
+returns-in-Refused c = rw c.in-Refused.is
 
 pub refusal_of_spec : {M : Type 1} → statement M
 refusal_of_spec =
     tie.close
     (tie.spec
-    enum_told
-    enum-told-2
-    enum-known-plan
-    returns
-    returns-2
-    returns-3)
+    enum_told-1
+    enum_told-in-Steps
+    enum_known-plan
+    returns-in-Empty
+    returns-in-Steps
+    returns-in-Refused)

@@ -9,48 +9,48 @@ use Rattle.slice_rows.proofs.validity.word_at.Tie as tie
 abbrev B : tie.Start → Bits
 B s = from s.args.start s.args.bits.now
 
-returns : tie.Need-returns
-returns c = let s = c.before.before in all_ones (valid_at (B s)) s.args.r s.args.left (empty_valid (B s) c.if1.true)
+returns-then-bits-eq0 : tie.Need-returns-then-bits-eq0
+returns-then-bits-eq0 c = let s = c.before.before in all_ones (valid_at (B s)) s.args.r s.args.left (empty_valid (B s) c.if-bits-eq0.true)
 
-is-valid-requires : tie.Need-is-valid-requires
-is-valid-requires c κs = let s = c.before.before.before in (s.requires.0, omega (arith, s.requires.1.0, s.requires.1.1))
+is_valid-requires : tie.Need-is_valid-requires
+is_valid-requires c κs = let s = c.before.before.before in (s.requires.0, omega (arith, s.requires.1.0, s.requires.1.1))
 
-cast-result : tie.Need-overflow-cast-result
-cast-result c = search
+overflow_cast-result : tie.Need-overflow_cast-result
+overflow_cast-result c = search
 
-returns-2 : tie.Need-returns-2
-returns-2 c =
+returns-then-left-lt64 : tie.Need-returns-then-left-lt64
+returns-then-left-lt64 c =
     let s = c.before.before.before.before in
-    one_bit (valid_at (B s)) s.args.r s.args.left c.is-valid.result c.before.if2.true c.is-valid.ensures
+    one_bit (valid_at (B s)) s.args.r s.args.left c.is_valid.result c.if-left-lt64.true c.is_valid.ensures
 
-add-p : tie.Need-overflow-add-p
-add-p c = omega (arith, c.before.before.before.requires.0.small)
+overflow_add-p : tie.Need-overflow_add-p
+overflow_add-p c = omega (arith, c.requires.0.small)
 
-add-word-from : tie.Need-overflow-add-word-from
-add-word-from c = omega (arith, c.before.before.before.requires.0.small)
+overflow_add-r : tie.Need-overflow_add-r
+overflow_add-r c = omega (arith, c.requires.0.small)
 
-word-from-requires : tie.Need-word-from-requires
-word-from-requires c κs =
+word_from-requires : tie.Need-word_from-requires
+word_from-requires c κs =
     let s = c.before.before.before in
-    (omega arith, omega (arith, s.requires.0.small, s.requires.1.1, c.if2.false, enough_bytes (B s) s.args.n s.requires.0 c.before.if1.false))
+    (omega arith, omega (arith, s.requires.0.small, s.requires.1.1, c.if-left-lt64.false, enough_bytes (B s) s.args.n s.requires.0 c.if-bits-eq0.false))
 
-returns-3 : tie.Need-returns-3
-returns-3 c =
+returns : tie.Need-returns
+returns c =
     let f = c.before in
     let s = f.before.before.before in
     let a = s.args in
     let e : 8 * (a.r / 8 + (a.start + a.r % 8) / 8) + (a.start + a.r % 8) % 8 ≡ a.start + a.r = omega arith in
-    word_bits (valid_at (B s)) a.r a.left c.word-from.result f.if2.false (c.word-from.ensures ∙ lent_bits_lem (B s) _ a.r 64 e f.before.if1.false)
+    word_bits (valid_at (B s)) a.r a.left c.word_from.result f.if-left-lt64.false (c.word_from.ensures ∙ lent_bits_lem (B s) _ a.r 64 e f.if-bits-eq0.false)
 
 pub word_at_spec : {M : Type 1} → statement M
 word_at_spec =
     tie.close
     (tie.spec
-    returns
-    is-valid-requires
-    cast-result
-    returns-2
-    add-p
-    add-word-from
-    word-from-requires
-    returns-3)
+    returns-then-bits-eq0
+    is_valid-requires
+    overflow_cast-result
+    returns-then-left-lt64
+    overflow_add-p
+    overflow_add-r
+    word_from-requires
+    returns)

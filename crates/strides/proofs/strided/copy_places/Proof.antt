@@ -16,145 +16,145 @@ use Rattle.strides.proofs.strided.copy_places.Statement.{statement}
 use Rattle.strides.proofs.strided.copy_places.Tie as tie
 
 -- the walk of the values alone: one more than left are to come
-abbrev invariant-loop : tie.invariant-loop
-invariant-loop values a n start stride count out₀ at p₀ left₀ k₀ out p left k =
+abbrev invariant-loop-left : tie.invariant-loop-left
+invariant-loop-left values a n start stride count out₀ at p₀ left₀ k₀ out p left k =
     Going start (to_z w64 stride) count (tab (λ i. val (get_or values i (pos 0))) a n) at out₀ [] (left + 1) k out [] p
 
-abbrev decreases-loop : tie.decreases-loop
-decreases-loop values a n start stride count out₀ at p₀ left₀ k₀ out p left k = left
+abbrev decreases-loop-left : tie.decreases-loop-left
+decreases-loop-left values a n start stride count out₀ at p₀ left₀ k₀ out p left k = left
 
-abbrev S : tie.At-loop invariant-loop decreases-loop → tie.Start invariant-loop decreases-loop
+abbrev S : tie.At-loop-left invariant-loop-left decreases-loop-left → tie.Start invariant-loop-left decreases-loop-left
 S l = l.before.before
 
-abbrev E : tie.Start invariant-loop decreases-loop → ℕ → Elem
+abbrev E : tie.Start invariant-loop-left decreases-loop-left → ℕ → Elem
 E s i = val (get_or s.args.values.now i (pos 0))
 
-read_stride : (s : tie.Start invariant-loop decreases-loop) → to_z w64 (of_z w64 s.args.stride) ≡ s.args.stride
+read_stride : (s : tie.Start invariant-loop-left decreases-loop-left) → to_z w64 (of_z w64 s.args.stride) ≡ s.args.stride
 read_stride s = read_back w64 s.args.stride s.ranges.stride
 
-module _ (l : tie.At-loop invariant-loop decreases-loop) where
+module _ (l : tie.At-loop-left invariant-loop-left decreases-loop-left) where
   -- what the loop keeps, of the stride itself
-  going : let s = S l in Going s.args.start s.args.stride s.args.count (tab (E s) s.args.a s.args.n) s.args.at s.args.out.now [] (l.loop.left + 1) l.loop.k l.loop.out [] l.loop.p
-  going = rw (read_stride (S l)) at l.loop.invariant
+  going : let s = S l in Going s.args.start s.args.stride s.args.count (tab (E s) s.args.a s.args.n) s.args.at s.args.out.now [] (l.loop-left.left + 1) l.loop-left.k l.loop-left.out [] l.loop-left.p
+  going = rw (read_stride (S l)) at l.loop-left.invariant
 
-  below : l.loop.p < (S l).args.n
+  below : l.loop-left.p < (S l).args.n
   below = here going _ (S l).pre.1.0.reach (omega arith)
 
-  inside : (S l).args.a + l.loop.p < length (S l).args.values.now
+  inside : (S l).args.a + l.loop-left.p < length (S l).args.values.now
   inside = omega (arith, below, (S l).pre.0)
 
-  room_at : l.loop.k < length l.loop.out
+  room_at : l.loop-left.k < length l.loop-left.out
   room_at = value_room_lem going (omega arith) (S l).pre.1.1
 
   -- the value at the place of the walk
-  value_is_lem : let s = S l in taken s.args.start s.args.stride (tab (E s) s.args.a s.args.n) (s.args.count - (l.loop.left + 1)) ≡ E s (s.args.a + l.loop.p)
+  value_is_lem : let s = S l in taken s.args.start s.args.stride (tab (E s) s.args.a s.args.n) (s.args.count - (l.loop-left.left + 1)) ≡ E s (s.args.a + l.loop-left.p)
   value_is_lem = let s = S l in taken_is (E s) s.args.a s.args.n s.args.start s.args.stride _ _ (going.place (omega arith)) below
 
-returns : tie.Need-returns invariant-loop decreases-loop
-returns c =
+returns-then-count-eq0 : tie.Need-returns-then-count-eq0 invariant-loop-left decreases-loop-left
+returns-then-count-eq0 c =
     let s = c.before in
     let a = s.args in
     (stop (begin a.start a.stride a.count (tab (E s) a.a a.n) a.at a.out.now []) (omega (arith, c))).values
 
-sub-left : tie.Need-overflow-sub-left invariant-loop decreases-loop
-sub-left c = omega arith
+overflow_sub-left : tie.Need-overflow_sub-left invariant-loop-left decreases-loop-left
+overflow_sub-left c = omega arith
 
-loop-holds : tie.Need-loop-init invariant-loop decreases-loop
-loop-holds c =
-    let e : c.before.args.count - 1 + 1 ≡ c.before.args.count = omega arith in
+loop-left-init : tie.Need-loop-left-init invariant-loop-left decreases-loop-left
+loop-left-init c =
+    let e : c.args.count - 1 + 1 ≡ c.args.count = omega arith in
     rw e (begin _ _ _ _ _ _ _)
 
-add-i : tie.Need-overflow-add-i invariant-loop decreases-loop
-add-i c = omega (arith, inside c.before, S c.before)
+overflow_add-i : tie.Need-overflow_add-i invariant-loop-left decreases-loop-left
+overflow_add-i c = omega (arith, inside c.before, S c.before)
 
-mul-out : tie.Need-overflow-mul-out invariant-loop decreases-loop
-mul-out c = omega (arith, inside c.before, S c.before)
+offset_bounds-values-i : tie.Need-offset_bounds-values-i invariant-loop-left decreases-loop-left
+offset_bounds-values-i c = omega (arith, inside c.before, S c.before)
 
-shared-slice-copy-out-out : tie.Need-shared-slice-copy-out-out invariant-loop decreases-loop
-shared-slice-copy-out-out c = inside c.before
+bounds-values-i : tie.Need-bounds-values-i invariant-loop-left decreases-loop-left
+bounds-values-i c = inside c.before
 
-mul-t19 : tie.Need-overflow-mul-t19 invariant-loop decreases-loop
-mul-t19 c = let r = room_at c.before.before in omega (arith, c.before.before, S c.before.before)
+offset_bounds-out-k : tie.Need-offset_bounds-out-k invariant-loop-left decreases-loop-left
+offset_bounds-out-k c = let r = room_at c.before.before in omega (arith, c.before.before, S c.before.before)
 
-slice-set-from-out : tie.Need-slice-set-from-out invariant-loop decreases-loop
-slice-set-from-out c = room_at c.before.before
+bounds-out-k : tie.Need-bounds-out-k invariant-loop-left decreases-loop-left
+bounds-out-k c = room_at c.before.before
 
-add-k : tie.Need-overflow-add-k invariant-loop decreases-loop
-add-k c = let r = room_at c.before.before in omega (arith, c.before.before, S c.before.before)
+overflow_add-k : tie.Need-overflow_add-k invariant-loop-left decreases-loop-left
+overflow_add-k c = let r = room_at c.before.before in omega (arith, c.before.before, S c.before.before)
 
-sub-left-2 : tie.Need-overflow-sub-left-2 invariant-loop decreases-loop
-sub-left-2 c = omega (arith, c.before)
+overflow_sub-left-in-loop-left : tie.Need-overflow_sub-left-in-loop-left invariant-loop-left decreases-loop-left
+overflow_sub-left-in-loop-left c = omega (arith, c.before)
 
-next-place-requires : tie.Need-next-place-requires invariant-loop decreases-loop
-next-place-requires c κs =
+next_place-p-requires : tie.Need-next_place-p-requires invariant-loop-left decreases-loop-left
+next_place-p-requires c κs =
     let i = c.before in
     let s = S i.before in
-    rw (read_stride s) (follows (going i.before) _ s.pre.1.0.reach (omega (arith, i)) s.pre.1.0.small)
+    rw (read_stride s) (follows (going i.before) _ s.requires.1.0.reach (omega (arith, i)) s.requires.1.0.small)
 
-loop-less : tie.Need-loop-smaller invariant-loop decreases-loop
-loop-less c = omega (arith, c.before.before)
+loop-left-smaller : tie.Need-loop-left-smaller invariant-loop-left decreases-loop-left
+loop-left-smaller c = omega (arith, c.before.before)
 
-loop-again : tie.Need-loop-preserved invariant-loop decreases-loop
+loop-left-preserved : tie.Need-loop-left-preserved invariant-loop-left decreases-loop-left
 unfolding value_of
-loop-again c =
+loop-left-preserved c =
     let i = c.before.before in
     let l = i.before in
     let s = S l in
-    let e : l.loop.left - 1 + 1 ≡ l.loop.left + 1 - 1 = omega (arith, i) in
+    let e : l.loop-left.left - 1 + 1 ≡ l.loop-left.left + 1 - 1 = omega (arith, i) in
     rw (read_stride s, e)
-    (turned (going l) (omega arith) (rw (value_is_lem l, back64 _ c.before.out.given)) (no_bits _ _)
-    (λ h. (rw (read_stride s) at c.next_place.ensures) ∙ next_is (going l) _ s.pre.1.0.reach h))
+    (turned (going l) (omega arith) (rw (value_is_lem l, back64 _ c.out-1.given)) (no_bits _ _)
+    (λ h. (rw (read_stride s) at c.next_place-p.ensures) ∙ next_is (going l) _ s.requires.1.0.reach h))
 
-add-i-2 : tie.Need-overflow-add-i-2 invariant-loop decreases-loop
-add-i-2 c = omega (arith, inside c.before, S c.before)
+overflow_add-i-2 : tie.Need-overflow_add-i-2 invariant-loop-left decreases-loop-left
+overflow_add-i-2 c = omega (arith, inside c.before, S c.before)
 
-mul-out-2 : tie.Need-overflow-mul-out-2 invariant-loop decreases-loop
-mul-out-2 c = omega (arith, inside c.before, S c.before)
+offset_bounds-values-i-2 : tie.Need-offset_bounds-values-i-2 invariant-loop-left decreases-loop-left
+offset_bounds-values-i-2 c = omega (arith, inside c.before, S c.before)
 
-shared-slice-copy-out-out-2 : tie.Need-shared-slice-copy-out-out-2 invariant-loop decreases-loop
-shared-slice-copy-out-out-2 c = inside c.before
+bounds-values-i-2 : tie.Need-bounds-values-i-2 invariant-loop-left decreases-loop-left
+bounds-values-i-2 c = inside c.before
 
-mul-t24 : tie.Need-overflow-mul-t24 invariant-loop decreases-loop
-mul-t24 c = let r = room_at c.before.before in omega (arith, c.before.before, S c.before.before)
+offset_bounds-out-k-2 : tie.Need-offset_bounds-out-k-2 invariant-loop-left decreases-loop-left
+offset_bounds-out-k-2 c = let r = room_at c.before.before in omega (arith, c.before.before, S c.before.before)
 
-slice-set-from-out-2 : tie.Need-slice-set-from-out-2 invariant-loop decreases-loop
-slice-set-from-out-2 c = room_at c.before.before
+bounds-out-k-2 : tie.Need-bounds-out-k-2 invariant-loop-left decreases-loop-left
+bounds-out-k-2 c = room_at c.before.before
 
 -- the walk with its last value written
-ended : (c : tie.After-loop invariant-loop decreases-loop) → let l = c.before in let s = S l in let a = s.args in
-    Going a.start a.stride a.count (tab (E s) a.a a.n) a.at a.out.now [] (l.loop.left + 1 - 1) (l.loop.k + 1) (set l.loop.out l.loop.k (get_or a.values.now (a.a + l.loop.p) (pos 0))) [] l.loop.p
+ended : (c : tie.After-loop-left invariant-loop-left decreases-loop-left) → let l = c.before in let s = S l in let a = s.args in
+    Going a.start a.stride a.count (tab (E s) a.a a.n) a.at a.out.now [] (l.loop-left.left + 1 - 1) (l.loop-left.k + 1) (set l.loop-left.out l.loop-left.k (get_or a.values.now (a.a + l.loop-left.p) (pos 0))) [] l.loop-left.p
 unfolding value_of
 ended c = let l = c.before in turned (going l) (omega arith) (rw (value_is_lem l)) (no_bits _ _) (λ h. let z : ⊥ = omega (arith, c) in absurd z)
 
-same_length : tie.Need-same-length invariant-loop decreases-loop
-same_length c = rw (back64 _ c.out2.given) (ended c.before).writing.lv
+shape_of-out : tie.Need-shape_of-out invariant-loop-left decreases-loop-left
+shape_of-out c = rw (back64 _ c.out-2-1.given) (ended c.before).writing.lv
 
-returns-2 : tie.Need-returns-2 invariant-loop decreases-loop
-returns-2 c = rw (back64 _ c.out2.given) (stop (ended c.before) (omega (arith, c.before))).values
+returns : tie.Need-returns invariant-loop-left decreases-loop-left
+returns c = rw (back64 _ c.out-2-1.given) (stop (ended c.before) (omega (arith, c.before))).values
 
 pub copy_places_spec : {M : Type 1} → statement M
 copy_places_spec =
     tie.close
     (tie.spec
-    invariant-loop
-    decreases-loop
-    returns
-    sub-left
-    loop-holds
-    add-i
-    mul-out
-    shared-slice-copy-out-out
-    mul-t19
-    slice-set-from-out
-    add-k
-    sub-left-2
-    next-place-requires
-    loop-less
-    loop-again
-    add-i-2
-    mul-out-2
-    shared-slice-copy-out-out-2
-    mul-t24
-    slice-set-from-out-2
-    same_length
-    returns-2)
+    invariant-loop-left
+    decreases-loop-left
+    returns-then-count-eq0
+    overflow_sub-left
+    loop-left-init
+    overflow_add-i
+    offset_bounds-values-i
+    bounds-values-i
+    offset_bounds-out-k
+    bounds-out-k
+    overflow_add-k
+    overflow_sub-left-in-loop-left
+    next_place-p-requires
+    loop-left-smaller
+    loop-left-preserved
+    overflow_add-i-2
+    offset_bounds-values-i-2
+    bounds-values-i-2
+    offset_bounds-out-k-2
+    bounds-out-k-2
+    shape_of-out
+    returns)

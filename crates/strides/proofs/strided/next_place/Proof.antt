@@ -20,25 +20,31 @@ module _ (s : tie.Start) where
   next_fits = signed (pos s.args.p +ℤ s.args.stride) s.requires.natural s.requires.small
 
   read_place : to_z w64 s.args.p ≡ pos s.args.p
-  read_place = to_z_pos w64 (omega (arith, s.pre.here))
+  read_place = to_z_pos w64 (omega (arith, s.requires.here))
 
   read_stride : to_z w64 (of_z w64 s.args.stride) ≡ s.args.stride
-  read_stride = read_back w64 s.args.stride s.fits.stride
+  read_stride = read_back w64 s.args.stride s.ranges.stride
 
   read_next : to_z w64 (of_z w64 (pos s.args.p +ℤ s.args.stride)) ≡ pos s.args.p +ℤ s.args.stride
   read_next = read_back w64 _ next_fits
 
-cast-result : tie.Need-overflow-cast-result
-cast-result c = record { sfits = omega (arith, c.requires.here) }
+overflow_cast-result : tie.Need-overflow_cast-result
+overflow_cast-result c = record { sfits = omega (arith, c.requires.here) }
 
-add-result : tie.Need-overflow-add-result
-add-result c = rw (read_place c, read_stride c) (next_fits c)
+overflow_add-result : tie.Need-overflow_add-result
+overflow_add-result c = rw (read_place c, read_stride c) (next_fits c)
 
-cast-result-2 : tie.Need-overflow-cast-result-2
-cast-result-2 c = rw (read_place c, read_stride c, read_next c) (casts w64 _ tt (next_fits c) c.requires.natural)
+overflow_cast-result-2 : tie.Need-overflow_cast-result-2
+overflow_cast-result-2 c = rw (read_place c, read_stride c, read_next c) (casts w64 _ tt (next_fits c) c.requires.natural)
 
 returns : tie.Need-returns
 returns c = rw (read_place c, read_stride c, read_next c)
 
-pub next-place_spec : {M : Type 1} → statement M
-next-place_spec = tie.close (tie.spec cast-result add-result cast-result-2 returns)
+pub next_place_spec : {M : Type 1} → statement M
+next_place_spec =
+    tie.close
+    (tie.spec
+    overflow_cast-result
+    overflow_add-result
+    overflow_cast-result-2
+    returns)

@@ -11,94 +11,94 @@ use Rattle.strides.proofs.StrideLaws.{Going, begin, room_for, here, turned, stop
 use Rattle.strides.proofs.strided.write_each_place.Statement.{statement}
 use Rattle.strides.proofs.strided.write_each_place.Tie as tie
 
-abbrev invariant-loop : tie.invariant-loop
-invariant-loop values elements estart a n start stride count out-values₀ out-elements₀ at p₀ left₀ k₀ out-values out-elements p left k =
+abbrev invariant-loop-left : tie.invariant-loop-left
+invariant-loop-left values elements estart a n start stride count out-values₀ out-elements₀ at p₀ left₀ k₀ out-values out-elements p left k =
     Going start (to_z w64 stride) count (tab (elem_at values (from estart elements)) a n) at out-values₀ out-elements₀ left k out-values out-elements p
 
-abbrev decreases-loop : tie.decreases-loop
-decreases-loop values elements estart a n start stride count out-values₀ out-elements₀ at p₀ left₀ k₀ out-values out-elements p left k = left
+abbrev decreases-loop-left : tie.decreases-loop-left
+decreases-loop-left values elements estart a n start stride count out-values₀ out-elements₀ at p₀ left₀ k₀ out-values out-elements p left k = left
 
-abbrev S : tie.At-loop invariant-loop decreases-loop → tie.Start invariant-loop decreases-loop
+abbrev S : tie.At-loop-left invariant-loop-left decreases-loop-left → tie.Start invariant-loop-left decreases-loop-left
 S l = l.before.before.before
 
-abbrev E : tie.Start invariant-loop decreases-loop → ℕ → Elem
+abbrev E : tie.Start invariant-loop-left decreases-loop-left → ℕ → Elem
 E s = elem_at s.args.values.now (from s.args.estart s.args.elements.now)
 
-read_stride : (s : tie.Start invariant-loop decreases-loop) → to_z w64 (of_z w64 s.args.stride) ≡ s.args.stride
+read_stride : (s : tie.Start invariant-loop-left decreases-loop-left) → to_z w64 (of_z w64 s.args.stride) ≡ s.args.stride
 read_stride s = read_back w64 s.args.stride s.ranges.stride
 
 -- what the loop keeps, of the stride itself
-going : (l : tie.At-loop invariant-loop decreases-loop)
-    → let s = S l in Going s.args.start s.args.stride s.args.count (tab (E s) s.args.a s.args.n) s.args.at s.args.out-values.now s.args.out-elements.now l.loop.left l.loop.k l.loop.out-values l.loop.out-elements l.loop.p
-going l = rw (read_stride (S l)) at l.loop.invariant
+going : (l : tie.At-loop-left invariant-loop-left decreases-loop-left)
+    → let s = S l in Going s.args.start s.args.stride s.args.count (tab (E s) s.args.a s.args.n) s.args.at s.args.out_values.now s.args.out_elements.now l.loop-left.left l.loop-left.k l.loop-left.out_values l.loop-left.out_elements l.loop-left.p
+going l = rw (read_stride (S l)) at l.loop-left.invariant
 
-below : (c : tie.In-loop invariant-loop decreases-loop) → c.before.loop.p < (S c.before).args.n
-below c = here (going c.before) _ (S c.before).pre.1.0.reach c.loop-test.true
+below : (c : tie.In-loop-left invariant-loop-left decreases-loop-left) → c.loop-left.p < (S c.before).args.n
+below c = here (going c.before) _ (S c.before).pre.1.0.reach c.loop-left-test.true
 
-loop-holds : tie.Need-loop-init invariant-loop decreases-loop
-loop-holds c = begin _ _ _ _ _ _ _
+loop-left-init : tie.Need-loop-left-init invariant-loop-left decreases-loop-left
+loop-left-init c = begin _ _ _ _ _ _ _
 
-add-i : tie.Need-overflow-add-i invariant-loop decreases-loop
-add-i c = omega (arith, c, below c, (S c.before).pre.0.inside)
+overflow_add-i : tie.Need-overflow_add-i invariant-loop-left decreases-loop-left
+overflow_add-i c = omega (arith, c, below c, (S c.before).pre.0.inside)
 
-write-elem-requires : tie.Need-write-elem-requires invariant-loop decreases-loop
-write-elem-requires c κs =
+write_elem-requires : tie.Need-write_elem-requires invariant-loop-left decreases-loop-left
+write_elem-requires c κs =
     let i = c.before.before in
     let s = S i.before in
-    (omega (arith, below i, s.pre.0.inside), (s.pre.0.bits, room_for (going i.before) i.loop-test.true s.pre.1.1))
+    (omega (arith, below i, s.requires.0.inside), (s.requires.0.bits, room_for (going i.before) i.loop-left-test.true s.requires.1.1))
 
-add-k : tie.Need-overflow-add-k invariant-loop decreases-loop
-add-k c =
+overflow_add-k : tie.Need-overflow_add-k invariant-loop-left decreases-loop-left
+overflow_add-k c =
     let i = c.before.before.before.before.before.before in
-    let r = room_for (going i.before) i.loop-test.true (S i.before).pre.1.1 in
+    let r = room_for (going i.before) i.loop-left-test.true (S i.before).pre.1.1 in
     omega (arith, i, S i.before)
 
-sub-left : tie.Need-overflow-sub-left invariant-loop decreases-loop
-sub-left c = omega (arith, c.before.before.before.before.before.before)
+overflow_sub-left : tie.Need-overflow_sub-left invariant-loop-left decreases-loop-left
+overflow_sub-left c = omega (arith, c.before.before.before.before.before.before)
 
-place-after-requires : tie.Need-place-after-requires invariant-loop decreases-loop
-place-after-requires c κs =
+place_after-p-requires : tie.Need-place_after-p-requires invariant-loop-left decreases-loop-left
+place_after-p-requires c κs =
     λ h. let i = c.before.before.before.before.before.before in
     let s = S i.before in
-    rw (read_stride s) (follows (going i.before) _ s.pre.1.0.reach h s.pre.1.0.small)
+    rw (read_stride s) (follows (going i.before) _ s.requires.1.0.reach h s.requires.1.0.small)
 
-loop-less : tie.Need-loop-smaller invariant-loop decreases-loop
-loop-less c = omega (arith, c.before.before.before.before.before.before.before)
+loop-left-smaller : tie.Need-loop-left-smaller invariant-loop-left decreases-loop-left
+loop-left-smaller c = omega (arith, c.before.before.before.before.before.before.before)
 
-loop-again : tie.Need-loop-preserved invariant-loop decreases-loop
-loop-again c =
-    let w = c.before.before.before.before.write-elem in
+loop-left-preserved : tie.Need-loop-left-preserved invariant-loop-left decreases-loop-left
+loop-left-preserved c =
+    let w = c.write_elem in
     let i = c.before.before.before.before.before.before.before in
     let g = going i.before in
     let s = S i.before in
-    let e = taken_is (E s) s.args.a s.args.n s.args.start s.args.stride _ _ (g.place i.loop-test.true) (below i) in
+    let e = taken_is (E s) s.args.a s.args.n s.args.start s.args.stride _ _ (g.place i.loop-left-test.true) (below i) in
     rw (read_stride s)
-    (turned g i.loop-test.true (rw e w.ensures.0) (rw e w.ensures.1)
-    (λ h. (rw (read_stride s) at (c.place_after.ensures h)) ∙ next_is g _ s.pre.1.0.reach h))
+    (turned g i.loop-left-test.true (rw e w.ensures.0) (rw e w.ensures.1)
+    (λ h. (rw (read_stride s) at (c.place_after-p.ensures h)) ∙ next_is g _ s.requires.1.0.reach h))
 
-same_length : tie.Need-same-length invariant-loop decreases-loop
-same_length c = (going c.before).writing.lv
+shape_of-out_values : tie.Need-shape_of-out_values invariant-loop-left decreases-loop-left
+shape_of-out_values c = (going c.before).writing.lv
 
-same-length-2 : tie.Need-same-length-2 invariant-loop decreases-loop
-same-length-2 c = (going c.before).writing.le
+shape_of-out_elements : tie.Need-shape_of-out_elements invariant-loop-left decreases-loop-left
+shape_of-out_elements c = (going c.before).writing.le
 
-returns : tie.Need-returns invariant-loop decreases-loop
-returns c = stop (going c.before) c.loop-test.false
+returns : tie.Need-returns invariant-loop-left decreases-loop-left
+returns c = stop (going c.before) c.loop-left-test.false
 
 pub write_each_place_spec : {M : Type 1} → statement M
 write_each_place_spec =
     tie.close
     (tie.spec
-    invariant-loop
-    decreases-loop
-    loop-holds
-    add-i
-    write-elem-requires
-    add-k
-    sub-left
-    place-after-requires
-    loop-less
-    loop-again
-    same_length
-    same-length-2
+    invariant-loop-left
+    decreases-loop-left
+    loop-left-init
+    overflow_add-i
+    write_elem-requires
+    overflow_add-k
+    overflow_sub-left
+    place_after-p-requires
+    loop-left-smaller
+    loop-left-preserved
+    shape_of-out_values
+    shape_of-out_elements
     returns)

@@ -14,23 +14,23 @@ module _ (s : tie.Start) where
   read_stride : to_z w64 (of_z w64 s.args.stride) ≡ s.args.stride
   read_stride = read_back w64 s.args.stride s.ranges.stride
 
-  room : (s.args.at + s.args.count ≤ length s.args.out-values.now) × (bytes_for (s.args.at + s.args.count) ≤ length s.args.out-elements.now)
-  room = places-room _ _ _ _ s.pre.1.1.0
+  room : (s.args.at + s.args.count ≤ length s.args.out_values.now) × (bytes_for (s.args.at + s.args.count) ≤ length s.args.out_elements.now)
+  room = places-room _ _ _ _ s.requires.1.1.0
 
-copy-places-requires : tie.Need-copy-places-requires
-copy-places-requires c κs = let s = c.before.before.before in rw (read_stride s) (s.requires.0.inside, (s.requires.1.0, (room s).0))
+copy_places-requires : tie.Need-copy_places-requires
+copy_places-requires c κs = let s = c.before.before.before in rw (read_stride s) (s.requires.0.inside, (s.requires.1.0, (room s).0))
 
-push-same-requires : tie.Need-push-same-requires
-push-same-requires c κs = (room c.before.before.before.before.before.before).1
+push_same-requires : tie.Need-push_same-requires
+push_same-requires c κs = (room c.before.before.before.before.before.before).1
 
-add-result : tie.Need-overflow-add-result
-add-result c = let s = c.before.before.before.before.before.before.before.before.before in omega (arith, room s, s)
+overflow_add-result : tie.Need-overflow_add-result
+overflow_add-result c = let s = c.before.before.before.before.before.before.before.before.before in omega (arith, room s, s)
 
-same_length : tie.Need-same-length
-same_length c = search
+shape_of-out_values : tie.Need-shape_of-out_values
+shape_of-out_values c = search
 
-same-length-2 : tie.Need-same-length-2
-same-length-2 c = search
+shape_of-out_elements : tie.Need-shape_of-out_elements
+shape_of-out_elements c = search
 
 returns : tie.Need-returns
 returns c =
@@ -38,16 +38,16 @@ returns c =
     let s = p.before.before.before.before.before.before.before in
     let a = s.args in
     plain-written a.values.now (from a.estart a.elements.now) s.requires.1.1.1 a.a a.n a.start a.stride a.count a.at s.requires.1.0.reach
-    (rw (read_stride s) at p.before.before.before.copy_places.ensures)
-    p.push-same.ensures
+    (rw (read_stride s) at p.copy_places.ensures)
+    p.push_same.ensures
 
-pub write_plain-places_spec : {M : Type 1} → statement M
-write_plain-places_spec =
+pub write_plain_places_spec : {M : Type 1} → statement M
+write_plain_places_spec =
     tie.close
     (tie.spec
-    copy-places-requires
-    push-same-requires
-    add-result
-    same_length
-    same-length-2
+    copy_places-requires
+    push_same-requires
+    overflow_add-result
+    shape_of-out_values
+    shape_of-out_elements
     returns)

@@ -27,73 +27,73 @@ module _ (s : tie.Start) where
   es = sliced s.args.start s.args.stride s.args.count (tab E s.args.a s.args.n)
 
   -- nothing is written yet
-  none : Writing es s.args.at s.args.out-values.now s.args.out-elements.now es s.args.at s.args.out-values.now s.args.out-elements.now
+  none : Writing es s.args.at s.args.out_values.now s.args.out_elements.now es s.args.at s.args.out_values.now s.args.out_elements.now
   none = begun es refl
 
 -- stride 1
-module _ (e : tie.Else2) where
+module _ (e : tie.Else-count-eq0) where
   abbrev S : tie.Start
   S = e.before.before.before.before
 
   one : S.args.stride ≡ pos 1
-  one = sym (read_stride S) ∙ ap (to_z w64) e.before.if1.left
+  one = sym (read_stride S) ∙ ap (to_z w64) e.if-stride-ne1.false
 
   some : 0 < S.args.count
   some = omega (arith, e)
 
   inside : S.args.start + S.args.count ≤ S.args.n
-  inside = run_inside S.args.a S.args.n S.args.start S.args.stride S.args.count one (S.pre.1.0.reach some) some
+  inside = run_inside S.args.a S.args.n S.args.start S.args.stride S.args.count one (S.requires.1.0.reach some) some
 
   run : es S ≡ tab (E S) (S.args.a + S.args.start) S.args.count
-  run = sliced_run S.args.a S.args.n S.args.start S.args.stride S.args.count one (S.pre.1.0.reach some) (E S)
+  run = sliced_run S.args.a S.args.n S.args.start S.args.stride S.args.count one (S.requires.1.0.reach some) (E S)
 
-write-places-requires : tie.Need-write-places-requires
-write-places-requires c κs = let s = c.before.before.before.before.before in rw (read_stride s) s.requires
+write_places-requires : tie.Need-write_places-requires
+write_places-requires c κs = let s = c.before.before.before.before.before in rw (read_stride s) s.requires
 
-same_length : tie.Need-same-length
-same_length c = search
+shape_of-out_values-then-stride-ne1 : tie.Need-shape_of-out_values-then-stride-ne1
+shape_of-out_values-then-stride-ne1 c = search
 
-same-length-2 : tie.Need-same-length-2
-same-length-2 c = search
+shape_of-out_elements-then-stride-ne1 : tie.Need-shape_of-out_elements-then-stride-ne1
+shape_of-out_elements-then-stride-ne1 c = search
 
-returns : tie.Need-returns
-returns c = let s = c.before.before.before.before.before.before.before.before.before in rw (read_stride s) at c.before.before.before.write-places.ensures
+returns-then-stride-ne1 : tie.Need-returns-then-stride-ne1
+returns-then-stride-ne1 c = let s = c.before.before.before.before.before.before.before.before.before in rw (read_stride s) at c.write_places.ensures
 
-returns-2 : tie.Need-returns-2
-returns-2 c = done (none c.before.before.before.before) (sliced-none _ _ _ _ c.if2.true)
+returns-then-count-eq0 : tie.Need-returns-then-count-eq0
+returns-then-count-eq0 c = done (none c.before.before.before.before) (sliced-none _ _ _ _ c.if-count-eq0.true)
 
-add-first : tie.Need-overflow-add-first
-add-first c = omega (arith, inside c, S c, (S c).requires.0.inside)
+overflow_add-first : tie.Need-overflow_add-first
+overflow_add-first c = omega (arith, inside c, S c, (S c).requires.0.inside)
 
-write-forward-requires : tie.Need-write-forward-requires
-write-forward-requires c κs =
+write_forward-requires : tie.Need-write_forward-requires
+write_forward-requires c κs =
     let e = c.before.before in
     let s = S e in
-    (record { inside = omega (arith, inside e, s.pre.0.inside); bits = s.pre.0.bits }, last-room (none s) _ (run e) s.pre.1.1)
+    (record { inside = omega (arith, inside e, s.requires.0.inside); bits = s.requires.0.bits }, last-room (none s) _ (run e) s.requires.1.1)
 
-same-length-3 : tie.Need-same-length-3
-same-length-3 c = search
+shape_of-out_values : tie.Need-shape_of-out_values
+shape_of-out_values c = search
 
-same-length-4 : tie.Need-same-length-4
-same-length-4 c = search
+shape_of-out_elements : tie.Need-shape_of-out_elements
+shape_of-out_elements c = search
 
-returns-3 : tie.Need-returns-3
-returns-3 c =
+returns : tie.Need-returns
+returns c =
     let w = c.before.before.before in
     let e = w.before.before.before in
-    last_written (none (S e)) _ (run e) w.write-forward.ensures
+    last_written (none (S e)) _ (run e) w.write_forward.ensures
 
 pub write_strided_spec : {M : Type 1} → statement M
 write_strided_spec =
     tie.close
     (tie.spec
-    write-places-requires
-    same_length
-    same-length-2
-    returns
-    returns-2
-    add-first
-    write-forward-requires
-    same-length-3
-    same-length-4
-    returns-3)
+    write_places-requires
+    shape_of-out_values-then-stride-ne1
+    shape_of-out_elements-then-stride-ne1
+    returns-then-stride-ne1
+    returns-then-count-eq0
+    overflow_add-first
+    write_forward-requires
+    shape_of-out_values
+    shape_of-out_elements
+    returns)

@@ -4,38 +4,38 @@ use borrow.Author.Rules.{rules}
 use Rattle.tally.proofs.Tally.with_finished.Statement.{statement}
 use Rattle.tally.proofs.Tally.with_finished.Tie as tie
 
+returns-then-station-gt15 : tie.Need-returns-then-station-gt15
+returns-then-station-gt15 c = no_station _ _ _ c.if-station-gt15.true
+
+offset_bounds-next-at : tie.Need-offset_bounds-next-at
+offset_bounds-next-at c = search rules
+
+bounds-next-at : tie.Need-bounds-next-at
+bounds-next-at c = search rules
+
+one_more-requires : tie.Need-one_more-requires
+one_more-requires c κs = tt
+
+offset_bounds-next-at-2 : tie.Need-offset_bounds-next-at-2
+offset_bounds-next-at-2 c = search rules
+
+bounds-next-at-2 : tie.Need-bounds-next-at-2
+bounds-next-at-2 c = search rules
+
 returns : tie.Need-returns
-returns c = no_station _ _ _ c.if1.true
-
-mul-n : tie.Need-overflow-mul-n
-mul-n c = search rules
-
-element-copy-out-n : tie.Need-element-copy-out-n
-element-copy-out-n c = search rules
-
-one-more-requires : tie.Need-one-more-requires
-one-more-requires c κs = tt
-
-mul_next : tie.Need-overflow-mul-next
-mul_next c = search rules
-
-element-write-next : tie.Need-element-write-next
-element-write-next c = search rules
-
-returns-2 : tie.Need-returns-2
-returns-2 c =
+returns c =
     let e = c.before.before in
-    let a = e.before.args in
-    finished_stored a.station (tally_of a.self) e.if1.false c.one_more.ensures
+    let a = e.args in
+    finished_stored a.station (tally_of a.self) e.if-station-gt15.false c.one_more.ensures
 
 pub with_finished_spec : {M : Type 1} → statement M
 with_finished_spec =
     tie.close
     (tie.spec
-    returns
-    mul-n
-    element-copy-out-n
-    one-more-requires
-    mul_next
-    element-write-next
-    returns-2)
+    returns-then-station-gt15
+    offset_bounds-next-at
+    bounds-next-at
+    one_more-requires
+    offset_bounds-next-at-2
+    bounds-next-at-2
+    returns)

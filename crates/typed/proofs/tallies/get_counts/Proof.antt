@@ -16,56 +16,56 @@ use Rattle.typed.proofs.tallies.get_counts.Tie as tie
 unfoldable count : List ℕ → ℕ → ℕ → ℕ
 count s at k = get_or s (at + k) 0
 
-abbrev invariant-loop : tie.invariant-loop
-invariant-loop s at counts₀ i₀ counts i = Reading (count s at) 16 counts₀ counts i
+abbrev invariant-loop-i : tie.invariant-loop-i
+invariant-loop-i s at counts₀ i₀ counts i = Reading (count s at) 16 counts₀ counts i
 
-abbrev decreases-loop : tie.decreases-loop
-decreases-loop s at counts₀ i₀ counts i = 16 - i
+abbrev decreases-loop-i : tie.decreases-loop-i
+decreases-loop-i s at counts₀ i₀ counts i = 16 - i
 
-loop-holds : tie.Need-loop-init invariant-loop decreases-loop
-loop-holds c = begun (count c.before.args.s.now c.before.args.at) _ _
+loop-i-init : tie.Need-loop-i-init invariant-loop-i decreases-loop-i
+loop-i-init c = begun (count c.args.s.now c.args.at) _ _
 
-add-count-at : tie.Need-overflow-add-count-at invariant-loop decreases-loop
-add-count-at c = omega (arith, c.before.before.before.requires, c.before.loop.invariant.within, c.loop-test.true)
+overflow_add-at : tie.Need-overflow_add-at invariant-loop-i decreases-loop-i
+overflow_add-at c = omega (arith, c.requires, c.loop-i.invariant.within, c.loop-i-test.true)
 
-count-at-requires : tie.Need-count-at-requires invariant-loop decreases-loop
-count-at-requires c κs = tt
+count_at-requires : tie.Need-count_at-requires invariant-loop-i decreases-loop-i
+count_at-requires c κs = tt
 
-mul-counts : tie.Need-overflow-mul-counts invariant-loop decreases-loop
-mul-counts c = omega arith
+offset_bounds-counts-i : tie.Need-offset_bounds-counts-i invariant-loop-i decreases-loop-i
+offset_bounds-counts-i c = omega arith
 
-array-write-counts : tie.Need-array-write-counts invariant-loop decreases-loop
-array-write-counts c = c.before.loop-test.true
+bounds-counts-i : tie.Need-bounds-counts-i invariant-loop-i decreases-loop-i
+bounds-counts-i c = c.loop-i-test.true
 
-add-i : tie.Need-overflow-add-i invariant-loop decreases-loop
-add-i c = omega arith
+overflow_add-i : tie.Need-overflow_add-i invariant-loop-i decreases-loop-i
+overflow_add-i c = omega arith
 
-loop-less : tie.Need-loop-smaller invariant-loop decreases-loop
-loop-less c = omega arith
+loop-i-smaller : tie.Need-loop-i-smaller invariant-loop-i decreases-loop-i
+loop-i-smaller c = omega arith
 
-loop-again : tie.Need-loop-preserved invariant-loop decreases-loop
+loop-i-preserved : tie.Need-loop-i-preserved invariant-loop-i decreases-loop-i
 unfolding count
-loop-again c = let a = c.before.before.before.before.args in turned (count a.s.now a.at) _ _ _ _ _ c.before.before.loop.invariant c.before.loop-test.true (omega arith) c.count_at.ensures
+loop-i-preserved c = let a = c.args in turned (count a.s.now a.at) _ _ _ _ _ c.loop-i.invariant c.loop-i-test.true (omega arith) c.count_at.ensures
 
-returns : tie.Need-returns invariant-loop decreases-loop
+returns : tie.Need-returns invariant-loop-i decreases-loop-i
 unfolding counts_at count
 returns c =
-    let a = c.before.before.before.args in
+    let a = c.args in
     let f = count a.s.now a.at in
-    done f _ _ _ _ c.before.loop.invariant c.loop-test.false ∙ whole (tab f 0 16) _ (sym (length-tab f 0 16))
+    done f _ _ _ _ c.loop-i.invariant c.loop-i-test.false ∙ whole (tab f 0 16) _ (sym (length-tab f 0 16))
 
 pub get_counts_spec : {M : Type 1} → statement M
 get_counts_spec =
     tie.close
     (tie.spec
-    invariant-loop
-    decreases-loop
-    loop-holds
-    add-count-at
-    count-at-requires
-    mul-counts
-    array-write-counts
-    add-i
-    loop-less
-    loop-again
+    invariant-loop-i
+    decreases-loop-i
+    loop-i-init
+    overflow_add-at
+    count_at-requires
+    offset_bounds-counts-i
+    bounds-counts-i
+    overflow_add-i
+    loop-i-smaller
+    loop-i-preserved
     returns)

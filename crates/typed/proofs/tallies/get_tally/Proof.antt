@@ -4,14 +4,19 @@ use Rattle.typed.proofs.RecipeLaws.{tally_is}
 use Rattle.typed.proofs.tallies.get_tally.Statement.{statement}
 use Rattle.typed.proofs.tallies.get_tally.Tie as tie
 
-get-counts-requires : tie.Need-get-counts-requires
-get-counts-requires c κs = omega arith
+get_counts-finished-requires : tie.Need-get_counts-finished-requires
+get_counts-finished-requires c κs = omega arith
 
-get-counts-requires-2 : tie.Need-get-counts-requires-2
-get-counts-requires-2 c κs = omega arith
+get_counts-refused-requires : tie.Need-get_counts-refused-requires
+get_counts-refused-requires c κs = omega arith
 
 returns : tie.Need-returns
-returns c = tally_is _ c.before.get-counts.ensures c.get-counts2.ensures
+returns c = tally_is _ c.get_counts-finished.ensures c.get_counts-refused.ensures
 
 pub get_tally_spec : {M : Type 1} → statement M
-get_tally_spec = tie.close (tie.spec get-counts-requires get-counts-requires-2 returns)
+get_tally_spec =
+    tie.close
+    (tie.spec
+    get_counts-finished-requires
+    get_counts-refused-requires
+    returns)

@@ -5,12 +5,16 @@ use Rattle.typed.proofs.windows.end_for.Reads as reads
 use Rattle.typed.proofs.windows.end_for.Lts as lts
 
 -- src/windows.rt:25:9
-returns : tie.Need-returns
-returns c = rw (lt-ltb _ 4 c.if1.true)
+returns-then-counts-lt4 : tie.Need-returns-then-counts-lt4
+returns-then-counts-lt4 c = rw (lt-ltb _ 4 c.if-counts-lt4.true)
 
 -- src/windows.rt:21:1
-returns-2 : tie.Need-returns-2
-returns-2 c = rw (le-ltb _ 4 c.if1.false)
+returns : tie.Need-returns
+returns c = rw (le-ltb _ 4 c.if-counts-lt4.false)
 
 pub end_for_spec : {M : Type 1} → statement M
-end_for_spec = tie.close (tie.spec returns returns-2)
+end_for_spec =
+    tie.close
+    (tie.spec
+    returns-then-counts-lt4
+    returns)

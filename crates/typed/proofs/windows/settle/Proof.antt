@@ -9,20 +9,26 @@ use Rattle.typed.proofs.windows.settle.Lts as lts
 use Rattle.typed.proofs.put_list.Reads as put-list-reads
 
 -- src/windows.rt:35:9
-returns : tie.Need-returns
-returns c = short-told _ _ (lt-ltb _ 4 c.if1.true)
+returns-then-counts-lt4 : tie.Need-returns-then-counts-lt4
+returns-then-counts-lt4 c = short-told _ _ (lt-ltb _ 4 c.if-counts-lt4.true)
 
 -- src/windows.rt:37:5
-put-list-requires : tie.Need-put-list-requires
-put-list-requires c κs = search rules
+put_list-requires : tie.Need-put_list-requires
+put_list-requires c κs = search rules
 
 -- src/windows.rt:31:1
-same_length : tie.Need-same-length
-same_length c = search rules
+shape_of-counts : tie.Need-shape_of-counts
+shape_of-counts c = search rules
 
 -- src/windows.rt:31:1
-returns-2 : tie.Need-returns-2
-returns-2 c = let p = c.before.before in long-told _ _ (le-ltb _ 4 p.before.before.if1.false) p.put-list.ensures
+returns : tie.Need-returns
+returns c = let p = c.before.before in long-told _ _ (le-ltb _ 4 p.if-counts-lt4.false) p.put_list.ensures
 
 pub settle_spec : {M : Type 1} → statement M
-settle_spec = tie.close (tie.spec returns put-list-requires same_length returns-2)
+settle_spec =
+    tie.close
+    (tie.spec
+    returns-then-counts-lt4
+    put_list-requires
+    shape_of-counts
+    returns)

@@ -16,52 +16,52 @@ use Rattle.value_places.proofs.extract.element_place.Statement.{statement}
 use Rattle.value_places.proofs.extract.element_place.Tie as tie
 
 -- what the index points at, of the number read
-ens : (c : tie.After-index-bound) → let a = c.before.before.before.before.before.args in c.index-bound.result ≡ place_or (index_bound (limits_at a.width) a.k (get_or a.indexes.now a.r (pos 0))) a.k
-ens c = rw (read_back w64 _ (record { sfits = c.before.index-bound-arg.given })) at c.index-bound.ensures
+ens : (c : tie.After-index_bound) → let a = c.args in c.index_bound.result ≡ place_or (index_bound (limits_at a.width) a.k (get_or a.indexes.now a.r (pos 0))) a.k
+ens c = rw (read_back w64 _ (record { sfits = c.index_bound-arg-1.given })) at c.index_bound.ensures
 
-is-valid-requires : tie.Need-is-valid-requires
-is-valid-requires c κs = search
+is_valid-requires : tie.Need-is_valid-requires
+is_valid-requires c κs = search
 
-add-result : tie.Need-overflow-add-result
-add-result c = let s = c.before.before.before in omega (arith, s.requires.1.1.1.0, s.requires.1.1.1.1, (limits-fit s.args.width).offset)
+overflow_add-result : tie.Need-overflow_add-result
+overflow_add-result c = let s = c.before.before.before in omega (arith, s.requires.1.1.1.0, s.requires.1.1.1.1, (limits-fit s.args.width).offset)
 
-returns : tie.Need-returns
-returns c =
-    let a = c.before.before.before.args in
-    sym (place_null (limits_at a.width) a.indexes.now (from a.istart a.index-bits.now) a.r a.a a.k (sym c.before.is-valid.ensures ∙ not-true _ c.if1.true))
+returns-then-not-is_valid : tie.Need-returns-then-not-is_valid
+returns-then-not-is_valid c =
+    let a = c.args in
+    sym (place_null (limits_at a.width) a.indexes.now (from a.istart a.index_bits.now) a.r a.a a.k (sym c.is_valid.ensures ∙ not-true _ c.if-not-is_valid.true))
 
-mul-index-bound : tie.Need-overflow-mul-index-bound
-mul-index-bound c = search rules
+offset_bounds-indexes-r : tie.Need-offset_bounds-indexes-r
+offset_bounds-indexes-r c = search rules
 
-shared-slice-copy-out-index-bound : tie.Need-shared-slice-copy-out-index-bound
-shared-slice-copy-out-index-bound c = search rules
+bounds-indexes-r : tie.Need-bounds-indexes-r
+bounds-indexes-r c = search rules
 
-index-bound-requires : tie.Need-index-bound-requires
-index-bound-requires c κs = search
+index_bound-requires : tie.Need-index_bound-requires
+index_bound-requires c κs = search
 
-add-result-2 : tie.Need-overflow-add-result-2
-add-result-2 c =
+overflow_add-result-2 : tie.Need-overflow_add-result-2
+overflow_add-result-2 c =
     let s = c.before.before.before.before.before in
     let a = s.args in
     omega (arith, ens c, place-most (limits_at a.width) a.k (get_or a.indexes.now a.r (pos 0)), s.requires.1.1.1.0, s.requires.1.1.1.1, (limits-fit a.width).offset)
 
-returns-2 : tie.Need-returns-2
-returns-2 c =
+returns : tie.Need-returns
+returns c =
     let e = c.before.before in
-    let a = e.before.before.before.args in
+    let a = e.args in
     let z = get_or a.indexes.now a.r (pos 0) in
     rw (ens c)
-    (sym (place_valid (limits_at a.width) a.indexes.now (from a.istart a.index-bits.now) a.r a.a a.k (sym e.before.is-valid.ensures ∙ not-false _ e.if1.false) ∙ bound_place_lem (index_bound (limits_at a.width) a.k z) a.a a.k))
+    (sym (place_valid (limits_at a.width) a.indexes.now (from a.istart a.index_bits.now) a.r a.a a.k (sym e.is_valid.ensures ∙ not-false _ e.if-not-is_valid.false) ∙ bound_place_lem (index_bound (limits_at a.width) a.k z) a.a a.k))
 
-pub element-place_spec : {M : Type 1} → statement M
-element-place_spec =
+pub element_place_spec : {M : Type 1} → statement M
+element_place_spec =
     tie.close
     (tie.spec
-    is-valid-requires
-    add-result
-    returns
-    mul-index-bound
-    shared-slice-copy-out-index-bound
-    index-bound-requires
-    add-result-2
-    returns-2)
+    is_valid-requires
+    overflow_add-result
+    returns-then-not-is_valid
+    offset_bounds-indexes-r
+    bounds-indexes-r
+    index_bound-requires
+    overflow_add-result-2
+    returns)

@@ -10,64 +10,64 @@ use mathlib.Core.Path.{◌≡◌, refl, sym, ◌∙◌}
 use Rattle.value_places.proofs.extract.first_valid.Statement.{statement}
 use Rattle.value_places.proofs.extract.first_valid.Tie as tie
 
-abbrev invariant-loop : tie.invariant-loop
-invariant-loop values elements estart a n p₀ left₀ p left = (first_valid (tab (elem_at values (from estart elements)) p left) ≡ first_valid (tab (elem_at values (from estart elements)) a n)) × (p + left ≡ a + n)
+abbrev invariant-loop-left : tie.invariant-loop-left
+invariant-loop-left values elements estart a n p₀ left₀ p left = (first_valid (tab (elem_at values (from estart elements)) p left) ≡ first_valid (tab (elem_at values (from estart elements)) a n)) × (p + left ≡ a + n)
 
-abbrev decreases-loop : tie.decreases-loop
-decreases-loop values elements estart a n p₀ left₀ p left = left
+abbrev decreases-loop-left : tie.decreases-loop-left
+decreases-loop-left values elements estart a n p₀ left₀ p left = left
 
-loop-holds : tie.Need-loop-init invariant-loop decreases-loop
-loop-holds c = (refl, refl)
+loop-left-init : tie.Need-loop-left-init invariant-loop-left decreases-loop-left
+loop-left-init c = (refl, refl)
 
-is-valid-requires : tie.Need-is-valid-requires invariant-loop decreases-loop
-is-valid-requires c κs = let s = c.before.before.before in (s.requires.bits, omega (arith, c, s.requires.inside))
+is_valid-requires : tie.Need-is_valid-requires invariant-loop-left decreases-loop-left
+is_valid-requires c κs = let s = c.before.before.before in (s.requires.bits, omega (arith, c, s.requires.inside))
 
-returns : tie.Need-returns invariant-loop decreases-loop
+returns-then-is_valid : tie.Need-returns-then-is_valid invariant-loop-left decreases-loop-left
+returns-then-is_valid c =
+    let i = c.before.before in
+    let l = c.loop-left in
+    let a = c.args in
+    let E = elem_at a.values.now (from a.estart a.elements.now) in
+    let v = is_val_elem a.values.now (from a.estart a.elements.now) l.p ∙ sym c.is_valid.ensures ∙ c.if-is_valid.true in
+    record { inside = omega (arith, i); found = found_here E l.p _ (omega (arith, i)) ∙ sym (first_now E l.p l.left i.loop-left-test.true v) ∙ l.invariant.0 }
+
+overflow_add-p : tie.Need-overflow_add-p invariant-loop-left decreases-loop-left
+overflow_add-p c = omega (arith, c.before.before, c.requires.inside)
+
+overflow_sub-left : tie.Need-overflow_sub-left invariant-loop-left decreases-loop-left
+overflow_sub-left c = omega (arith, c.before.before)
+
+loop-left-smaller : tie.Need-loop-left-smaller invariant-loop-left decreases-loop-left
+loop-left-smaller c = omega (arith, c.before.before)
+
+loop-left-preserved : tie.Need-loop-left-preserved invariant-loop-left decreases-loop-left
+loop-left-preserved c =
+    let i = c.before.before in
+    let l = c.loop-left in
+    let a = c.args in
+    let E = elem_at a.values.now (from a.estart a.elements.now) in
+    let v = is_val_elem a.values.now (from a.estart a.elements.now) l.p ∙ sym c.is_valid.ensures ∙ c.if-is_valid.false in
+    (sym (first_on E l.p l.left i.loop-left-test.true v) ∙ l.invariant.0, omega (arith, i))
+
+returns : tie.Need-returns invariant-loop-left decreases-loop-left
 returns c =
-    let i = c.before.before in
-    let l = c.before.before.before.loop in
-    let a = c.before.before.before.before.before.args in
-    let E = elem_at a.values.now (from a.estart a.elements.now) in
-    let v = is_val_elem a.values.now (from a.estart a.elements.now) l.p ∙ sym c.before.is-valid.ensures ∙ c.if1.true in
-    record { inside = omega (arith, i); found = found_here E l.p _ (omega (arith, i)) ∙ sym (first_now E l.p l.left i.loop-test.true v) ∙ l.invariant.0 }
-
-add-p : tie.Need-overflow-add-p invariant-loop decreases-loop
-add-p c = omega (arith, c.before.before, c.before.before.before.before.before.requires.inside)
-
-sub-left : tie.Need-overflow-sub-left invariant-loop decreases-loop
-sub-left c = omega (arith, c.before.before)
-
-loop-less : tie.Need-loop-smaller invariant-loop decreases-loop
-loop-less c = omega (arith, c.before.before)
-
-loop-again : tie.Need-loop-preserved invariant-loop decreases-loop
-loop-again c =
-    let i = c.before.before in
-    let l = c.before.before.before.loop in
-    let a = c.before.before.before.before.before.args in
-    let E = elem_at a.values.now (from a.estart a.elements.now) in
-    let v = is_val_elem a.values.now (from a.estart a.elements.now) l.p ∙ sym c.before.is-valid.ensures ∙ c.if1.false in
-    (sym (first_on E l.p l.left i.loop-test.true v) ∙ l.invariant.0, omega (arith, i))
-
-returns-2 : tie.Need-returns-2 invariant-loop decreases-loop
-returns-2 c =
-    let l = c.before.loop in
-    let a = c.before.before.before.args in
+    let l = c.loop-left in
+    let a = c.args in
     let E = elem_at a.values.now (from a.estart a.elements.now) in
     let q : l.p ≡ a.a + a.n = omega arith in
-    record { inside = omega arith; found = rw q (found-end E (a.a + a.n)) ∙ sym (first-none E l.p l.left c.loop-test.false) ∙ l.invariant.0 }
+    record { inside = omega arith; found = rw q (found-end E (a.a + a.n)) ∙ sym (first-none E l.p l.left c.loop-left-test.false) ∙ l.invariant.0 }
 
 pub first_valid_spec : {M : Type 1} → statement M
 first_valid_spec =
     tie.close
     (tie.spec
-    invariant-loop
-    decreases-loop
-    loop-holds
-    is-valid-requires
-    returns
-    add-p
-    sub-left
-    loop-less
-    loop-again
-    returns-2)
+    invariant-loop-left
+    decreases-loop-left
+    loop-left-init
+    is_valid-requires
+    returns-then-is_valid
+    overflow_add-p
+    overflow_sub-left
+    loop-left-smaller
+    loop-left-preserved
+    returns)

@@ -3,35 +3,35 @@ use Rattle.index.proofs.SignedLaws.{read_back}
 use Rattle.value_places.proofs.extract.index_bound.Statement.{statement}
 use Rattle.value_places.proofs.extract.index_bound.Tie as tie
 
-enum_told : tie.Need-enum-told
-enum_told c = search
+enum_told-1 : tie.Need-enum_told-1
+enum_told-1 c = search
 
-adjusted-array-index-requires : tie.Need-adjusted-array-index-requires
-adjusted-array-index-requires c κs = rw c.enum_told.given.1 at c.before.before.requires
+adjusted_array_index-requires : tie.Need-adjusted_array_index-requires
+adjusted_array_index-requires c κs = rw c.in-Narrow.is at c.requires
 
-enum-told-2 : tie.Need-enum-told-2
-enum-told-2 c = search
+enum_told-in-Wide : tie.Need-enum_told-in-Wide
+enum_told-in-Wide c = search
 
-adjusted-array-index-requires-2 : tie.Need-adjusted-array-index-requires-2
-adjusted-array-index-requires-2 c κs = rw c.enum-told2.given.1 at c.before.before.requires
+adjusted_array_index-requires-in-Wide : tie.Need-adjusted_array_index-requires-in-Wide
+adjusted_array_index-requires-in-Wide c κs = rw c.in-Wide.is at c.requires
 
-returns : tie.Need-returns
-returns c =
-    let s = c.before.before.before in
-    rw c.before.enum_told.given.1 (rw (read_back w64 s.args.index s.ranges.index) at c.adjusted-array-index.ensures)
+returns-in-Narrow : tie.Need-returns-in-Narrow
+returns-in-Narrow c =
+    let s = c.before.before in
+    rw c.in-Narrow.is (rw (read_back w64 s.args.index s.ranges.index) at c.adjusted_array_index.ensures)
 
-returns-2 : tie.Need-returns-2
-returns-2 c =
-    let s = c.before.before.before in
-    rw c.before.enum-told2.given.1 (rw (read_back w64 s.args.index s.ranges.index) at c.adjusted-array-index2.ensures)
+returns-in-Wide : tie.Need-returns-in-Wide
+returns-in-Wide c =
+    let s = c.before.before in
+    rw c.in-Wide.is (rw (read_back w64 s.args.index s.ranges.index) at c.adjusted_array_index-in-Wide.ensures)
 
 pub index_bound_spec : {M : Type 1} → statement M
 index_bound_spec =
     tie.close
     (tie.spec
-    enum_told
-    adjusted-array-index-requires
-    enum-told-2
-    adjusted-array-index-requires-2
-    returns
-    returns-2)
+    enum_told-1
+    adjusted_array_index-requires
+    enum_told-in-Wide
+    adjusted_array_index-requires-in-Wide
+    returns-in-Narrow
+    returns-in-Wide)

@@ -10,46 +10,46 @@ use borrow.Author.Rules.{rules}
 use Rattle.value_places.proofs.extract.is_unfit.Statement.{statement}
 use Rattle.value_places.proofs.extract.is_unfit.Tie as tie
 
-is-valid-requires : tie.Need-is-valid-requires
-is-valid-requires c κs = search
+is_valid-requires : tie.Need-is_valid-requires
+is_valid-requires c κs = search
+
+returns-then-not-is_valid : tie.Need-returns-then-not-is_valid
+returns-then-not-is_valid c =
+    let a = c.args in
+    sym (unfit_null narrow (from a.rstart a.rows.now) a.indexes.now (from a.istart a.index_bits.now) a.r (sym c.is_valid.ensures ∙ not-true _ c.if-not-is_valid.true))
+
+is_valid-requires-2 : tie.Need-is_valid-requires-2
+is_valid-requires-2 c κs = search
+
+returns-then-not-is_valid-2 : tie.Need-returns-then-not-is_valid-2
+returns-then-not-is_valid-2 c =
+    let a = c.args in
+    sym (unfit_index_null narrow (from a.rstart a.rows.now) a.indexes.now (from a.istart a.index_bits.now) a.r (sym c.is_valid.ensures ∙ not-false _ c.if-not-is_valid.false) (sym c.is_valid-2.ensures ∙ not-true _ c.if-not-is_valid-2.true))
+
+offset_bounds-indexes-r : tie.Need-offset_bounds-indexes-r
+offset_bounds-indexes-r c = search rules
+
+bounds-indexes-r : tie.Need-bounds-indexes-r
+bounds-indexes-r c = search rules
+
+fits_i32-requires : tie.Need-fits_i32-requires
+fits_i32-requires c κs = search
 
 returns : tie.Need-returns
 returns c =
-    let a = c.before.before.before.before.args in
-    sym (unfit_null narrow (from a.rstart a.rows.now) a.indexes.now (from a.istart a.index-bits.now) a.r (sym c.before.is-valid.ensures ∙ not-true _ c.if1.true))
-
-is-valid-requires-2 : tie.Need-is-valid-requires-2
-is-valid-requires-2 c κs = search
-
-returns-2 : tie.Need-returns-2
-returns-2 c =
-    let a = c.before.before.before.before.before.before.args in
-    sym (unfit_index_null narrow (from a.rstart a.rows.now) a.indexes.now (from a.istart a.index-bits.now) a.r (sym c.before.before.before.is-valid.ensures ∙ not-false _ c.before.before.if1.false) (sym c.before.is-valid2.ensures ∙ not-true _ c.if2.true))
-
-mul-fits-i32 : tie.Need-overflow-mul-fits-i32
-mul-fits-i32 c = search rules
-
-shared-slice-copy-out-fits-i32 : tie.Need-shared-slice-copy-out-fits-i32
-shared-slice-copy-out-fits-i32 c = search rules
-
-fits-i32-requires : tie.Need-fits-i32-requires
-fits-i32-requires c κs = search
-
-returns-3 : tie.Need-returns-3
-returns-3 c =
-    let a = c.before.before.before.before.before.before.before.before.args in
-    let f = rw (read_back w64 _ (record { sfits = c.before.fits-i32-arg.given })) at c.fits-i32.ensures in
-    ap not f ∙ sym (unfit_valid narrow (from a.rstart a.rows.now) a.indexes.now (from a.istart a.index-bits.now) a.r (sym c.before.before.before.before.before.is-valid.ensures ∙ not-false _ c.before.before.before.before.if1.false) (sym c.before.before.before.is-valid2.ensures ∙ not-false _ c.before.before.if2.false))
+    let a = c.args in
+    let f = rw (read_back w64 _ (record { sfits = c.fits_i32-arg-1.given })) at c.fits_i32.ensures in
+    ap not f ∙ sym (unfit_valid narrow (from a.rstart a.rows.now) a.indexes.now (from a.istart a.index_bits.now) a.r (sym c.is_valid.ensures ∙ not-false _ c.if-not-is_valid.false) (sym c.is_valid-2.ensures ∙ not-false _ c.if-not-is_valid-2.false))
 
 pub is_unfit_spec : {M : Type 1} → statement M
 is_unfit_spec =
     tie.close
     (tie.spec
-    is-valid-requires
-    returns
-    is-valid-requires-2
-    returns-2
-    mul-fits-i32
-    shared-slice-copy-out-fits-i32
-    fits-i32-requires
-    returns-3)
+    is_valid-requires
+    returns-then-not-is_valid
+    is_valid-requires-2
+    returns-then-not-is_valid-2
+    offset_bounds-indexes-r
+    bounds-indexes-r
+    fits_i32-requires
+    returns)

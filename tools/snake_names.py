@@ -126,17 +126,27 @@ def main():
             continue
         table[n] = new
         after.add(new)
+    crates = set(os.listdir(os.path.join(ROOT, "crates")))
     changed = 0
     for p, t in texts.items():
         hand = p.endswith("Proof.antt")
         mine = local.get(p, set())
         aliases = set(re.findall(r"(?m)^use \S+ as (\S+)", t)) if hand else set()
 
+        foreign = set()
+        for path, names_ in re.findall(r"(?m)^(?:ghost |pub )?use ([^\s{]*)\.\{([^}]*)\}", t):
+            c = path.split(".")
+            if not (c[0] == "Rattle" and len(c) > 1 and c[1] in crates):
+                foreign |= {x.split(" as ")[0].strip() for x in names_.split(",")}
+
         def turn(m, line):
             n = m.group(0)
-            if n not in table:
+            if n not in table or n in foreign:
                 return n
             before = line[: m.start()]
+            if re.match(r"\s*(?:ghost |pub )?use ", line) and "{" not in before and " as " not in before:
+                # a path
+                return n
             if hand:
                 if n not in own and n not in mine:
                     return n

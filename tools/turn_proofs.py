@@ -1,7 +1,8 @@
 #!/usr/bin/env python3
 """Turns the names in each proofs/F/Proof.antt of a crate to those that today's Rattle makes of F.
 
-usage: python3 tools/turn_proofs.py CRATES NAMES CRATE..     CRATES: the folder crates/; NAMES: a folder with CRATE/names.json, as 'rt names' writes it
+usage: python3 tools/turn_proofs.py CRATES NAMES LANDED CRATE..     CRATES: the folder crates/; NAMES: a folder with CRATE/names.json, as 'rt names'
+writes it; LANDED: crates/ before port.py, for the older names of the goals
 
 Goals, places and steps get their new names, the steps of a match's arm are one place, and a '.before' in front of a step goes, since a place
 shows the steps before it. It goes by text: what it gets wrong the check says.
@@ -52,17 +53,15 @@ class Function:
                     return i
         return None
 
-    def up(self, at, k):
-        """The place k places before 'at', and how many '.before' lead there today."""
+    def many_up(self, at, to):
+        """How many '.before' lead from place 'at' to place 'to' today; None where 'to' is not above 'at'."""
         many = 0
-        for _ in range(k):
-            if at is None:
-                return None, many + 1
+        while at is not None and at != to:
             arm = self.arms[at]
             if not (arm and arm[1] > 1):
                 many += 1
             at = self.parent[at]
-        return at, many
+        return many if at is not None else None
 
     def above(self, at):
         while at is not None:
@@ -71,70 +70,59 @@ class Function:
 
     def arm_field(self, at, step, rest):
         """What names a part of a match's arm today: the arm, the field and how many of rest it stands for."""
-        where = list(self.above(at)) if at is not None else range(len(self.names))
-        best = None
-        for i in where:
-            arm = self.arms[i]
-            if not arm:
-                continue
-            for name, old, path in arm[2]:
-                if norm(old) == step and rest[: len(path)] == path and (path or not name.endswith("-own") or True):
-                    if best is None or len(path) > best[2]:
+        first = list(self.above(at)) if at is not None else []
+        for where in (first, range(len(self.names))):
+            best = None
+            for i in where:
+                arm = self.arms[i]
+                for name, old, path in arm[2] if arm else []:
+                    if norm(old) == step and rest[: len(path)] == path and (best is None or len(path) > best[2]):
                         best = (arm[0], name, len(path))
-            if best and at is not None:
+            if best:
                 return best
-        return best
+        return None
 
 
-def turn_chain(fn, env, root, comps, text):
-    kind, at = env.get(root, ("place", None)) if root != ")" else ("place", None)
-    i, befores = 0, 0
+def turn_chain(fn, env, root, comps):
+    kind, at, name = env.get(root, ("place", None, root))
+    i = 0
     if kind == "place":
         while i < len(comps) and comps[i] == "before":
             i += 1
-            befores += 1
-        if at is not None and befores:
-            at, many = fn.up(at, befores)
-        else:
-            many = befores
         if i == len(comps):
-            return root + ".before" * many, ("place", at)
+            return name, ("place", at, name)
         c = comps[i]
         n = norm(c)
         rest = comps[i + 1 :]
         if c in ("pre", "requires"):
-            return root + ".requires" + "".join("." + x for x in rest), ("value", None)
-        if c in ("well-formed", "type-inv"):
-            return root + "." + c.replace("-", "_") + "".join("." + x for x in rest), ("value", None)
+            return name + ".requires" + "".join("." + x for x in rest), ("value", None, None)
+        if c in ("well-formed", "type-inv", "lifetimes"):
+            return name + "." + c.replace("-", "_") + "".join("." + x for x in rest), ("value", None, None)
         if c in ("args", "ranges", "fits"):
-            head = root + "." + ("args" if c == "args" else "ranges")
-            return turn_args(head, rest)
+            return turn_args(name + "." + ("args" if c == "args" else "ranges"), rest)
         if n in fn.steps:
             hit = fn.arm_field(at, n, rest)
             if hit:
-                arm, name, used = hit
-                tail = rest[used:]
-                return root + "." + arm + "." + name + "".join("." + x for x in tail), ("value", None)
-            return turn_step(fn, root + "." + fn.steps[n], n, rest)
-        if n in [norm(x) for x in ("inv", "invariant")]:
-            return root + "." + c + "".join("." + x for x in rest), ("value", None)
-        return root + ".before" * many + "." + c + "".join("." + x for x in rest), ("value", None)
+                arm, field, used = hit
+                return name + "." + arm + "." + field + "".join("." + x for x in rest[used:]), ("value", None, None)
+            return turn_step(fn, name + "." + fn.steps[n], n, rest)
+        return name + ".before" * i + "." + c + "".join("." + x for x in rest), ("value", None, None)
     if kind == "args":
         return turn_args(root, comps)
     if kind == "step":
         return turn_step(fn, root, at, comps)
-    return root + "".join("." + x for x in comps), ("value", None)
+    return root + "".join("." + x for x in comps), ("value", None, None)
 
 
 def turn_args(head, rest):
     if not rest:
-        return head, ("args", None)
-    return head + "." + rest[0].replace("-", "_") + "".join("." + x for x in rest[1:]), ("value", None)
+        return head, ("args", None, None)
+    return head + "." + rest[0].replace("-", "_") + "".join("." + x for x in rest[1:]), ("value", None, None)
 
 
 def turn_step(fn, head, step, rest):
     if not rest:
-        return head, ("step", step)
+        return head, ("step", step, None)
     c, more = rest[0], rest[1:]
     loop = fn.loops.get(step)
     if loop and norm(c) in [norm(x) for x in loop[1]]:
@@ -153,12 +141,9 @@ def turn_step(fn, head, step, rest):
             k += 1
         ps = fn.params.get(fn.callee[step])
         if ps and k < len(more) and more[k] == "0" and k < len(ps):
-            return head + ".auto." + ps[k] + "".join("." + x for x in more[k + 1 :]), ("value", None)
-    facts = fn.facts.get(step, {})
-    if c in ("true", "false") and c in facts and "fact" in facts:
-        # the fact is what old proofs had as .taken or .left; '-raw' is the test itself
-        pass
-    return head + "." + c + "".join("." + x for x in more), ("value", None)
+            return head + ".auto." + ps[k] + "".join("." + x for x in more[k + 1 :]), ("value", None, None)
+    c = fn.facts.get(step, {}).get(c, c)
+    return head + "." + c + "".join("." + x for x in more), ("value", None, None)
 
 
 def blocks_of(text):
@@ -209,13 +194,21 @@ def binders(sig):
     return out, place(parts[-1])
 
 
-def turn(fn, text, spec):
+def turn(fn, text, spec, landed):
     declared, results = {}, {}
     blocks = blocks_of(text)
+    before = re.findall(r"(?m)^\S+ : tie\.Need-([^\s]+)", landed)
+    now = re.findall(r"(?m)^\S+ : tie\.Need-([^\s]+)", text)
+    was = dict(zip(now, before)) if len(before) == len(now) else {}
+
+    def asked(n):
+        hit = fn.need(was.get(n, n))
+        return fn.need(n) if hit is None else hit
+
     for b in blocks:
         m = re.match(r"(?:pub )?(\S+) : tie\.Need-(\S+)", b)
         if m:
-            hit = fn.need(m.group(2))
+            hit = asked(m.group(2))
             if hit is not None:
                 declared[m.group(1)] = hit
     signatures = {}
@@ -227,72 +220,148 @@ def turn(fn, text, spec):
             if res:
                 results[m.group(1)] = fn.index.get(res)
     out = []
-    module = {}
+    module, inside = {}, None
+    # what stands in a module takes the module's places first, seen from outside
+    taken, at_module, count = {}, {}, 0
+    for b in blocks:
+        if b and not b[0].isspace():
+            m = re.match(r"module _ (.*?) ?where", b)
+            count += 1
+            at_module = [fn.index.get(norm(t)) for names, t in re.findall(r"\(([^():]+) : " + PLACE, m.group(1)) for _ in names.split()] if m else []
+        m = re.match(r"\s*(?:abbrev )?(?:pub )?([^\s(){}]+) :", b)
+        if m and b[:1].isspace():
+            taken[m.group(1)] = (count, at_module)
+    count = 0
     for b in blocks:
         if b and not b[0].isspace():
             module = {}
+            count += 1
             m = re.match(r"module _ (.*?) ?where", b)
             if m:
                 for names, t in re.findall(r"\(([^():]+) : " + PLACE, m.group(1)):
                     for n in names.split():
-                        module[n] = ("place", fn.index.get(norm(t)))
+                        module[n] = ("place", fn.index.get(norm(t)), n)
         if b.startswith("use ") or b.startswith("--"):
             out.append(b)
             continue
         env = dict(module)
         for n, at in results.items():
-            if not signatures.get(n):
-                env[n] = ("place", at)
-        # the arguments of the equation
-        m = re.match(r"(?s)\s*(?:abbrev )?(?:pub )?([^\s(){}]+) :", b)
-        name = m.group(1) if m else None
+            if not signatures.get(n) and (n not in taken or taken[n][0] == count):
+                env[n] = ("place", at, n)
         for e in re.finditer(r"(?m)^\s*(\S+)((?: [\w'κ₀-₉_]+)+) =(?:\s|$)", b):
             if e.group(1) in declared:
                 vs = e.group(2).split()
                 if vs:
-                    env[vs[0]] = ("place", fn.asked_at[declared[e.group(1)]])
+                    env[vs[0]] = ("place", fn.asked_at[declared[e.group(1)]], vs[0])
             elif e.group(1) in signatures:
                 for v, at in zip(e.group(2).split(), signatures[e.group(1)]):
                     if at:
-                        env[v] = ("place", fn.index.get(at))
+                        env[v] = ("place", fn.index.get(at), v)
         for v, t in re.findall(r"\(([\w'₀-₉]+) : " + PLACE, b):
-            env[v] = ("place", fn.index.get(norm(t)))
-        # left to right, so that a 'let' is known behind it
-        done, pos = "", 0
-        for q in CHAIN.finditer(b):
-            done += b[pos : q.start()]
-            root, comps = q.group(1), q.group(2).split(".")[1:]
-            pos = q.end()
-            if root == "tie" or (root[:1].isupper() and root not in env):
-                done += q.group(0)
-                continue
-            e = env
-            if root == ")":
-                # the call that ends here
-                depth, k = 0, len(done)
-                src = done + ")"
-                for k in range(len(src) - 1, -1, -1):
-                    if src[k] == ")":
-                        depth += 1
-                    elif src[k] == "(":
-                        depth -= 1
+            env[v] = ("place", fn.index.get(norm(t)), v)
+
+        def wants(name):
+            """The places that a helper takes, seen from this block."""
+            own = [fn.index.get(x) if x else None for x in signatures.get(name, [])]
+            if name in taken:
+                where, ats = taken[name]
+                return own if where == count else list(ats) + own
+            return own
+
+        def go(text, env):
+            done, pos = "", 0
+            word = re.compile(r"(?<![\w.'₀-₉-])[A-Za-zκ_][\w'₀-₉-]*(?:\." + NAME + r")*|\)(?:\." + NAME + r")+")
+            while True:
+                q = word.search(text, pos)
+                if not q:
+                    return done + text[pos:]
+                done += text[pos : q.start()]
+                pos = q.end()
+                t = q.group(0)
+                root, *comps = t.split(".")
+                if root == "tie":
+                    done += t
+                    continue
+                if root == ")":
+                    src, depth = done + ")", 0
+                    for k in range(len(src) - 1, -1, -1):
+                        depth += (src[k] == ")") - (src[k] == "(")
                         if depth == 0:
                             break
-                head = re.match(r"\((\S+) ", src[k:])
-                new, got = turn_chain(fn, {"@": ("place", results.get(head.group(1)) if head else None)} if head and head.group(1) in results else {"@": ("value", None)} if not (comps and (comps[0] == "before" or norm(comps[0]) in fn.steps or comps[0] in ("args", "ranges", "fits", "pre", "requires"))) else {"@": ("place", None)}, "@", comps, b)
-                new = ")" + new[1:]
-            else:
-                new, got = turn_chain(fn, env, root, comps, b)
-            done += new
-            m = re.search(r"(?:let |^\s*)([\w'₀-₉]+) = " + re.escape(new) + r"$", done)
-            if m and re.match(r"\s+in\b", b[pos:]):
-                env[m.group(1)] = got
-        done += b[pos:]
-        # 'let s = f c in' with f's result a place
-        out.append(done)
-    # lets of calls: a second pass would know them; they keep the '.before' that they have
+                    head = re.match(r"\(([^\s()]+)[ )]", src[k:])
+                    r = results.get(head.group(1)) if head else None
+                    n = norm(comps[0])
+                    place = r is not None or n in ("before", "args", "ranges", "fits", "pre", "requires") or n in fn.steps
+                    new, _ = turn_chain(fn, {"@": ("place" if place else "value", r, "@")}, "@", comps)
+                    done += ")" + new[1:]
+                    continue
+                want = wants(root) if not comps else []
+                if want and any(w is not None for w in want) and not re.match(r"\s*[:=]", text[pos:]):
+                    # a helper, and what it is given
+                    done += root
+                    for w in want:
+                        m = re.match(r"\s+", text[pos:])
+                        if not m:
+                            break
+                        k = pos + m.end()
+                        if k >= len(text) or text[k] in ")],;→=":
+                            break
+                        if text[k] == "(":
+                            depth, e = 0, k
+                            while e < len(text):
+                                depth += (text[e] == "(") - (text[e] == ")")
+                                e += 1
+                                if depth == 0:
+                                    break
+                            m2 = re.match(r"(?:\." + NAME + r")+", text[e:])
+                            if m2:
+                                e += m2.end()
+                        else:
+                            m2 = re.match(r"[^\s(){}\[\],;]+", text[k:])
+                            if not m2 or m2.group(0) in ("in", "as"):
+                                break
+                            e = k + m2.end()
+                        arg = text[k:e]
+                        done += text[pos:k]
+                        pos = e
+                        bare = arg.strip("()")
+                        r, *cs = bare.split(".")
+                        got = env.get(r)
+                        if w is not None and got and got[0] == "place" and got[1] is not None and all(c == "before" for c in cs):
+                            many = fn.many_up(got[1], w)
+                            if many is None:
+                                done += go(arg, env)
+                            else:
+                                done += got[2] + ".before" * many
+                        else:
+                            done += go(arg, env)
+                    continue
+                if not comps:
+                    if root in env and env[root][0] == "place" and env[root][2] != root and not re.match(r"\s*=", text[pos:]):
+                        done += env[root][2]
+                    else:
+                        done += root
+                    continue
+                new, got = turn_chain(fn, env, root, comps)
+                m = re.search(r"(?:let |^\s*)([\w'₀-₉]+) = $", done)
+                if m and re.match(r"\s+in\b", text[pos:]):
+                    env[m.group(1)] = got
+                    if got[0] == "place":
+                        # another name of a place that shows the same
+                        done = done[: m.start()]
+                        pos += re.match(r"\s+in\b[ ]?", text[pos:]).end()
+                        if re.search(r"\n\s*$", done) and re.match(r"\n\s*", text[pos:]):
+                            pos += re.match(r"\n\s*", text[pos:]).end()
+                        continue
+                done += new
+
+        out.append(go(b, env))
     text = "\n".join(out)
-    text = re.sub(r"tie\.Need-(" + NAME + ")", lambda m: "tie.Need-" + (fn.needs[fn.need(m.group(1))][1] if fn.need(m.group(1)) is not None else m.group(1)), text)
+    def need(m):
+        hit = asked(m.group(1))
+        return "tie.Need-" + (fn.needs[hit][1] if hit is not None else m.group(1))
+
+    text = re.sub(r"tie\.Need-(" + NAME + ")", need, text)
     text = re.sub(PLACE, lambda m: "tie." + (fn.names[fn.index[norm(m.group(1))]] if norm(m.group(1)) in fn.index else m.group(1)), text)
     for old, (new, _) in fn.loops.items():
         text = re.sub(r"\b(invariant|decreases)-" + re.escape(old) + r"(?![\w-])", lambda m: m.group(1) + "-@" + new, text)
@@ -316,8 +385,8 @@ def turn(fn, text, spec):
 
 
 def main():
-    crates, names = sys.argv[1], sys.argv[2]
-    for crate in sys.argv[3:]:
+    crates, names, landed = sys.argv[1:4]
+    for crate in sys.argv[4:]:
         at = os.path.join(names, crate, "names.json")
         if not os.path.exists(at):
             continue
@@ -330,7 +399,8 @@ def main():
             if not os.path.exists(p):
                 continue
             text = open(p, encoding="utf-8").read()
-            new = turn(Function(v), text, path[-1] + "_spec")
+            old = os.path.join(landed, crate, "proofs", *path, "Proof.antt")
+            new = turn(Function(v), text, path[-1] + "_spec", open(old, encoding="utf-8").read() if os.path.exists(old) else "")
             if new != text:
                 open(p, "w", encoding="utf-8").write(new)
 

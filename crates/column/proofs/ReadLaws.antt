@@ -112,13 +112,17 @@ module _ (ps : List Row) (w : Row) (qs : List Row) where
       let n : length (flat ps) + length (elems_of w) - length (flat ps) ≡ length (elems_of w) = omega arith in
       rw (valid_seam ps w qs, a, next_seam, n, part_seam ps w qs) (row_again w)
 
+-- the rows from the next one on, as those of the rows before with this one among them
+next_rows : (q : Row) (qs ps : List Row) → tab (row_at (formed ((ps ++ (q ∷ [])) ++ qs))) (length (ps ++ (q ∷ []))) (length qs) ≡ qs → tab (row_at (formed (ps ++ q ∷ qs))) (suc (length ps)) (length qs) ≡ qs
+next_rows q qs ps h =
+    let e : suc (length ps) ≡ length (ps ++ (q ∷ [])) = omega (arith, length-append ps (q ∷ [])) in
+    let j : (ps ++ (q ∷ [])) ++ qs ≡ ps ++ (q ∷ qs) = append_assoc ps (q ∷ []) qs in
+    rw (e, ← j) h
+
 rows_seam : (qs ps : List Row) → tab (row_at (formed (ps ++ qs))) (length ps) (length qs) ≡ qs
 unfolding tab
 rows_seam [] ps = refl
-rows_seam (q ∷ qs) ps =
-    let e : suc (length ps) ≡ length (ps ++ (q ∷ [])) = omega (arith, length-append ps (q ∷ [])) in
-    let j : (ps ++ (q ∷ [])) ++ qs ≡ ps ++ (q ∷ qs) = append_assoc ps (q ∷ []) qs in
-    rw (row_seam ps q qs) (ap (λ (r : List Row). q ∷ r) (rw (e, ← j) (rows_seam qs (ps ++ (q ∷ [])))))
+rows_seam (q ∷ qs) ps = rw (row_seam ps q qs) (ap (λ (r : List Row). q ∷ r) (next_rows q qs ps (rows_seam qs (ps ++ (q ∷ [])))))
 
 -- the round trip
 pub shows : (ws : List Row) → rows_of (formed ws) ≡ ws

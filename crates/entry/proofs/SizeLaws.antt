@@ -1,6 +1,6 @@
 -- Laws of the tests of sizes.
 use mathlib.Core.Path.{◌≡◌, refl, sym, ◌∙◌}
-use mathlib.Core.Bool.{Bool, true, false, ◌||◌, or_false, or_assoc}
+use mathlib.Core.Bool.{Bool, true, false, ◌||◌, or-false, or_assoc}
 use mathlib.Core.List.{List, [], ◌∷◌, ◌++◌}
 use Prim.Native.Nat.{ℕ, ◌/◌, ◌≤◌}
 use native.Mathlib.Omega.{arith}
@@ -17,11 +17,11 @@ use Rattle.model.proofs.BoolLaws.{or_none}
 
 pub any-one : {A : Type 0} (p : A → Bool) (x : A) {a : Bool} → a ≡ p x → a ≡ any p (x ∷ [])
 unfolding any
-any-one p x f = rw f (sym (or_false (p x)))
+any-one p x f = rw f (sym (or-false (p x)))
 
 pub any-two : {A : Type 0} (p : A → Bool) (x y : A) {a b : Bool} → a ≡ p x → b ≡ p y → a || b ≡ any p (x ∷ y ∷ [])
 unfolding any
-any-two p x y f g = rw (f, g, or_false (p y))
+any-two p x y f g = rw (f, g, or-false (p y))
 
 any_append : {A : Type 0} (p : A → Bool) (xs ys : List A) → any p xs || any p ys ≡ any p (xs ++ ys)
 unfolding any

@@ -1,6 +1,6 @@
 -- Laws of the table: a chain's walk, an element entered, an element passed.
 use mathlib.Core.Path.{◌≡◌, refl, sym, ap, subst, ◌∙◌}
-use mathlib.Core.Bool.{Bool, true, false, not, ◌||◌, or_comm, or_false}
+use mathlib.Core.Bool.{Bool, true, false, not, ◌||◌, or_comm, or-false}
 use mathlib.Core.List.{List}
 use Prim.Native.Nat.{ℕ, zero, suc, ◌+◌, ◌-◌, ◌≤◌, ◌<◌}
 use native.Mathlib.Numerals.{add-one}
@@ -84,7 +84,7 @@ within_more p q = record { below = λ i h. q.below i h ∙ p.below i h; above = 
 
 is_in-next : (E : ℕ → Elem) (a k : ℕ) (e : Elem) → is_in e (tab E a (k + 1)) ≡ is_in e (tab E a k) || same_elem e (E (a + k))
 unfolding is_in
-is_in-next E a k e = rw (add-one k, tab-last E a k, is_in-append, or_false)
+is_in-next E a k e = rw (add-one k, tab-last E a k, is_in-append, or-false)
 
 -- a table is a table where its slots are the same
 pub table_kept : {E : ℕ → Elem} {a n k o : ℕ} {t : List ℕ} → Table E a n k o t → k ≤ n → (u : List ℕ) → o + n + n ≤ length u → ((i : ℕ) → o ≤ i → i < o + n + n → get_or u i 0 ≡ get_or t i 0) → Table E a n k o u
@@ -113,7 +113,7 @@ module _ (E : ℕ → Elem) (a n k o : ℕ) (t : List ℕ) (T : Table E a n k o 
     where
       by : (e : Elem) (x : Bool) → same_elem e (E (a + k)) ≡ x → is_in e (tab E a k) ≡ is_in e (tab E a k) || same_elem e (E (a + k))
       by e true q = rw (same_eq e (E (a + k)) q, m)
-      by e false q = rw (q, or_false)
+      by e false q = rw (q, or-false)
 
   abbrev pub u : List ℕ
   u = entered n o k (head_of n (E (a + k))) t
@@ -160,7 +160,7 @@ module _ (E : ℕ → Elem) (a n k o : ℕ) (t : List ℕ) (T : Table E a n k o 
       ap (λ (s : ℕ). chained E a n o u e s s) (head_other (head_of n e) p f)
       ∙ kept_chain e (get_or t (o + head_of n e) 0) (T.heads (head_of n e) p)
       ∙ T.finds e (omega arith)
-      ∙ rw (differ e (E (a + k)) (λ z. f (ap (head_of n) z)), or_false)
+      ∙ rw (differ e (E (a + k)) (λ z. f (ap (head_of n) z)), or-false)
 
   table_new : Table E a n (k + 1) o u
   table_new = record {

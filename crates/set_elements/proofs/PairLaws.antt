@@ -1,6 +1,6 @@
 -- Laws of comparing two elements, and of looking for one.
 use mathlib.Core.Path.{◌≡◌, refl, sym, ap, subst, ◌∙◌}
-use mathlib.Core.Bool.{Bool, true, false, ◌||◌, or_false, or_assoc}
+use mathlib.Core.Bool.{Bool, true, false, ◌||◌, or-false, or_assoc}
 use mathlib.Core.List.{List, [], ◌∷◌, ◌++◌}
 use Prim.Native.Nat.{ℕ, suc, ◌+◌, ◌-◌, ◌≤◌}
 use native.Mathlib.Omega.{arith}
@@ -57,7 +57,7 @@ module _ (e : Elem) (f : ℕ → Elem) (p : ℕ) where
       let s : suc p ≡ p + 1 = omega arith in
       let t : suc (p + 1) ≡ p + 2 = omega arith in
       let u : suc (p + 2) ≡ p + 3 = omega arith in
-      rw (s, t, u, or_false, or_assoc, or_assoc)
+      rw (s, t, u, or-false, or_assoc, or_assoc)
 
 -- ---- columns without nulls
 

@@ -36,28 +36,28 @@ use Rattle.attempt.proofs.attempt.Tie as tie
 -- before them and after them
 
 abbrev S : tie.After-refusal-first → tie.Start
-S c = c.before.before.before.before.before.before.before.before.before.before.before.before.before.before
+S c = c
 
 abbrev F : tie.Else-k-ne0 → tie.After-refusal-first
-F e = e.before.before.before
+F e = e
 
 abbrev past : tie.After-start_from-r_start → tie.Else-k-ne0
-past t = t.before.before.before.before
+past t = t
 
 abbrev list : tie.After-start_from-x_start → tie.After-start_from-r_start
-list t = t.before.before.before.before.before.before.before.before
+list t = t
 
 abbrev none : tie.After-copy-arg-then-count-eq0-4-1 → tie.Then-count-eq0
-none c = c.before.before.before.before.before
+none c = c
 
 abbrev copied : tie.After-out_large-1 → tie.After-copy
-copied c = c.before.before.before.before.before.before.before
+copied c = c
 
 abbrev ready : tie.After-steps-arg-16-1 → tie.After-start_from-x_start
-ready c = c.before.before.before.before.before.before.before.before.before.before.before.before.before.before.before.before
+ready c = c
 
 abbrev went : tie.After-out_large-2-1 → tie.After-steps
-went c = c.before.before.before.before.before.before.before.before.before.before.before.before.before.before.before.before.before.before.before.before.before
+went c = c
 
 -- ---- columns, and the lengths of the trays and the output
 
@@ -96,7 +96,7 @@ abbrev rows : tie.Else-k-ne0 → ℕ
 rows e = e.row_count-n.result
 
 going : (e : tie.Else-k-ne0) → let s = S (F e) in (recipe_refusal (recipe s.args.numbers.now s.args.columns) (C s) (D s) (A s) ≡ 0) × (no_window s.args.begin s.args.end (rows e) ≡ false)
-going e = let s = S (F e) in let a = s.args in goes a.numbers.now a.columns a.begin a.end (C s) (D s) (A s) _ _ _ (F e).refusal.ensures e.row_count-n.ensures e.refusal_after-k.ensures e.if-k-ne0.false
+going e = let s = S (F e) in let a = s.args in goes a.numbers.now a.columns a.begin a.end (C s) (D s) (A s) _ _ _ (F e).refusal-first.ensures e.row_count-n.ensures e.refusal_after-k.ensures e.if-k-ne0.false
 
 passes : (e : tie.Else-k-ne0) → let s = S (F e) in Passed s.args.numbers.now s.args.columns (C s) (D s) (A s)
 passes e = let s = S (F e) in passed s.args.numbers.now s.args.columns (C s) (D s) (A s) (going e).0
@@ -136,7 +136,7 @@ first_count e = let s = S (F e) in part_count (C s) s.args.begin s.args.end (wit
 
 -- the second list, where the arguments are cut too
 abbrev second : tie.After-start_from-x_start → tie.After-start_from-rr_start
-second t = t.before.before.before
+second t = t
 
 second-cut : (t : tie.After-start_from-x_start) → let s = S (F (past (list t))) in let a = s.args in let u = second t in column (used a.width u.offsets_of-ro.result.now u.large_of-rl.result.now) (from u.start_from-rr_start.result u.bits_from-rr.result.now) a.rvalues.now (from a.r_estart a.relements.now) ≡ part (D s) a.begin a.end
 second-cut t =
@@ -160,7 +160,7 @@ skip_in t = let s = S (F (past t.before.before.before.before.before.before)) in 
 -- ---- needs
 
 returns-then-station-gt15 : tie.Need-returns-then-station-gt15
-returns-then-station-gt15 c = let s = c.before.before.before.before.before.before.before.before.before.before.before.before.before in list-refused 15 (station_over s.args.station (X s) c.if-station-gt15.true)
+returns-then-station-gt15 c = list-refused 15 (station_over c.args.station (X c.before.before.before.before.before.before.before.before.before.before.before.before.before) c.if-station-gt15.true)
 
 refusal-first-requires : tie.Need-refusal-first-requires
 refusal-first-requires c κs = tt
@@ -173,10 +173,9 @@ refusal_after-k-requires c κs = tt
 
 returns-then-k-ne0 : tie.Need-returns-then-k-ne0
 returns-then-k-ne0 c =
-    let f = c.before.before.before in
-    let s = S f in
+    let s = S c.before.before.before in
     let a = s.args in
-    list-refused _ (named f ∙ call-refused (N s) a.numbers.now a.columns a.begin a.end (C s) (D s) (A s) (One s) (Two s) (Out s) _ _ _ f.refusal-first.ensures c.row_count-n.ensures c.refusal_after-k.ensures c.if-k-ne0.true)
+    list-refused _ (named c.before.before.before ∙ call-refused (N s) a.numbers.now a.columns a.begin a.end (C s) (D s) (A s) (One s) (Two s) (Out s) _ _ _ c.refusal-first.ensures c.row_count-n.ensures c.refusal_after-k.ensures c.if-k-ne0.true)
 
 offsets_of-o-requires : tie.Need-offsets_of-o-requires
 offsets_of-o-requires c κs = (within c).0
@@ -185,38 +184,37 @@ large_of-l-requires : tie.Need-large_of-l-requires
 large_of-l-requires c κs = (within c.before).0
 
 bits_from-r-requires : tie.Need-bits_from-r-requires
-bits_from-r-requires c κs = let e = c.before.before in (rw (first_rows e) (first_reads e).rows, omega (arith, (within e).0, (within e).1))
+bits_from-r-requires c κs = (rw (first_rows c.before.before) (first_reads c.before.before).rows, omega (arith, (within c.before.before).0, (within c.before.before).1))
 
 start_from-r_start-requires : tie.Need-start_from-r_start-requires
 start_from-r_start-requires c κs = (first_reads c.before.before.before).rows.small
 
 copy-requires : tie.Need-copy-requires
-copy-requires c κs = let t = (none c).before in rw (first-cut t) (first_part (past t))
+copy-requires c κs = let t = (none c) in rw (first-cut t) (first_part (past t))
 
 shape_of-out_offsets-then-count-eq0 : tie.Need-shape_of-out_offsets-then-count-eq0
-shape_of-out_offsets-then-count-eq0 c = (copied c).copy.auto.1.1.1.1.1.1.0
+shape_of-out_offsets-then-count-eq0 c = (copied c).copy.auto.out_offsets
 
 shape_of-out_rows-then-count-eq0 : tie.Need-shape_of-out_rows-then-count-eq0
-shape_of-out_rows-then-count-eq0 c = (copied c).copy.auto.1.1.1.1.1.1.1.0
+shape_of-out_rows-then-count-eq0 c = (copied c).copy.auto.out_rows
 
 shape_of-out_values-then-count-eq0 : tie.Need-shape_of-out_values-then-count-eq0
-shape_of-out_values-then-count-eq0 c = (copied c).copy.auto.1.1.1.1.1.1.1.1.0
+shape_of-out_values-then-count-eq0 c = (copied c).copy.auto.out_values
 
 shape_of-out_elements-then-count-eq0 : tie.Need-shape_of-out_elements-then-count-eq0
-shape_of-out_elements-then-count-eq0 c = (copied c).copy.auto.1.1.1.1.1.1.1.1.1.0
+shape_of-out_elements-then-count-eq0 c = (copied c).copy.auto.out_elements
 
 shape_of-out_large-then-count-eq0 : tie.Need-shape_of-out_large-then-count-eq0
-shape_of-out_large-then-count-eq0 c = (copied c).copy.auto.1.1.1.1.1.1.1.1.1.1.1.1.0
+shape_of-out_large-then-count-eq0 c = (copied c).copy.auto.out_large
 
 returns-then-count-eq0 : tie.Need-returns-then-count-eq0
 returns-then-count-eq0 c =
     let w = copied c in
-    let q = none w.before in
-    let t = q.before in
-    let e = past t in
+    let q = none w in
+    let e = past q in
     let s = S (F e) in
     let a = s.args in
-    rw (named (F e) ∙ call_copy (N s) a.numbers.now a.columns a.begin a.end (C s) (D s) (A s) (One s) (Two s) (Out s) (rows e) (first_rows e) (going e).0 (going e).1 (first_reads e) (second_reads e) q.if-count-eq0.true ∙ ap (λ (x : Column). fitted (rows_of x) (Out s)) (sym (first-cut t)))
+    rw (named (F e) ∙ call_copy (N s) a.numbers.now a.columns a.begin a.end (C s) (D s) (A s) (One s) (Two s) (Out s) (rows e) (first_rows e) (going e).0 (going e).1 (first_reads e) (second_reads e) q.if-count-eq0.true ∙ ap (λ (x : Column). fitted (rows_of x) (Out s)) (sym (first-cut q)))
     w.copy.ensures
 
 offsets_of-ro-requires : tie.Need-offsets_of-ro-requires
@@ -277,54 +275,54 @@ steps-requires c κs =
     )
 
 shape_of-one_offsets : tie.Need-shape_of-one_offsets
-shape_of-one_offsets c = (went c).steps.auto.1.1.1.1.1.1.1.1.1.1.1.1.1.1.1.1.1.1.1.1.1.1.1.1.1.0
+shape_of-one_offsets c = (went c).steps.auto.to_offsets
 
 shape_of-one_rows : tie.Need-shape_of-one_rows
-shape_of-one_rows c = (went c).steps.auto.1.1.1.1.1.1.1.1.1.1.1.1.1.1.1.1.1.1.1.1.1.1.1.1.1.1.0
+shape_of-one_rows c = (went c).steps.auto.to_rows
 
 shape_of-one_values : tie.Need-shape_of-one_values
-shape_of-one_values c = (went c).steps.auto.1.1.1.1.1.1.1.1.1.1.1.1.1.1.1.1.1.1.1.1.1.1.1.1.1.1.1.0
+shape_of-one_values c = (went c).steps.auto.to_values
 
 shape_of-one_elements : tie.Need-shape_of-one_elements
-shape_of-one_elements c = (went c).steps.auto.1.1.1.1.1.1.1.1.1.1.1.1.1.1.1.1.1.1.1.1.1.1.1.1.1.1.1.1.0
+shape_of-one_elements c = (went c).steps.auto.to_elements
 
 shape_of-two_offsets : tie.Need-shape_of-two_offsets
-shape_of-two_offsets c = (went c).steps.auto.1.1.1.1.1.1.1.1.1.1.1.1.1.1.1.1.1.1.1.1.1.0
+shape_of-two_offsets c = (went c).steps.auto.from_offsets
 
 shape_of-two_rows : tie.Need-shape_of-two_rows
-shape_of-two_rows c = (went c).steps.auto.1.1.1.1.1.1.1.1.1.1.1.1.1.1.1.1.1.1.1.1.1.1.0
+shape_of-two_rows c = (went c).steps.auto.from_rows
 
 shape_of-two_values : tie.Need-shape_of-two_values
-shape_of-two_values c = (went c).steps.auto.1.1.1.1.1.1.1.1.1.1.1.1.1.1.1.1.1.1.1.1.1.1.1.0
+shape_of-two_values c = (went c).steps.auto.from_values
 
 shape_of-two_elements : tie.Need-shape_of-two_elements
-shape_of-two_elements c = (went c).steps.auto.1.1.1.1.1.1.1.1.1.1.1.1.1.1.1.1.1.1.1.1.1.1.1.1.0
+shape_of-two_elements c = (went c).steps.auto.from_elements
 
 shape_of-out_offsets : tie.Need-shape_of-out_offsets
-shape_of-out_offsets c = (went c).steps.auto.1.1.1.1.1.1.1.1.1.1.1.1.1.1.1.1.1.1.1.1.1.1.1.1.1.1.1.1.1.0
+shape_of-out_offsets c = (went c).steps.auto.out_offsets
 
 shape_of-out_rows : tie.Need-shape_of-out_rows
-shape_of-out_rows c = (went c).steps.auto.1.1.1.1.1.1.1.1.1.1.1.1.1.1.1.1.1.1.1.1.1.1.1.1.1.1.1.1.1.1.0
+shape_of-out_rows c = (went c).steps.auto.out_rows
 
 shape_of-out_values : tie.Need-shape_of-out_values
-shape_of-out_values c = (went c).steps.auto.1.1.1.1.1.1.1.1.1.1.1.1.1.1.1.1.1.1.1.1.1.1.1.1.1.1.1.1.1.1.1.0
+shape_of-out_values c = (went c).steps.auto.out_values
 
 shape_of-out_elements : tie.Need-shape_of-out_elements
-shape_of-out_elements c = (went c).steps.auto.1.1.1.1.1.1.1.1.1.1.1.1.1.1.1.1.1.1.1.1.1.1.1.1.1.1.1.1.1.1.1.1.0
+shape_of-out_elements c = (went c).steps.auto.out_elements
 
 shape_of-one_large : tie.Need-shape_of-one_large
-shape_of-one_large c = (went c).steps.auto.1.1.1.1.1.1.1.1.1.1.1.1.1.1.1.1.1.1.1.1.1.1.1.1.1.1.1.1.1.1.1.1.1.1.1.1.1.0
+shape_of-one_large c = (went c).steps.auto.to_large
 
 shape_of-two_large : tie.Need-shape_of-two_large
-shape_of-two_large c = (went c).steps.auto.1.1.1.1.1.1.1.1.1.1.1.1.1.1.1.1.1.1.1.1.1.1.1.1.1.1.1.1.1.1.1.1.1.1.1.1.0
+shape_of-two_large c = (went c).steps.auto.from_large
 
 shape_of-out_large : tie.Need-shape_of-out_large
-shape_of-out_large c = (went c).steps.auto.1.1.1.1.1.1.1.1.1.1.1.1.1.1.1.1.1.1.1.1.1.1.1.1.1.1.1.1.1.1.1.1.1.1.1.1.1.1.0
+shape_of-out_large c = (went c).steps.auto.out_large
 
 returns : tie.Need-returns
 returns c =
     let w = went c in
-    let t = ready w.before in
+    let t = ready w in
     let e = past (list t) in
     let s = S (F e) in
     let a = s.args in

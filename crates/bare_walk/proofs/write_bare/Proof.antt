@@ -34,32 +34,32 @@ O s = used s.args.width s.args.out_offsets.now s.args.out_large.now
 -- ---- places: the first offset put and the start, from the loop; a turn's offset read and its values written, from what comes after
 
 abbrev put : tie.At-loop-left invariant-loop-left decreases-loop-left → tie.After-put_offset invariant-loop-left decreases-loop-left
-put l = l.before.before.before.before
+put l = l
 
 abbrev counted : tie.At-loop-left invariant-loop-left decreases-loop-left → tie.After-row_count-n invariant-loop-left decreases-loop-left
-counted l = (put l).before.before.before
+counted l = (put l)
 
 abbrev S : tie.At-loop-left invariant-loop-left decreases-loop-left → tie.Start invariant-loop-left decreases-loop-left
-S l = (counted l).before
+S l = (counted l)
 
 abbrev count : tie.At-loop-left invariant-loop-left decreases-loop-left → ℕ
-count l = (counted l).row_count.result
+count l = (counted l).row_count-n.result
 
 abbrev written : tie.After-put_offset-arg-in-loop-left-2-1 invariant-loop-left decreases-loop-left → tie.After-put_values-at invariant-loop-left decreases-loop-left
-written p = p.before.before.before
+written p = p
 
 abbrev turned : tie.After-out_large-in-loop-left-1 invariant-loop-left decreases-loop-left → tie.After-put_values-at invariant-loop-left decreases-loop-left
 turned p = written p.before.before.before
 
 abbrev looked : tie.After-put_values-at invariant-loop-left decreases-loop-left → tie.After-offset_at-b invariant-loop-left decreases-loop-left
-looked w = w.before.before
+looked w = w
 
 abbrev W : tie.At-loop-left invariant-loop-left decreases-loop-left → ℕ → Row
 W l = let s = S l in bare_at s.args.op (I s) s.args.values.now
 
 -- what the call asks, by the code's count
 rows_are : (l : tie.At-loop-left invariant-loop-left decreases-loop-left) → count l ≡ row_count (I (S l))
-rows_are l = (counted l).row_count.ensures
+rows_are l = (counted l).row_count-n.ensures
 
 all_rows : (l : tie.At-loop-left invariant-loop-left decreases-loop-left) → let s = S l in tab (W l) 0 (count l) ≡ bare_rows s.args.op (I s) s.args.values.now
 all_rows l = let s = S l in bare_rows_lem s.args.op (I s) s.args.values.now (count l) (rows_are l)
@@ -67,15 +67,14 @@ all_rows l = let s = S l in bare_rows_lem s.args.op (I s) s.args.values.now (cou
 total : (l : tie.At-loop-left invariant-loop-left decreases-loop-left) → let s = S l in length (flat (tab (W l) 0 (count l))) ≡ length (flat (bare_rows s.args.op (I s) s.args.values.now))
 total l = ap (λ (ws : List Row). length (flat ws)) (all_rows l)
 
-places : (l : tie.At-loop-left invariant-loop-left decreases-loop-left) → length (flat (tab (W l) 0 (count l))) ≤ length (S l).args.out-values.now
+places : (l : tie.At-loop-left invariant-loop-left decreases-loop-left) → length (flat (tab (W l) 0 (count l))) ≤ length (S l).args.out_values.now
 places l = omega (arith, total l, (S l).requires.1.1.1.1)
 
 -- a turn reads between two offsets
-reads : (q : tie.After-offset_at-b invariant-loop-left decreases-loop-left) → let l = q.before.before in (l.loop-left.a ≤ q.offset_at-b.result) × (q.offset_at-b.result ≤ length (S l).args.values.now)
+reads : (q : tie.After-offset_at-b invariant-loop-left decreases-loop-left) → (q.loop-left.a ≤ q.offset_at-b.result) × (q.offset_at-b.result ≤ length (S q.before.before).args.values.now)
 reads q =
-    let l = q.before.before in
-    let s = S l in
-    bare_reads s.args.op (I s) s.args.values.now (count l) l.loop-left.invariant.0 q.loop-left-test.true q.offset_at-b.result q.offset_at-b.ensures.0 (rows_are l) s.requires.1.0
+    let s = S q.before.before in
+    bare_reads s.args.op (I s) s.args.values.now (count q.before.before) q.loop-left.invariant.0 q.loop-left-test.true q.offset_at-b.result q.offset_at-b.ensures.0 (rows_are q.before.before) s.requires.1.0
 
 row_count-n-requires : tie.Need-row_count-n-requires invariant-loop-left decreases-loop-left
 row_count-n-requires c κs = search
@@ -88,9 +87,7 @@ first_offset-a-requires c κs = search
 
 loop-left-init : tie.Need-loop-left-init invariant-loop-left decreases-loop-left
 loop-left-init c =
-    let p = c.before.before.before in
-    let s = p.before.before.before.before in
-    (bare_begun s.args.op (I s) s.args.values.now p.row_count-n.result _ _ c.first_offset-a.ensures, refl, refl)
+    (bare_begun c.args.op (I c.before.before.before.before.before.before.before) c.args.values.now c.row_count-n.result _ _ c.first_offset-a.ensures, refl, refl)
 
 overflow_add-r : tie.Need-overflow_add-r invariant-loop-left decreases-loop-left
 overflow_add-r c = omega (arith, c.loop-left.invariant.0.walk.rows, c.loop-left-test.true)
@@ -103,26 +100,23 @@ overflow_sub-len c = (reads c).0
 
 put_values-at-requires : tie.Need-put_values-at-requires invariant-loop-left decreases-loop-left
 put_values-at-requires c κs =
-    let q = c.before in
-    let l = q.before.before in
-    let s = S l in
-    let g = reads q in
-    (s.requires.0, (omega arith, bare_room s.args.op (I s) s.args.values.now (count l) l.loop-left.invariant.0 q.loop-left-test.true q.offset_at-b.result q.offset_at-b.ensures.0 (places l)))
+    let s = S c.before.before.before in
+    let g = reads c.before in
+    (s.requires.0, (omega arith, bare_room s.args.op (I s) s.args.values.now (count c.before.before.before) c.loop-left.invariant.0 c.loop-left-test.true c.offset_at-b.result c.offset_at-b.ensures.0 (places c.before.before.before)))
 
 overflow_add-r-in-loop-left : tie.Need-overflow_add-r-in-loop-left invariant-loop-left decreases-loop-left
-overflow_add-r-in-loop-left c = let i = (looked (written c)).before in omega (arith, i.loop-left.invariant.0.walk.rows, i.loop-left-test.true)
+overflow_add-r-in-loop-left c = let i = (looked (written c)) in omega (arith, i.loop-left.invariant.0.walk.rows, i.loop-left-test.true)
 
 put_offset-requires-in-loop-left : tie.Need-put_offset-requires-in-loop-left invariant-loop-left decreases-loop-left
 put_offset-requires-in-loop-left c κs =
     let w = written c in
     let q = looked w in
-    let l = q.before.before in
-    let s = S l in
-    let k = bare_small s.args.op (I s) s.args.values.now (count l) l.loop-left.invariant.0 q.loop-left-test.true q.offset_at-b.result q.offset_at-b.ensures.0 w.put_values-at.ensures in
-    (bare_slot s.args.op (I s) s.args.values.now (count l) l.loop-left.invariant.0 q.loop-left-test.true q.offset_at-b.result q.offset_at-b.ensures.0 (omega (arith, rows_are l, s.requires.1.1.1.0, put_keeps (O s) 0 0 (put l).put-offset.ensures)), omega (arith, k, total l, s.requires.1.1.0))
+    let s = S q in
+    let k = bare_small s.args.op (I s) s.args.values.now (count q) q.loop-left.invariant.0 q.loop-left-test.true q.offset_at-b.result q.offset_at-b.ensures.0 w.put_values-at.ensures in
+    (bare_slot s.args.op (I s) s.args.values.now (count q) q.loop-left.invariant.0 q.loop-left-test.true q.offset_at-b.result q.offset_at-b.ensures.0 (omega (arith, rows_are q, s.requires.1.1.1.0, put_keeps (O s) 0 0 (put q).put_offset.ensures)), omega (arith, k, total q, s.requires.1.1.0))
 
-overflow_add-r : tie.Need-overflow_add-r invariant-loop-left decreases-loop-left
-overflow_add-r c = let i = (looked (turned c)).before in omega (arith, i.loop-left.invariant.0.walk.rows, i.loop-left-test.true)
+overflow_add-r-in-loop-left-2 : tie.Need-overflow_add-r-in-loop-left-2 invariant-loop-left decreases-loop-left
+overflow_add-r-in-loop-left-2 c = let i = (looked (turned c)) in omega (arith, i.loop-left.invariant.0.walk.rows, i.loop-left-test.true)
 
 overflow_sub-left : tie.Need-overflow_sub-left invariant-loop-left decreases-loop-left
 overflow_sub-left c = omega (arith, (looked (turned c)).loop-left-test.true)
@@ -134,28 +128,23 @@ loop-left-preserved : tie.Need-loop-left-preserved invariant-loop-left decreases
 loop-left-preserved c =
     let w = turned c in
     let q = looked w in
-    let l = q.before.before in
-    let s = S l in
+    let s = S q in
     let p = c.put_offset-in-loop-left in
-    (bare_more s.args.op (I s) s.args.values.now (count l) l.loop-left.invariant.0 q.loop-left-test.true q.offset_at-b.result q.offset_at-b.ensures.0 w.put_values-at.ensures p.ensures, p.auto.narrow ∙ l.loop-left.invariant.1, p.auto.wide ∙ l.loop-left.invariant.2)
+    (bare_more s.args.op (I s) s.args.values.now (count q) q.loop-left.invariant.0 q.loop-left-test.true q.offset_at-b.result q.offset_at-b.ensures.0 w.put_values-at.ensures p.ensures, p.auto.narrow ∙ q.loop-left.invariant.1, p.auto.wide ∙ q.loop-left.invariant.2)
 
 shape_of-out_offsets : tie.Need-shape_of-out_offsets invariant-loop-left decreases-loop-left
-shape_of-out_offsets c = c.loop-left.invariant.1 ∙ (put c.before).put-offset.kept.1.0
+shape_of-out_offsets c = c.loop-left.invariant.1 ∙ (put c.before).put_offset.kept.1.0
 
 shape_of-out_values : tie.Need-shape_of-out_values invariant-loop-left decreases-loop-left
 shape_of-out_values c = c.loop-left.invariant.0.walk.lv
 
 shape_of-out_large : tie.Need-shape_of-out_large invariant-loop-left decreases-loop-left
-shape_of-out_large c = c.loop-left.invariant.2 ∙ (put c.before).put-offset.kept.1.1.0
+shape_of-out_large c = c.loop-left.invariant.2 ∙ (put c.before).put_offset.kept.1.1.0
 
 returns : tie.Need-returns invariant-loop-left decreases-loop-left
 returns c =
-    let l = c.before in
-    let s = S l in
-    rw (← all_rows l) (bare_done s.args.op (I s) s.args.values.now (count l) (O s) l.loop-left.invariant.0 (omega (arith, c.loop-left-test.false)) (put l).put-offset.ensures (omega (arith, rows_are l, s.requires.1.1.1.0)) (places l))
-
-overflow_add-r-in-loop-left-2 : tie.Need-overflow_add-r-in-loop-left-2 invariant-loop-left decreases-loop-left
-overflow_add-r-in-loop-left-2 c = search rules
+    let s = S c.before in
+    rw (← all_rows c.before) (bare_done s.args.op (I s) s.args.values.now (count c.before) (O s) c.loop-left.invariant.0 (omega (arith, c.loop-left-test.false)) (put c.before).put_offset.ensures (omega (arith, rows_are c.before, s.requires.1.1.1.0)) (places c.before))
 
 pub write_bare_spec : {M : Type 1} → statement M
 write_bare_spec =

@@ -13,16 +13,16 @@ I s = used s.args.width s.args.offsets.now s.args.large.now
 -- ---- places: the rows counted, offsets and values written, and the bits of the rows
 
 abbrev begun : tie.After-row_count-n → tie.Start
-begun p = p.before.before.before
+begun p = p
 
 abbrev counted : tie.After-write_bare-m → tie.After-row_count-n
-counted p = p.before.before.before.before
+counted p = p
 
 abbrev written : tie.After-push_same → tie.After-write_bare-m
-written p = p.before.before.before.before.before
+written p = p
 
 abbrev set : tie.After-slice_known-4-1 → tie.After-push_same
-set p = p.before.before.before.before.before.before
+set p = p
 
 row_count-n-requires : tie.Need-row_count-n-requires
 row_count-n-requires c κs = search
@@ -35,7 +35,7 @@ write_bare-m-requires c κs =
 push_same-requires : tie.Need-push_same-requires
 push_same-requires c κs =
     let n = counted c.before.before.before.before in
-    omega (arith, n.row_count-n.ensures, (begun n).pre.1.1.1.rows)
+    omega (arith, n.row_count-n.ensures, (begun n).requires.1.1.1.rows)
 
 push_same-requires-2 : tie.Need-push_same-requires-2
 push_same-requires-2 c κs =
@@ -46,7 +46,7 @@ shape_of-out_offsets : tie.Need-shape_of-out_offsets
 shape_of-out_offsets c = (written (set c)).write_bare-m.auto.out_offsets
 
 shape_of-out_rows : tie.Need-shape_of-out_rows
-shape_of-out_rows c = (set c).push-same.auto.0
+shape_of-out_rows c = (set c).push_same.auto.bitmap
 
 shape_of-out_values : tie.Need-shape_of-out_values
 shape_of-out_values c = (written (set c)).write_bare-m.auto.out_values
@@ -62,7 +62,7 @@ returns c =
     let w = written (set c) in
     let n = counted w in
     let s = begun n in
-    bare_filled s.args.op (I s) s.args.values.now s.requires.0 n.row_count-n.ensures s.requires.1.1.1 w.write_bare-m.ensures (set c).push-same.ensures c.push_same-2.ensures
+    bare_filled s.args.op (I s) s.args.values.now s.requires.0 n.row_count-n.ensures s.requires.1.1.1 w.write_bare-m.ensures (set c).push_same.ensures c.push_same-2.ensures
 
 pub write_rows_spec : {M : Type 1} → statement M
 write_rows_spec =

@@ -46,11 +46,9 @@ lowest-requires-2 c κs = search rules
 
 returns : tie.Need-returns
 returns c =
-    let e = c.before.before in
-    let s = e.before.before.before in
-    let a = s.args in
+    let a = c.args in
     rw c.lowest-2.ensures (
-      read_across a.m a.bitmap.now a.k a.s (omega (arith, e.shared_slice_known-1.given a.k)) s.requires.0 s.requires.1.1.0,
+      read_across a.m a.bitmap.now a.k a.s (omega (arith, c.shared_slice_known-1.given a.k)) c.requires.0 c.requires.1.1.0,
       mod-lt _ (pow_pos a.m),
     )
 

@@ -16,7 +16,7 @@ overflow_shr-result : tie.Need-overflow_shr-result
 overflow_shr-result c = search rules
 
 returns : tie.Need-returns
-returns c = let s = c.before in turned_few s.args.m s.args.byte c.turned.result s.requires.1.0 s.requires.1.1 c.turned.type_inv c.turned.ensures
+returns c = turned_few c.args.m c.args.byte c.turned.result c.requires.1.0 c.requires.1.1 c.turned.type_inv c.turned.ensures
 
 pub few_turned_spec : {M : Type 1} → statement M
 few_turned_spec =

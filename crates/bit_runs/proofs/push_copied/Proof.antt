@@ -13,33 +13,33 @@ decreases-loop-left bitmap k s n out₀ at j₀ p₀ left₀ out j p left = left
 
 -- from the end of a turn, from the loop, and from after it
 abbrev Turn : tie.After-slice_known-in-loop-left-1 invariant-loop-left decreases-loop-left → tie.In-loop-left invariant-loop-left decreases-loop-left
-Turn c = c.before.before.before.before.before
+Turn c = c
 
 abbrev Began : tie.At-loop-left invariant-loop-left decreases-loop-left → tie.Start invariant-loop-left decreases-loop-left
-Began c = c.before.before.before
+Began c = c
 
 abbrev Over : tie.After-slice_known-2-1 invariant-loop-left decreases-loop-left → tie.At-loop-left invariant-loop-left decreases-loop-left
-Over c = c.before.before.before.before.before
+Over c = c
 
 loop-left-init : tie.Need-loop-left-init invariant-loop-left decreases-loop-left
 loop-left-init c = forward_begun _ _ _ _ _ _
 
 word_from-word-requires : tie.Need-word_from-word-requires invariant-loop-left decreases-loop-left
 word_from-word-requires c κs =
-    let p = (Began c.before).pre in
+    let p = (Began c.before).requires in
     (omega (arith, p.0), omega (arith, c.loop-left-test.true, c.loop-left.invariant, p.1.0))
 
 push_word-requires : tie.Need-push_word-requires invariant-loop-left decreases-loop-left
-push_word-requires c κs = let t = c.before.before in omega (arith, t.loop-left-test.true, t.loop-left.invariant, (Began t.before).pre.1.1.0)
+push_word-requires c κs = omega (arith, c.loop-left-test.true, c.loop-left.invariant, (Began c.before.before.before).requires.1.1.0)
 
 overflow_add-j : tie.Need-overflow_add-j invariant-loop-left decreases-loop-left
-overflow_add-j c = let t = Turn c in omega (arith, t.loop-left-test.true, t.loop-left.invariant, (Began t.before).pre)
+overflow_add-j c = let t = Turn c in omega (arith, t.loop-left-test.true, t.loop-left.invariant, (Began t).requires)
 
 overflow_add-p : tie.Need-overflow_add-p invariant-loop-left decreases-loop-left
-overflow_add-p c = let t = Turn c in omega (arith, t.loop-left-test.true, t.loop-left.invariant, (Began t.before).pre)
+overflow_add-p c = let t = Turn c in omega (arith, t.loop-left-test.true, t.loop-left.invariant, (Began t).requires)
 
 loop-left-smaller : tie.Need-loop-left-smaller invariant-loop-left decreases-loop-left
-loop-left-smaller c = omega (arith, (Turn c).loop-test.true)
+loop-left-smaller c = omega (arith, (Turn c).loop-left-test.true)
 
 loop-left-preserved : tie.Need-loop-left-preserved invariant-loop-left decreases-loop-left
 loop-left-preserved c =
@@ -50,15 +50,14 @@ loop-left-preserved c =
 
 push_eights-requires : tie.Need-push_eights-requires invariant-loop-left decreases-loop-left
 push_eights-requires c κs =
-    let l = c.before.before in
-    let p = (Began l).requires in
-    (p.0, (omega (arith, l.loop-left.invariant, p.1.0), (omega (arith, l.loop-left.invariant, p.1.1.0), omega (arith, l.loop-left.invariant, p.1.1.1))))
+    let p = (Began c.before.before).requires in
+    (p.0, (omega (arith, c.loop-left.invariant, p.1.0), (omega (arith, c.loop-left.invariant, p.1.1.0), omega (arith, c.loop-left.invariant, p.1.1.1))))
 
 shape_of-out : tie.Need-shape_of-out invariant-loop-left decreases-loop-left
-shape_of-out c = c.push_eights.auto.out ∙ (Over c).loop.invariant.kept
+shape_of-out c = c.push_eights.auto.out ∙ (Over c).loop-left.invariant.kept
 
 returns : tie.Need-returns invariant-loop-left decreases-loop-left
-returns c = c.push_eights.ensures ∙ (Over c).loop.invariant.rest
+returns c = c.push_eights.ensures ∙ (Over c).loop-left.invariant.rest
 
 pub push_copied_spec : {M : Type 1} → statement M
 push_copied_spec =

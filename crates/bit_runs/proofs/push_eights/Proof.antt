@@ -13,38 +13,37 @@ decreases-loop-left bitmap k s n out₀ at j₀ p₀ left₀ out j p left = left
 
 -- from the end of a turn, from the loop, and from after it
 abbrev Turn : tie.After-slice_known-in-loop-left-1 invariant-loop-left decreases-loop-left → tie.In-loop-left invariant-loop-left decreases-loop-left
-Turn c = c.before.before.before.before.before
+Turn c = c
 
 abbrev Began : tie.At-loop-left invariant-loop-left decreases-loop-left → tie.Start invariant-loop-left decreases-loop-left
-Began c = c.before.before.before
+Began c = c
 
 abbrev Over : tie.After-slice_known-2-1 invariant-loop-left decreases-loop-left → tie.At-loop-left invariant-loop-left decreases-loop-left
-Over c = c.before.before.before.before.before.before.before
+Over c = c
 
 loop-left-init : tie.Need-loop-left-init invariant-loop-left decreases-loop-left
 loop-left-init c = forward_begun _ _ _ _ _ _
 
 few_at-bits-requires : tie.Need-few_at-bits-requires invariant-loop-left decreases-loop-left
 few_at-bits-requires c κs =
-    let p = (Began c.before).pre in
+    let p = (Began c.before).requires in
     (p.0, (omega arith, (omega arith, omega (arith, c.loop-left-test.true, c.loop-left.invariant, p.1.0))))
 
 push_few-requires : tie.Need-push_few-requires invariant-loop-left decreases-loop-left
 push_few-requires c κs =
-    let t = c.before.before in
-    (omega arith, (omega arith, (c.few_at-bits.ensures.1, omega (arith, t.loop-left-test.true, t.loop-left.invariant, (Began t.before).pre.1.1.0))))
+    (omega arith, (omega arith, (c.few_at-bits.ensures.1, omega (arith, c.loop-left-test.true, c.loop-left.invariant, (Began c.before.before.before).requires.1.1.0))))
 
 overflow_add-j : tie.Need-overflow_add-j invariant-loop-left decreases-loop-left
-overflow_add-j c = let t = Turn c in omega (arith, t.loop-left-test.true, t.loop-left.invariant, (Began t.before).pre)
+overflow_add-j c = let t = Turn c in omega (arith, t.loop-left-test.true, t.loop-left.invariant, (Began t).requires)
 
 overflow_add-p : tie.Need-overflow_add-p invariant-loop-left decreases-loop-left
-overflow_add-p c = let t = Turn c in omega (arith, t.loop-left-test.true, t.loop-left.invariant, (Began t.before).pre)
+overflow_add-p c = let t = Turn c in omega (arith, t.loop-left-test.true, t.loop-left.invariant, (Began t).requires)
 
 overflow_sub-left : tie.Need-overflow_sub-left invariant-loop-left decreases-loop-left
-overflow_sub-left c = omega (arith, (Turn c).loop-test.true)
+overflow_sub-left c = omega (arith, (Turn c).loop-left-test.true)
 
 loop-left-smaller : tie.Need-loop-left-smaller invariant-loop-left decreases-loop-left
-loop-left-smaller c = omega (arith, (Turn c).loop-test.true)
+loop-left-smaller c = omega (arith, (Turn c).loop-left-test.true)
 
 loop-left-preserved : tie.Need-loop-left-preserved invariant-loop-left decreases-loop-left
 loop-left-preserved c =
@@ -60,23 +59,20 @@ returns-then-left-eq0 c = forward_none _ _ _ _ _ _ c.loop-left.invariant c.if-le
 
 few_at-bits-requires-2 : tie.Need-few_at-bits-requires-2 invariant-loop-left decreases-loop-left
 few_at-bits-requires-2 c κs =
-    let a = c.before in
-    let p = (Began a.before).pre in
-    (p.0, (omega (arith, c.if-left-eq0.false), (omega (arith, a), omega (arith, a.loop-left.invariant, p.1.0))))
+    let p = (Began c.before.before).requires in
+    (p.0, (omega (arith, c.if-left-eq0.false), (omega (arith, c), omega (arith, c.loop-left.invariant, p.1.0))))
 
 push_few-requires-2 : tie.Need-push_few-requires-2 invariant-loop-left decreases-loop-left
 push_few-requires-2 c κs =
-    let e = c.before.before in
-    let a = e.before in
-    (omega (arith, e.if-left-eq0.false), (omega (arith, a), (c.few_at-bits-2.ensures.1, omega (arith, a.loop-left.invariant, (Began a.before).pre.1.1.0))))
+    (omega (arith, c.if-left-eq0.false), (omega (arith, c), (c.few_at-bits-2.ensures.1, omega (arith, c.loop-left.invariant, (Began c.before.before.before.before).requires.1.1.0))))
 
 shape_of-out : tie.Need-shape_of-out invariant-loop-left decreases-loop-left
-shape_of-out c = c.push_few-2.auto.out ∙ (Over c).loop.invariant.kept
+shape_of-out c = c.push_few-2.auto.out ∙ (Over c).loop-left.invariant.kept
 
 returns : tie.Need-returns invariant-loop-left decreases-loop-left
 returns c =
     let f = c.few_at-bits-2 in
-    forward_last _ _ _ _ _ _ (Over c).loop.invariant f.result c.push_few-2.ensures f.ensures.0
+    forward_last _ _ _ _ _ _ (Over c).loop-left.invariant f.result c.push_few-2.ensures f.ensures.0
 
 pub push_eights_spec : {M : Type 1} → statement M
 push_eights_spec =

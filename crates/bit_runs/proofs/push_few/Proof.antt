@@ -13,7 +13,7 @@ shape_of-out-then-s-eq0 : tie.Need-shape_of-out-then-s-eq0
 shape_of-out-then-s-eq0 c = search rules
 
 returns-then-s-eq0 : tie.Need-returns-then-s-eq0
-returns-then-s-eq0 c = let s = c.before in sym (few-first s.args.m s.args.bits _ s.args.at (omega (arith, s.requires.0, s.requires.1.1.1)) c.if-s-eq0.true s.requires.0 s.requires.1.0 s.requires.1.1.0)
+returns-then-s-eq0 c = sym (few-first c.args.m c.args.bits _ c.args.at (omega (arith, c.requires.0, c.requires.1.1.1)) c.if-s-eq0.true c.requires.0 c.requires.1.0 c.requires.1.1.0)
 
 bounds-out-k-2 : tie.Need-bounds-out-k-2
 bounds-out-k-2 c = search rules
@@ -43,23 +43,21 @@ overflow_add-out : tie.Need-overflow_add-out
 overflow_add-out c = search rules
 
 bounds-out-k-then-s-m-gt8 : tie.Need-bounds-out-k-then-s-m-gt8
-bounds-out-k-then-s-m-gt8 c = let s = c.before.before.before in rw (length-set _ _ _) (omega (arith, s.requires.0, s.requires.1.1.1, c.if-s-m-gt8.true))
+bounds-out-k-then-s-m-gt8 c = rw (length-set _ _ _) (omega (arith, c.requires.0, c.requires.1.1.1, c.if-s-m-gt8.true))
 
 shape_of-out-then-s-m-gt8 : tie.Need-shape_of-out-then-s-m-gt8
 shape_of-out-then-s-m-gt8 c = search rules
 
 returns-then-s-m-gt8 : tie.Need-returns-then-s-m-gt8
 returns-then-s-m-gt8 c =
-    let s = c.before.before.before in
-    few_across s.args.m s.args.bits _ s.args.at (omega (arith, s.requires.0, s.requires.1.1.1, c.if-s-m-gt8.true)) (omega (arith, c.if-s-eq0.false)) c.if-s-m-gt8.true s.requires.1.0 s.requires.1.1.0
+    few_across c.args.m c.args.bits _ c.args.at (omega (arith, c.requires.0, c.requires.1.1.1, c.if-s-m-gt8.true)) (omega (arith, c.if-s-eq0.false)) c.if-s-m-gt8.true c.requires.1.0 c.requires.1.1.0
 
 shape_of-out-else-s-m-gt8 : tie.Need-shape_of-out-else-s-m-gt8
 shape_of-out-else-s-m-gt8 c = search rules
 
 returns-else-s-m-gt8 : tie.Need-returns-else-s-m-gt8
 returns-else-s-m-gt8 c =
-    let s = c.before.before.before in
-    few_shifted s.args.m s.args.bits _ s.args.at (omega (arith, s.requires.0, s.requires.1.1.1)) (omega (arith, c.if-s-eq0.false)) c.if-s-m-gt8.false s.requires.1.1.0
+    few_shifted c.args.m c.args.bits _ c.args.at (omega (arith, c.requires.0, c.requires.1.1.1)) (omega (arith, c.if-s-eq0.false)) c.if-s-m-gt8.false c.requires.1.1.0
 
 pub push_few_spec : {M : Type 1} → statement M
 push_few_spec =

@@ -13,13 +13,13 @@ decreases-loop-left bitmap k s n out₀ at last t j₀ p₀ left₀ out j p left
 
 -- from the end of a turn, from the loop, and from after it
 abbrev Turn : tie.After-slice_known-in-loop-left-1 invariant-loop-left decreases-loop-left → tie.In-loop-left invariant-loop-left decreases-loop-left
-Turn c = c.before.before.before.before.before.before
+Turn c = c
 
 abbrev Began : tie.At-loop-left invariant-loop-left decreases-loop-left → tie.Start invariant-loop-left decreases-loop-left
-Began c = c.before.before.before
+Began c = c
 
 abbrev Over : tie.After-slice_known-2-1 invariant-loop-left decreases-loop-left → tie.At-loop-left invariant-loop-left decreases-loop-left
-Over c = c.before.before.before.before.before.before.before.before
+Over c = c
 
 overflow_add-last : tie.Need-overflow_add-last invariant-loop-left decreases-loop-left
 overflow_add-last c = omega (arith, c.requires.0)
@@ -38,7 +38,7 @@ overflow_sub-j c = omega (arith, c.loop-left-test.true, c.loop-left.invariant)
 
 few_at-bits-requires : tie.Need-few_at-bits-requires invariant-loop-left decreases-loop-left
 few_at-bits-requires c κs =
-    let p = (Began c.before).pre in
+    let p = (Began c.before).requires in
     (omega arith, (omega arith, (omega arith, omega (arith, c.loop-left-test.true, c.loop-left.invariant, p.1.0))))
 
 few_turned-back-requires : tie.Need-few_turned-back-requires invariant-loop-left decreases-loop-left
@@ -46,14 +46,13 @@ few_turned-back-requires c κs = (omega arith, (omega arith, c.few_at-bits.ensur
 
 push_few-requires : tie.Need-push_few-requires invariant-loop-left decreases-loop-left
 push_few-requires c κs =
-    let t = c.before.before.before in
-    (omega arith, (omega arith, (c.few_turned-back.ensures.1, omega (arith, t.loop-left-test.true, t.loop-left.invariant, (Began t.before).pre.1.1.0))))
+    (omega arith, (omega arith, (c.few_turned-back.ensures.1, omega (arith, c.loop-left-test.true, c.loop-left.invariant, (Began c.before.before.before.before).requires.1.1.0))))
 
 overflow_add-p : tie.Need-overflow_add-p invariant-loop-left decreases-loop-left
-overflow_add-p c = let t = Turn c in omega (arith, t.loop-left-test.true, t.loop-left.invariant, (Began t.before).pre)
+overflow_add-p c = let t = Turn c in omega (arith, t.loop-left-test.true, t.loop-left.invariant, (Began t).requires)
 
 loop-left-smaller : tie.Need-loop-left-smaller invariant-loop-left decreases-loop-left
-loop-left-smaller c = omega (arith, (Turn c).loop-test.true)
+loop-left-smaller c = omega (arith, (Turn c).loop-left-test.true)
 
 loop-left-preserved : tie.Need-loop-left-preserved invariant-loop-left decreases-loop-left
 loop-left-preserved c =
@@ -71,29 +70,25 @@ returns-then-left-eq0 c = backward_none _ _ _ _ _ _ _ c.loop-left.invariant c.if
 
 few_at-bits-requires-2 : tie.Need-few_at-bits-requires-2 invariant-loop-left decreases-loop-left
 few_at-bits-requires-2 c κs =
-    let a = c.before in
-    let p = (Began a.before).pre in
-    (p.0, (omega (arith, c.if-left-eq0.false), (omega (arith, a), omega (arith, a.loop-left.invariant, p.1.0))))
+    let p = (Began c.before.before).requires in
+    (p.0, (omega (arith, c.if-left-eq0.false), (omega (arith, c), omega (arith, c.loop-left.invariant, p.1.0))))
 
 few_turned-back-requires-2 : tie.Need-few_turned-back-requires-2 invariant-loop-left decreases-loop-left
 few_turned-back-requires-2 c κs =
-    let e = c.before in
-    (omega (arith, e.if-left-eq0.false), (omega (arith, e.before), c.few_at-bits-2.ensures.1))
+    (omega (arith, c.if-left-eq0.false), (omega (arith, c), c.few_at-bits-2.ensures.1))
 
 push_few-requires-2 : tie.Need-push_few-requires-2 invariant-loop-left decreases-loop-left
 push_few-requires-2 c κs =
-    let e = c.before.before.before in
-    let a = e.before in
-    (omega (arith, e.if-left-eq0.false), (omega (arith, a), (omega (arith, c.few_turned-back-2.ensures.1, c.few_at-bits-2.ensures.1), omega (arith, a.loop-left.invariant, (Began a.before).pre.1.1.0))))
+    (omega (arith, c.if-left-eq0.false), (omega (arith, c), (omega (arith, c.few_turned-back-2.ensures.1, c.few_at-bits-2.ensures.1), omega (arith, c.loop-left.invariant, (Began c.before.before.before.before.before).requires.1.1.0))))
 
 shape_of-out : tie.Need-shape_of-out invariant-loop-left decreases-loop-left
-shape_of-out c = c.push_few-2.auto.out ∙ (Over c).loop.invariant.kept
+shape_of-out c = c.push_few-2.auto.out ∙ (Over c).loop-left.invariant.kept
 
 returns : tie.Need-returns invariant-loop-left decreases-loop-left
 returns c =
     let r = c.few_turned-back-2 in
     let f = c.few_at-bits-2 in
-    backward_last _ _ _ _ _ _ _ (Over c).loop.invariant f.result r.result f.ensures.0 r.ensures.0 c.push_few-2.ensures
+    backward_last _ _ _ _ _ _ _ (Over c).loop-left.invariant f.result r.result f.ensures.0 r.ensures.0 c.push_few-2.ensures
 
 pub push_turned_spec : {M : Type 1} → statement M
 push_turned_spec =

@@ -16,17 +16,17 @@ abbrev decreases-loop-left : tie.decreases-loop-left
 decreases-loop-left bitmap from n found₀ k₀ left₀ found k left = left
 
 abbrev start : tie.At-loop-left invariant-loop-left decreases-loop-left → tie.Start invariant-loop-left decreases-loop-left
-start c = c.before.before
+start c = c
 
 -- the loop, from a turn, from its end, and from the last byte
 abbrev turn : tie.After-ones_below-found invariant-loop-left decreases-loop-left → tie.At-loop-left invariant-loop-left decreases-loop-left
-turn c = c.before.before.before
+turn c = c
 
 abbrev none : tie.Then-left-eq0 invariant-loop-left decreases-loop-left → tie.At-loop-left invariant-loop-left decreases-loop-left
-none c = c.before.before
+none c = c
 
 abbrev last : tie.After-ones_below invariant-loop-left decreases-loop-left → tie.At-loop-left invariant-loop-left decreases-loop-left
-last c = c.before.before.before.before
+last c = c
 
 loop-left-init : tie.Need-loop-left-init invariant-loop-left decreases-loop-left
 loop-left-init c = (omega arith, omega arith, omega arith)
@@ -39,7 +39,7 @@ ones_below-found-requires c κs = omega arith
 
 overflow_add-found : tie.Need-overflow_add-found invariant-loop-left decreases-loop-left
 overflow_add-found c =
-    let l = (turn c).loop in
+    let l = (turn c).loop-left in
     let a = (start (turn c)).args in
     omega (arith, c.ones_below-found.ensures, ones_mod_le (get_or a.bitmap.now l.k 0) 8)
 
@@ -54,7 +54,7 @@ loop-left-smaller c = omega arith
 
 loop-left-preserved : tie.Need-loop-left-preserved invariant-loop-left decreases-loop-left
 loop-left-preserved c =
-    let l = (turn c).loop in
+    let l = (turn c).loop-left in
     let a = (start (turn c)).args in
     let w = whole_byte a.bitmap.now l.k l.left (omega arith) in
     let m = ones_mod_le (get_or a.bitmap.now l.k 0) 8 in
@@ -62,7 +62,7 @@ loop-left-preserved c =
 
 returns-then-left-eq0 : tie.Need-returns-then-left-eq0 invariant-loop-left decreases-loop-left
 returns-then-left-eq0 c =
-    let l = (none c).loop in
+    let l = (none c).loop-left in
     let a = (start (none c)).args in
     omega (arith, rw (← c.if-left-eq0.true) at (trues-none (bit_at a.bitmap.now) (8 * l.k)))
 
@@ -74,13 +74,13 @@ ones_below-requires c κs = omega arith
 
 overflow_add-result : tie.Need-overflow_add-result invariant-loop-left decreases-loop-left
 overflow_add-result c =
-    let l = (last c).loop in
+    let l = (last c).loop-left in
     let a = (start (last c)).args in
     omega (arith, c.ones_below.ensures, ones_mod_le (get_or a.bitmap.now l.k 0) l.left)
 
 returns : tie.Need-returns invariant-loop-left decreases-loop-left
 returns c =
-    let l = (last c).loop in
+    let l = (last c).loop-left in
     let a = (start (last c)).args in
     omega (arith, c.ones_below.ensures, ones_bits a.bitmap.now l.k l.left (omega arith))
 

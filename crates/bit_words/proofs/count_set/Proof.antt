@@ -17,13 +17,13 @@ abbrev decreases-loop-left : tie.decreases-loop-left
 decreases-loop-left bitmap n found₀ k₀ left₀ found k left = left
 
 abbrev start : tie.At-loop-left invariant-loop-left decreases-loop-left → tie.Start invariant-loop-left decreases-loop-left
-start c = c.before.before
+start c = c
 
 abbrev turn : tie.After-word_at invariant-loop-left decreases-loop-left → tie.At-loop-left invariant-loop-left decreases-loop-left
-turn c = c.before.before
+turn c = c
 
 abbrev over : tie.After-count_bytes invariant-loop-left decreases-loop-left → tie.At-loop-left invariant-loop-left decreases-loop-left
-over c = c.before.before
+over c = c
 
 loop-left-init : tie.Need-loop-left-init invariant-loop-left decreases-loop-left
 loop-left-init c = (omega arith, omega arith, omega arith)
@@ -45,7 +45,7 @@ loop-left-smaller c = omega arith
 
 loop-left-preserved : tie.Need-loop-left-preserved invariant-loop-left decreases-loop-left
 loop-left-preserved c =
-    let l = (turn c).loop in
+    let l = (turn c).loop-left in
     let a = (start (turn c)).args in
     let x = c.word_at.result in
     let w = word_counted (bit_at a.bitmap.now) (8 * l.k) (8 * (l.k + 8)) l.left x c.loop-left-test.true (omega arith) c.word_at.ensures c.word_at.type_inv in
@@ -56,7 +56,7 @@ count_bytes-requires c κs = omega arith
 
 overflow_add-result : tie.Need-overflow_add-result invariant-loop-left decreases-loop-left
 overflow_add-result c =
-    let l = (over c).loop in
+    let l = (over c).loop-left in
     let a = (start (over c)).args in
     omega (arith, c.count_bytes.ensures, trues-tab (bit_at a.bitmap.now) (8 * l.k) l.left)
 

@@ -8,10 +8,10 @@ use Rattle.bit_words.proofs.pair_at.Statement.{statement}
 use Rattle.bit_words.proofs.pair_at.Tie as tie
 
 abbrev first : tie.After-wide-2 → tie.After-wide
-first c = c.before.before
+first c = c
 
 abbrev start : tie.After-wide-2 → tie.Start
-start c = (first c).before.before.before
+start c = (first c)
 
 bounds-bitmap-k : tie.Need-bounds-bitmap-k
 bounds-bitmap-k c = omega arith
@@ -32,7 +32,7 @@ returns : tie.Need-returns
 returns c =
     let a = (start c).args in
     let l = a.bitmap.now in
-    let known = (first c).before.shared-slice-known2.given in
+    let known = (first c).shared_slice_known-2-1.given in
     join_halves (bit_at l) 8 64 _ _ (8 * a.k) (8 * (a.k + 1)) (omega arith) (omega arith)
     (ap (λ (r : ℕ). low_bits r 8) (first c).wide.ensures ∙ byte_bits 8 l a.k (omega arith))
     (omega (arith, (first c).wide.ensures, known a.k))

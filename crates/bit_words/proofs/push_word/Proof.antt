@@ -11,23 +11,23 @@ use Rattle.bit_words.proofs.push_word.Tie as tie
 
 -- after all of the word is put, and where the place was tested
 abbrev whole : tie.After-slice_known-then-s-eq0-1 → tie.After-put_word
-whole c = c.before.before
+whole c = c
 
 abbrev even : tie.After-put_word → tie.Then-s-eq0
-even c = c.before.before
+even c = c
 
 -- after the bits past the byte begun are put, and where the place was tested
 abbrev rest : tie.After-slice_known-3-1 → tie.After-put_word-2
-rest c = c.before.before
+rest c = c
 
 abbrev begun : tie.After-put_word-2 → tie.Else-s-eq0
-begun c = c.before.before.before
+begun c = c
 
 put_word-requires : tie.Need-put_word-requires
 put_word-requires c κs = omega (arith, c.if-s-eq0.true)
 
 shape_of-out-then-s-eq0 : tie.Need-shape_of-out-then-s-eq0
-shape_of-out-then-s-eq0 c = (whole c).put_word.auto.0
+shape_of-out-then-s-eq0 c = (whole c).put_word.auto.out
 
 returns-then-s-eq0 : tie.Need-returns-then-s-eq0
 returns-then-s-eq0 c =
@@ -60,13 +60,12 @@ put_word-requires-2 : tie.Need-put_word-requires-2
 put_word-requires-2 c κs = simp length-set (omega (arith, c.if-s-eq0.false))
 
 shape_of-out : tie.Need-shape_of-out
-shape_of-out c = (rest c).put-word2.auto.0 ∙ simp length-set
+shape_of-out c = (rest c).put_word-2.auto.out ∙ simp length-set
 
 returns : tie.Need-returns
 returns c =
     let e = begun (rest c) in
-    let s = e.before.before in
-    (rest c).put-word2.ensures ∙ word_shifted s.args.word s.args.out.now s.args.at (omega (arith, s.requires)) (omega (arith, e.if-s-eq0.false)) s.ranges.word.fits
+    (rest c).put_word-2.ensures ∙ word_shifted e.args.word e.args.out.now e.args.at (omega (arith, e.requires)) (omega (arith, e.if-s-eq0.false)) e.ranges.word.fits
 
 pub push_word_spec : {M : Type 1} → statement M
 push_word_spec =

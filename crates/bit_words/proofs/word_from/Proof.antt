@@ -7,10 +7,10 @@ use Rattle.bit_words.proofs.word_from.Statement.{statement}
 use Rattle.bit_words.proofs.word_from.Tie as tie
 
 abbrev start : tie.After-word_at → tie.Start
-start c = c.before.before
+start c = c
 
 abbrev word : tie.After-wide → tie.After-word_at
-word c = c.before.before.before
+word c = c
 
 word_at-requires : tie.Need-word_at-requires
 word_at-requires c κs = omega arith

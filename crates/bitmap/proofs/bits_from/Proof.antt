@@ -19,13 +19,11 @@ overflow_add-byte-2 c = search rules
 
 slice_bounds-result-count : tie.Need-slice_bounds-result-count
 slice_bounds-result-count c =
-    let s = c.before in
-    omega (arith, s.requires.0.small, s.requires.1, long (from s.args.start s.args.bitmap.now) s.args.n s.requires.0 c.if-bitmap-eq0.false)
+    omega (arith, c.requires.0.small, c.requires.1, long (from c.args.start c.args.bitmap.now) c.args.n c.requires.0 c.if-bitmap-eq0.false)
 
 slice_bounds-result-start : tie.Need-slice_bounds-result-start
 slice_bounds-result-start c =
-    let s = c.before in
-    omega (arith, s.requires.0.small, s.requires.1, long (from s.args.start s.args.bitmap.now) s.args.n s.requires.0 c.if-bitmap-eq0.false)
+    omega (arith, c.requires.0.small, c.requires.1, long (from c.args.start c.args.bitmap.now) c.args.n c.requires.0 c.if-bitmap-eq0.false)
 
 slice_bounds-result-end : tie.Need-slice_bounds-result-end
 slice_bounds-result-end c = search rules

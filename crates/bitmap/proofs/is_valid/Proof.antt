@@ -12,20 +12,17 @@ returns-then-bitmap-eq0 c = rw (eq-eqb _ _ c.if-bitmap-eq0.true)
 
 bit_at-requires : tie.Need-bit_at-requires
 bit_at-requires c κs =
-    let s = c.before.before.before in
-    let a = s.args in
-    rw (c.if-start-eq0.true, zero-add a.i) at (within (from a.start a.bitmap.now) a.i a.n s.requires.0 s.requires.1 c.if-bitmap-eq0.false)
+    let a = c.args in
+    rw (c.if-start-eq0.true, zero-add a.i) at (within (from a.start a.bitmap.now) a.i a.n c.requires.0 c.requires.1 c.if-bitmap-eq0.false)
 
 returns-then-start-eq0 : tie.Need-returns-then-start-eq0
 unfolding valid_at
 returns-then-start-eq0 c =
-    let e = c.before.before in
-    rw (ne_eqb _ _ e.if-bitmap-eq0.false, c.if-start-eq0.true, zero-add e.args.i) c.bit_at.ensures
+    rw (ne_eqb _ _ c.if-bitmap-eq0.false, c.if-start-eq0.true, zero-add c.args.i) c.bit_at.ensures
 
 bit_from-requires : tie.Need-bit_from-requires
 bit_from-requires c κs =
-    let s = c.before.before.before in
-    (s.requires.0.small, within (from s.args.start s.args.bitmap.now) s.args.i s.args.n s.requires.0 s.requires.1 c.if-bitmap-eq0.false)
+    (c.requires.0.small, within (from c.args.start c.args.bitmap.now) c.args.i c.args.n c.requires.0 c.requires.1 c.if-bitmap-eq0.false)
 
 returns : tie.Need-returns
 unfolding valid_at

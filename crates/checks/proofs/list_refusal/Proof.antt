@@ -13,7 +13,7 @@ use Rattle.checks.proofs.list_refusal.Tie as tie
 
 -- the places that are used below
 abbrev S : tie.Else-is_start_over → tie.Start
-S e = e.before.before.before.before
+S e = e
 
 -- no starting bit is over 7
 none_over : (e : tie.Else-is_start_over) → (ltb 7 (S e).args.rstart || ltb 7 (S e).args.estart) ≡ false
@@ -41,36 +41,29 @@ row_count-requires c κs = search rules
 
 is_short-requires : tie.Need-is_short-requires
 is_short-requires c κs =
-    let e = c.before.before.before in
-    omega (arith, ltb-false 7 (S e).args.rstart (starts e).0)
+    omega (arith, ltb-false 7 (S c.before.before.before).args.rstart (starts c.before.before.before).0)
 
 returns-then-is_short : tie.Need-returns-then-is_short
 unfolding columns_refusal any refusal13 refusal2
 returns-then-is_short c =
-    let b = c.before.before.before.before in
     let s = rw c.row_count.ensures at c.is_short.ensures in
-    rw (none_over b.before, ← b.are_bad.ensures, c.if-are_bad.false, ← s, c.if-is_short.true)
+    rw (none_over c.before.before.before.before.before, ← c.are_bad.ensures, c.if-are_bad.false, ← s, c.if-is_short.true)
 
 is_short-requires-2 : tie.Need-is_short-requires-2
 is_short-requires-2 c κs =
-    let e = c.before.before.before.before.before in
-    omega (arith, ltb-false 7 (S e).args.estart (starts e).1)
+    omega (arith, ltb-false 7 (S c.before.before.before.before.before).args.estart (starts c.before.before.before.before.before).1)
 
 returns-then-is_short-2 : tie.Need-returns-then-is_short-2
 unfolding columns_refusal any refusal13 refusal2
 returns-then-is_short-2 c =
-    let e = c.before.before in
-    let b = e.before.before.before.before in
-    let s = rw e.row_count.ensures at e.is_short.ensures in
-    rw (none_over b.before, ← b.are_bad.ensures, e.if-are_bad.false, ← s, e.if-is_short.false, ← c.is_short-2.ensures, c.if-is_short-2.true)
+    let s = rw c.row_count.ensures at c.is_short.ensures in
+    rw (none_over c.before.before.before.before.before.before.before, ← c.are_bad.ensures, c.if-are_bad.false, ← s, c.if-is_short.false, ← c.is_short-2.ensures, c.if-is_short-2.true)
 
 returns : tie.Need-returns
 unfolding columns_refusal any refusal13 refusal2
 returns c =
-    let e = c.before.before in
-    let b = e.before.before.before.before in
-    let s = rw e.row_count.ensures at e.is_short.ensures in
-    rw (none_over b.before, ← b.are_bad.ensures, e.if-are_bad.false, ← s, e.if-is_short.false, ← c.is_short-2.ensures, c.if-is_short-2.false)
+    let s = rw c.row_count.ensures at c.is_short.ensures in
+    rw (none_over c.before.before.before.before.before.before.before, ← c.are_bad.ensures, c.if-are_bad.false, ← s, c.if-is_short.false, ← c.is_short-2.ensures, c.if-is_short-2.false)
 
 pub list_refusal_spec : {M : Type 1} → statement M
 list_refusal_spec =

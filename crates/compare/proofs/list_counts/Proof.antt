@@ -1,8 +1,8 @@
 use borrow.Author.Rules.{rules}
 use Rattle.model.proofs.BoolLaws.{never}
 use Rattle.compare.proofs.SameLaws.{apart, list_counts_lem}
-use Rattle.compare.proofs.list_counts_lem.Statement.{statement}
-use Rattle.compare.proofs.list_counts_lem.Tie as tie
+use Rattle.compare.proofs.list_counts.Statement.{statement}
+use Rattle.compare.proofs.list_counts.Tie as tie
 
 enum_known-answer : tie.Need-enum_known-answer
 enum_known-answer c = search rules

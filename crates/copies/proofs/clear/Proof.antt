@@ -3,7 +3,7 @@ use Rattle.copies.proofs.clear.Tie as tie
 
 -- the offsets cleared, from the values cleared
 abbrev offsets : tie.After-clear_i64 → tie.After-clear_i32
-offsets v = v.before.before.before.before.before.before.before
+offsets v = v
 
 clear_i32-requires : tie.Need-clear_i32-requires
 clear_i32-requires c κs = tt
@@ -31,9 +31,7 @@ shape_of-elements c = search
 
 returns : tie.Need-returns
 returns c =
-    let u = c.before.before in
-    let v = u.before.before.before in
-    ((offsets v).clear-i32.ensures, (v.clear_u8.ensures, (v.clear_i64.ensures, u.clear_u8-2.ensures)))
+    ((offsets c.before.before.before.before.before).clear_i32.ensures, (c.clear_u8.ensures, (c.clear_i64.ensures, c.clear_u8-2.ensures)))
 
 pub clear_spec : {M : Type 1} → statement M
 clear_spec =

@@ -3,7 +3,7 @@ use Rattle.copies.proofs.clear_large.Tie as tie
 
 -- the offsets cleared, from the values cleared
 abbrev offsets : tie.After-clear_i64-2 → tie.After-clear_i64
-offsets v = v.before.before.before.before.before.before.before
+offsets v = v
 
 clear_i64-requires : tie.Need-clear_i64-requires
 clear_i64-requires c κs = tt
@@ -31,9 +31,7 @@ shape_of-elements c = search
 
 returns : tie.Need-returns
 returns c =
-    let u = c.before.before in
-    let v = u.before.before.before in
-    ((offsets v).clear-i64.ensures, (v.clear_u8.ensures, (v.clear_i64-2.ensures, u.clear_u8-2.ensures)))
+    ((offsets c.before.before.before.before.before).clear_i64.ensures, (c.clear_u8.ensures, (c.clear_i64-2.ensures, c.clear_u8-2.ensures)))
 
 pub clear_large_spec : {M : Type 1} → statement M
 clear_large_spec =

@@ -20,10 +20,10 @@ use Rattle.copies.proofs.copy.Tie as tie
 -- ---- places: the start; room found, from the rows written
 
 abbrev S : tie.After-has_room → tie.Start
-S h = h.before.before.before.before.before.before.before.before
+S h = h
 
 abbrev roomed : tie.After-write_rows → tie.Else-not-has_room
-roomed w = w.before.before.before.before.before.before
+roomed w = w
 
 -- ---- the column, its rows, and the lengths of the output
 
@@ -50,7 +50,7 @@ room_is : (h : tie.After-has_room) → h.has_room.result ≡ fits_in (length (W 
 room_is h = rw (slots h) at h.has_room.ensures ∙ same_fit (L (S h)) (rows_are h) h.measure_rows-m.ensures.0
 
 roomy : (e : tie.Else-not-has_room) → let s = S e.before in RoomInˡ (length (W s)) (length (flat (W s))) (length (O s)) (length s.args.out_rows.now) (length s.args.out_values.now) (length s.args.out_elements.now)
-roomy e = has_room _ _ _ _ _ _ (sym (room_is e.before) ∙ not-false _ e.if-not-has_room.false)
+roomy e = has_room _ _ _ _ _ _ (sym (room_is e.before) ∙ not-false _ e.if-not-has_room.false-raw)
 
 row_count-n-requires : tie.Need-row_count-n-requires
 row_count-n-requires c κs = search rules
@@ -65,7 +65,7 @@ has_room-requires : tie.Need-has_room-requires
 has_room-requires c κs = search rules
 
 returns-then-not-has_room : tie.Need-returns-then-not-has_room
-returns-then-not-has_room c = let h = c.before in list-refused 9 (fitted_short (W (S h)) (L (S h)) (sym (room_is h) ∙ not-true _ c.if-not-has_room.true))
+returns-then-not-has_room c = list-refused 9 (fitted_short (W (S c.before)) (L (S c.before)) (sym (room_is c.before) ∙ not-true _ c.if-not-has_room.true-raw))
 
 write_rows-requires : tie.Need-write_rows-requires
 write_rows-requires c κs =
@@ -75,10 +75,9 @@ write_rows-requires c κs =
 
 list_answer-requires : tie.Need-list_answer-requires
 list_answer-requires c κs =
-    let w = c.before.before.before.before.before.before.before.before.before in
-    let e = roomed w in
+    let e = roomed c.before.before.before.before.before.before.before in
     let r = roomy e in
-    (omega (arith, r.rows, rows_are e.before, w.write_rows.auto.out_rows), omega (arith, r.elements, e.measure_rows-m.ensures.0, w.write_rows.auto.out_elements))
+    (omega (arith, r.rows, rows_are e, c.write_rows.auto.out_rows), omega (arith, r.elements, e.measure_rows-m.ensures.0, c.write_rows.auto.out_elements))
 
 shape_of-out_offsets : tie.Need-shape_of-out_offsets
 shape_of-out_offsets c = search
@@ -97,11 +96,9 @@ shape_of-out_large c = search
 
 returns : tie.Need-returns
 returns c =
-    let w = c.before.before.before.before.before.before.before.before.before.before in
-    let e = roomed w in
-    let h = e.before in
-    let s = S h in
-    list-made (W s) _ _ (fitted-made (W s) (L s) (sym (room_is h) ∙ not-false _ e.if-not-has_room.false)) (rows_are h) h.measure_rows-m.ensures.0 w.write_rows.ensures c.list_answer.ensures
+    let e = roomed c.before.before.before.before.before.before.before.before in
+    let s = S e in
+    list-made (W s) _ _ (fitted-made (W s) (L s) (sym (room_is e) ∙ not-false _ e.if-not-has_room.false-raw)) (rows_are e) e.measure_rows-m.ensures.0 c.write_rows.ensures c.list_answer.ensures
 
 pub copy_spec : {M : Type 1} → statement M
 copy_spec =

@@ -9,10 +9,10 @@ use Rattle.copy_rows.proofs.put_row.Tie as tie
 -- ---- places: whether the row is valid and the start; how long it is, from its elements written
 
 abbrev S : tie.After-is_valid-valid → tie.Start
-S v = v.before.before.before.before.before
+S v = v
 
 abbrev told : tie.After-write_forward-next → tie.After-row_len-len
-told w = w.before.before.before
+told w = w
 
 -- ---- needs
 
@@ -24,14 +24,13 @@ row_len-len-requires c κs = search rules
 
 write_forward-next-requires : tie.Need-write_forward-next-requires
 write_forward-next-requires c κs =
-    let n = c.before.before in
-    let s = S n.before in
+    let s = S c.before.before.before in
     let a = s.args in
     let l = len_from_le (from a.rstart a.rows.now) a.r a.a a.b s.requires.0.rises in
     let e = elems_from (from a.rstart a.rows.now) a.r a.a a.b (elem_at a.values.now (from a.estart a.elements.now)) in
-    let v = rw (e, ← n.row_len-len.ensures) at s.requires.1.values in
-    let b = rw (e, ← n.row_len-len.ensures) at s.requires.1.elements in
-    (record { inside = omega (arith, s.requires.0.inside, n.row_len-len.ensures); bits = s.requires.0.elements }, record { values = v; elements = b })
+    let v = rw (e, ← c.row_len-len.ensures) at s.requires.1.values in
+    let b = rw (e, ← c.row_len-len.ensures) at s.requires.1.elements in
+    (record { inside = omega (arith, s.requires.0.inside, c.row_len-len.ensures); bits = s.requires.0.elements }, record { values = v; elements = b })
 
 push_bit-requires : tie.Need-push_bit-requires
 push_bit-requires c κs = search rules
@@ -47,17 +46,15 @@ shape_of-out_elements c = search
 
 returns : tie.Need-returns
 returns c =
-    let w = c.before.before.before.before.before.before.before in
-    let n = told w in
-    let v = n.before in
-    let a = (S v).args in
+    let n = told c.before.before.before.before.before.before.before in
+    let a = (S n).args in
     let E = elem_at a.values.now (from a.estart a.elements.now) in
     let e = elems_from (from a.rstart a.rows.now) a.r a.a a.b E in
     record {
-      rows = rw (is_row-from (from a.rstart a.rows.now) a.r a.a a.b E, ← v.is_valid-valid.ensures) c.push_bit.ensures;
-      values = rw (e, ← n.row_len-len.ensures) w.write_forward-next.ensures.values;
-      elements = rw (e, ← n.row_len-len.ensures) w.write_forward-next.ensures.elements;
-      place = rw (e, ← n.row_len-len.ensures) w.write_forward-next.ensures.next;
+      rows = rw (is_row-from (from a.rstart a.rows.now) a.r a.a a.b E, ← n.is_valid-valid.ensures) c.push_bit.ensures;
+      values = rw (e, ← n.row_len-len.ensures) c.write_forward-next.ensures.values;
+      elements = rw (e, ← n.row_len-len.ensures) c.write_forward-next.ensures.elements;
+      place = rw (e, ← n.row_len-len.ensures) c.write_forward-next.ensures.next;
     }
 
 pub put_row_spec : {M : Type 1} → statement M

@@ -27,13 +27,13 @@ decreases-loop-left offsets rows rstart values elements estart out-offsets₀ ou
 -- ---- places: the start and the first offset put, from the loop; row r read, from the row written
 
 abbrev put : tie.At-loop-left invariant-loop-left decreases-loop-left → tie.After-put_offset invariant-loop-left decreases-loop-left
-put l = l.before.before.before
+put l = l
 
 abbrev S : tie.At-loop-left invariant-loop-left decreases-loop-left → tie.Start invariant-loop-left decreases-loop-left
-S l = (put l).before.before.before.before.before.before.before.before
+S l = (put l)
 
 abbrev read : tie.After-put_row-at invariant-loop-left decreases-loop-left → tie.After-offset_at-b invariant-loop-left decreases-loop-left
-read w = w.before.before.before.before
+read w = w
 
 -- ---- the column, its rows, and how many
 
@@ -41,13 +41,13 @@ abbrev C : tie.Start invariant-loop-left decreases-loop-left → Column
 C s = let a = s.args in column (used a.width a.offsets.now a.large.now) (from a.rstart a.rows.now) a.values.now (from a.estart a.elements.now)
 
 abbrev count : tie.At-loop-left invariant-loop-left decreases-loop-left → ℕ
-count l = (put l).before.before.before.row_count.result
+count l = (put l).row_count-n.result
 
 abbrev W : tie.At-loop-left invariant-loop-left decreases-loop-left → ℕ → Row
 W l = row_at (C (S l))
 
 abbrev rows_are : (l : tie.At-loop-left invariant-loop-left decreases-loop-left) → count l ≡ row_count (C (S l)).offsets
-rows_are l = (put l).before.before.before.row_count.ensures
+rows_are l = (put l).row_count-n.ensures
 
 -- the offsets that are written, as the call began
 abbrev O : tie.Start invariant-loop-left decreases-loop-left → List ℤ
@@ -55,12 +55,11 @@ O s = used s.args.width s.args.out_offsets.now s.args.out_large.now
 
 -- the row that a turn makes is row r's
 abbrev made : (q : tie.After-offset_at-b invariant-loop-left decreases-loop-left) → Row
-made q = let l = q.before.before.before in row_from (C (S l)).rows (elem_at (C (S l)).values (C (S l)).elements) l.loop-left.r q.offset_at-a.result q.offset_at-b.result
+made q = row_from (C (S q.before.before.before)).rows (elem_at (C (S q.before.before.before)).values (C (S q.before.before.before)).elements) q.loop-left.r q.offset_at-a.result q.offset_at-b.result
 
-same_row : (q : tie.After-offset_at-b invariant-loop-left decreases-loop-left) → let l = q.before.before.before in made q ≡ W l l.loop-left.r
+same_row : (q : tie.After-offset_at-b invariant-loop-left decreases-loop-left) → made q ≡ W q.before.before.before q.loop-left.r
 same_row q =
-    let l = q.before.before.before in
-    row_from_lem (C (S l)) l.loop-left.r q.offset_at-a.result q.offset_at-b.result q.offset_at-a.ensures.0 q.offset_at-b.ensures.0
+    row_from_lem (C (S q.before.before.before)) q.loop-left.r q.offset_at-a.result q.offset_at-b.result q.offset_at-a.ensures.0 q.offset_at-b.ensures.0
 
 row_count-n-requires : tie.Need-row_count-n-requires invariant-loop-left decreases-loop-left
 row_count-n-requires c κs = search rules
@@ -78,47 +77,37 @@ overflow_add-r : tie.Need-overflow_add-r invariant-loop-left decreases-loop-left
 overflow_add-r c = omega arith
 
 offset_at-b-requires : tie.Need-offset_at-b-requires invariant-loop-left decreases-loop-left
-offset_at-b-requires c κs = omega (arith, c.before)
+offset_at-b-requires c κs = omega (arith, c)
 
 put_row-at-requires : tie.Need-put_row-at-requires invariant-loop-left decreases-loop-left
 put_row-at-requires c κs =
-    let q = c.before.before.before in
-    let p = c.before.before.before.before in
-    let i = c.before.before.before.before.before in
-    let l = c.before.before.before.before.before.before in
-    (between (C (S l)) _ l.loop-left.r _ _ (S l).requires.0 (rows_are l) (omega (arith, i)) p.offset_at-a.ensures.0 q.offset_at-b.ensures.0, walk_room (W l) (count l) (made q) i.loop-left-test.true (same_row q) l.loop-left.invariant.0 (room_at (C (S l)) (count l) (rows_are l) (S l).requires.1.1 (put_keeps (O (S l)) 0 0 (put l).put-offset.ensures)))
+    (between (C (S c.before.before.before.before.before.before)) _ c.loop-left.r _ _ (S c.before.before.before.before.before.before).requires.0 (rows_are c.before.before.before.before.before.before) (omega (arith, c)) c.offset_at-a.ensures.0 c.offset_at-b.ensures.0, walk_room (W c.before.before.before.before.before.before) (count c.before.before.before.before.before.before) (made c.before.before.before) c.loop-left-test.true (same_row c.before.before.before) c.loop-left.invariant.0 (room_at (C (S c.before.before.before.before.before.before)) (count c.before.before.before.before.before.before) (rows_are c.before.before.before.before.before.before) (S c.before.before.before.before.before.before).requires.1.1 (put_keeps (O (S c.before.before.before.before.before.before)) 0 0 (put c.before.before.before.before.before.before).put_offset.ensures)))
 
 overflow_add-r-in-loop-left : tie.Need-overflow_add-r-in-loop-left invariant-loop-left decreases-loop-left
-overflow_add-r-in-loop-left c = omega (arith, (read c.before.before.before.before.before.before.before).before.before)
+overflow_add-r-in-loop-left c = omega (arith, (read c.before.before.before.before.before.before.before))
 
 put_offset-requires-in-loop-left : tie.Need-put_offset-requires-in-loop-left invariant-loop-left decreases-loop-left
 put_offset-requires-in-loop-left c κs =
-    let w = c.before.before.before.before.before.before.before in
-    let q = read w in
-    let i = q.before.before in
-    let l = i.before in
-    let k = walk_small (W l) (count l) (made q) i.loop-left-test.true (same_row q) l.loop-left.invariant.0 w.put_row-at.ensures in
-    (walk_slot (W l) (count l) (made q) i.loop-left-test.true (same_row q) l.loop-left.invariant.0 (room_at (C (S l)) (count l) (rows_are l) (S l).pre.1.1 (put_keeps (O (S l)) 0 0 (put l).put-offset.ensures)), omega (arith, (S l).pre.1.0, rw (rows_at (C (S l)) (count l) (rows_are l)) at k))
+    let q = read c.before.before.before.before.before.before.before in
+    let k = walk_small (W q) (count q) (made q) q.loop-left-test.true (same_row q) q.loop-left.invariant.0 c.put_row-at.ensures in
+    (walk_slot (W q) (count q) (made q) q.loop-left-test.true (same_row q) q.loop-left.invariant.0 (room_at (C (S q)) (count q) (rows_are q) (S q).requires.1.1 (put_keeps (O (S q)) 0 0 (put q).put_offset.ensures)), omega (arith, (S q).requires.1.0, rw (rows_at (C (S q)) (count q) (rows_are q)) at k))
 
-overflow_add-r : tie.Need-overflow_add-r invariant-loop-left decreases-loop-left
-overflow_add-r c = omega (arith, (read c.before.before.before.before.before.before.before.before.before.before).before.before)
+overflow_add-r-in-loop-left-2 : tie.Need-overflow_add-r-in-loop-left-2 invariant-loop-left decreases-loop-left
+overflow_add-r-in-loop-left-2 c = omega (arith, (read c.before.before.before.before.before.before.before.before.before.before))
 
 overflow_sub-left : tie.Need-overflow_sub-left invariant-loop-left decreases-loop-left
-overflow_sub-left c = omega (arith, (read c.before.before.before.before.before.before.before.before.before.before).before.before)
+overflow_sub-left c = omega (arith, (read c.before.before.before.before.before.before.before.before.before.before))
 
 loop-left-smaller : tie.Need-loop-left-smaller invariant-loop-left decreases-loop-left
-loop-left-smaller c = omega (arith, (read c.before.before.before.before.before.before.before.before.before.before).before.before)
+loop-left-smaller c = omega (arith, (read c.before.before.before.before.before.before.before.before.before.before))
 
 loop-left-preserved : tie.Need-loop-left-preserved invariant-loop-left decreases-loop-left
 loop-left-preserved c =
-    let w = c.before.before.before.before.before.before.before.before.before.before in
-    let q = read w in
-    let i = q.before.before in
-    let l = i.before in
-    (walk_more (W l) (count l) (made q) i.loop-left-test.true (same_row q) l.loop-left.invariant.0 w.put_row-at.ensures c.put_offset-in-loop-left.ensures, c.put_offset-in-loop-left.auto.narrow ∙ l.loop-left.invariant.1, c.put_offset-in-loop-left.auto.wide ∙ l.loop-left.invariant.2)
+    let q = read c.before.before.before.before.before.before.before.before.before.before in
+    (walk_more (W q) (count q) (made q) q.loop-left-test.true (same_row q) q.loop-left.invariant.0 c.put_row-at.ensures c.put_offset-in-loop-left.ensures, c.put_offset-in-loop-left.auto.narrow ∙ q.loop-left.invariant.1, c.put_offset-in-loop-left.auto.wide ∙ q.loop-left.invariant.2)
 
 shape_of-out_offsets : tie.Need-shape_of-out_offsets invariant-loop-left decreases-loop-left
-shape_of-out_offsets c = c.loop-left.invariant.1 ∙ (put c.before).put-offset.kept.1.0
+shape_of-out_offsets c = c.loop-left.invariant.1 ∙ (put c.before).put_offset.kept.1.0
 
 shape_of-out_rows : tie.Need-shape_of-out_rows invariant-loop-left decreases-loop-left
 shape_of-out_rows c = c.loop-left.invariant.0.lr
@@ -130,17 +119,13 @@ shape_of-out_elements : tie.Need-shape_of-out_elements invariant-loop-left decre
 shape_of-out_elements c = c.loop-left.invariant.0.le
 
 shape_of-out_large : tie.Need-shape_of-out_large invariant-loop-left decreases-loop-left
-shape_of-out_large c = c.loop-left.invariant.2 ∙ (put c.before).put-offset.kept.1.1.0
+shape_of-out_large c = c.loop-left.invariant.2 ∙ (put c.before).put_offset.kept.1.1.0
 
 returns : tie.Need-returns invariant-loop-left decreases-loop-left
 returns c =
-    let l = c.before in
-    let s = S l in
-    rw (← rows_at (C s) (count l) (rows_are l))
-    (walk_done (W l) (count l) (O s) l.loop-left.invariant.0 c.loop-left-test.false (put l).put-offset.ensures (room_at (C s) (count l) (rows_are l) s.requires.1.1 refl))
-
-overflow_add-r-in-loop-left-2 : tie.Need-overflow_add-r-in-loop-left-2 invariant-loop-left decreases-loop-left
-overflow_add-r-in-loop-left-2 c = search rules
+    let s = S c.before in
+    rw (← rows_at (C s) (count c.before) (rows_are c.before))
+    (walk_done (W c.before) (count c.before) (O s) c.loop-left.invariant.0 c.loop-left-test.false (put c.before).put_offset.ensures (room_at (C s) (count c.before) (rows_are c.before) s.requires.1.1 refl))
 
 pub write_rows_spec : {M : Type 1} → statement M
 write_rows_spec =

@@ -9,13 +9,13 @@ use Rattle.duthlan_large.proofs.duthlan_large_any_value.Tie as tie
 -- ---- places: the counts told, the operation run, the counts found long enough
 
 abbrev told : tie.After-slice_known-4-1 → tie.After-put_values
-told c = c.before.before
+told c = c
 
 abbrev ran : tie.After-slice_known-4-1 → tie.After-general_array_any_value-answer
-ran c = c.before.before.before.before.before.before.before
+ran c = c
 
 abbrev long : tie.After-slice_known-4-1 → tie.Else-counts-lt2
-long c = (ran c).before.before.before
+long c = (ran c)
 
 -- ---- needs
 
@@ -29,16 +29,16 @@ put_values-requires : tie.Need-put_values-requires
 put_values-requires c κs = c.if-counts-lt2.false
 
 shape_of-out_values : tie.Need-shape_of-out_values
-shape_of-out_values c = (ran c).general-array-any-value.auto.1.1.1.1.1.1.0
+shape_of-out_values c = (ran c).general_array_any_value-answer.auto.out_values
 
 shape_of-out_rows : tie.Need-shape_of-out_rows
-shape_of-out_rows c = (ran c).general-array-any-value.auto.1.1.1.1.1.1.1.0
+shape_of-out_rows c = (ran c).general_array_any_value-answer.auto.out_rows
 
 shape_of-counts : tie.Need-shape_of-counts
-shape_of-counts c = (told c).put-values.auto.1.0
+shape_of-counts c = (told c).put_values.auto.counts
 
 returns : tie.Need-returns
-returns c = value_told (own _ _ _ refl (le-ltb _ 2 (long c).if1.false)) (ran c).general-array-any-value.ensures (told c).put-values.ensures
+returns c = value_told (own _ _ _ refl (le-ltb _ 2 (long c).if-counts-lt2.false)) (ran c).general_array_any_value-answer.ensures (told c).put_values.ensures
 
 pub duthlan_large_any_value_spec : {M : Type 1} → statement M
 duthlan_large_any_value_spec =

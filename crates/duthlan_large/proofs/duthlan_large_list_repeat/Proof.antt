@@ -9,13 +9,13 @@ use Rattle.duthlan_large.proofs.duthlan_large_list_repeat.Tie as tie
 -- ---- places: the counts told, the operation run, the counts found long enough
 
 abbrev told : tie.After-slice_known-8-1 → tie.After-put_repeat
-told c = c.before.before
+told c = c
 
 abbrev ran : tie.After-slice_known-8-1 → tie.After-general_list_repeat-answer
-ran c = c.before.before.before.before.before.before.before.before.before.before.before.before.before
+ran c = c
 
 abbrev long : tie.After-slice_known-8-1 → tie.Else-counts-lt6
-long c = (ran c).before.before.before.before.before.before.before
+long c = (ran c)
 
 -- ---- needs
 
@@ -29,28 +29,28 @@ put_repeat-requires : tie.Need-put_repeat-requires
 put_repeat-requires c κs = c.if-counts-lt6.false
 
 shape_of-out_offsets : tie.Need-shape_of-out_offsets
-shape_of-out_offsets c = (ran c).general-list-repeat.auto.1.1.1.1.1.1.1.1.1.0
+shape_of-out_offsets c = (ran c).general_list_repeat-answer.auto.out_offsets
 
 shape_of-out_rows : tie.Need-shape_of-out_rows
-shape_of-out_rows c = (ran c).general-list-repeat.auto.1.1.1.1.1.1.1.1.1.1.0
+shape_of-out_rows c = (ran c).general_list_repeat-answer.auto.out_rows
 
 shape_of-inner_offsets : tie.Need-shape_of-inner_offsets
-shape_of-inner_offsets c = (ran c).general-list-repeat.auto.1.1.1.1.1.1.1.1.1.1.1.0
+shape_of-inner_offsets c = (ran c).general_list_repeat-answer.auto.inner_offsets
 
 shape_of-inner_rows : tie.Need-shape_of-inner_rows
-shape_of-inner_rows c = (ran c).general-list-repeat.auto.1.1.1.1.1.1.1.1.1.1.1.1.0
+shape_of-inner_rows c = (ran c).general_list_repeat-answer.auto.inner_rows
 
 shape_of-out_values : tie.Need-shape_of-out_values
-shape_of-out_values c = (ran c).general-list-repeat.auto.1.1.1.1.1.1.1.1.1.1.1.1.1.0
+shape_of-out_values c = (ran c).general_list_repeat-answer.auto.out_values
 
 shape_of-out_elements : tie.Need-shape_of-out_elements
-shape_of-out_elements c = (ran c).general-list-repeat.auto.1.1.1.1.1.1.1.1.1.1.1.1.1.1.0
+shape_of-out_elements c = (ran c).general_list_repeat-answer.auto.out_elements
 
 shape_of-counts : tie.Need-shape_of-counts
-shape_of-counts c = (told c).put-repeat.auto.1.0
+shape_of-counts c = (told c).put_repeat.auto.counts
 
 returns : tie.Need-returns
-returns c = repeat_told (own _ _ _ refl (le-ltb _ 6 (long c).if1.false)) (ran c).general-list-repeat.ensures (told c).put-repeat.ensures
+returns c = repeat_told (own _ _ _ refl (le-ltb _ 6 (long c).if-counts-lt6.false)) (ran c).general_list_repeat-answer.ensures (told c).put_repeat.ensures
 
 pub duthlan_large_list_repeat_spec : {M : Type 1} → statement M
 duthlan_large_list_repeat_spec =

@@ -40,13 +40,12 @@ refusal-requires c κs = search rules
 
 returns : tie.Need-returns
 returns c =
-    let e = c.before.before.before.before.before.before.before.before.before in
-    let a = e.args in
+    let a = c.args in
     let own = recipe_sizes a.numbers a.arguments in
     let lent = pair_sizes a.offsets a.values a.second_offsets a.second_values in
     let trays = pair_sizes a.one_offsets a.one_values a.two_offsets a.two_values in
     let outs = list_sizes a.out_offsets a.out_values in
-    tally-long _ _ _ e.if-tally-lt256.false
+    tally-long _ _ _ c.if-tally-lt256.false
     (refused_by_lem _ _ _
     (any_both ragged ((own ++ lent) ++ trays) outs (any_both ragged (own ++ lent) trays (any_both ragged own lent c.is_recipe_ragged.ensures c.is_pair_ragged.ensures) c.is_pair_ragged-2.ensures) c.is_list_ragged.ensures)
     (any_both outsize ((own ++ lent) ++ trays) outs (any_both outsize (own ++ lent) trays (any_both outsize own lent c.is_recipe_outsize.ensures c.is_pair_outsize.ensures) c.is_pair_outsize-2.ensures) c.is_list_outsize.ensures)

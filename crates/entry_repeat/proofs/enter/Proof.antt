@@ -13,31 +13,31 @@ use Rattle.entry_repeat.proofs.enter.Tie as tie
 
 -- the places that are used below
 abbrev else1-of-run-arg3 : tie.After-run-arg-3-1 → tie.Else-k-ne0
-else1-of-run-arg3 p = p.before.before.before.before.before.before
+else1-of-run-arg3 p = p
 
 abbrev put-repeat-of-slice-known14 : tie.After-slice_known-14-1 → tie.After-put_repeat
-put-repeat-of-slice-known14 p = p.before.before.before.before.before.before.before.before
+put-repeat-of-slice-known14 p = p
 
 abbrev slice-known-of-else1 : tie.Else-k-ne0 → tie.After-slice_known-1
-slice-known-of-else1 p = p.before.before.before.before.before.before.before.before
+slice-known-of-else1 p = p
 
 abbrev start-of-slice-known : tie.After-slice_known-1 → tie.Start
-start-of-slice-known p = p.before.before.before.before.before.before.before
+start-of-slice-known p = p
 
 abbrev start-of-else1 : tie.Else-k-ne0 → tie.Start
 start-of-else1 p = start-of-slice-known (slice-known-of-else1 p)
 
 abbrev out-elements-of-put-repeat-arg4 : tie.After-put_repeat-arg-4-1 → tie.After-out_elements-1
-out-elements-of-put-repeat-arg4 p = p.before.before.before.before.before.before.before.before
+out-elements-of-put-repeat-arg4 p = p
 
 abbrev run-of-out-elements : tie.After-out_elements-1 → tie.After-run-answer
-run-of-out-elements p = p.before.before.before.before.before.before.before.before
+run-of-out-elements p = p
 
 abbrev run-of-put-repeat-arg4 : tie.After-put_repeat-arg-4-1 → tie.After-run-answer
 run-of-put-repeat-arg4 p = run-of-out-elements (out-elements-of-put-repeat-arg4 p)
 
 abbrev else1-of-run : tie.After-run-answer → tie.Else-k-ne0
-else1-of-run p = p.before.before.before.before.before.before.before
+else1-of-run p = p
 
 abbrev else1-of-put-repeat-arg4 : tie.After-put_repeat-arg-4-1 → tie.Else-k-ne0
 else1-of-put-repeat-arg4 p = else1-of-run (run-of-out-elements (out-elements-of-put-repeat-arg4 p))
@@ -49,10 +49,10 @@ abbrev else1-of-slice-known14 : tie.After-slice_known-14-1 → tie.Else-k-ne0
 else1-of-slice-known14 p = else1-of-put-repeat-arg4 p.before.before.before.before.before.before.before.before.before
 
 abbrev put-repeat-arg4-of-slice-known14 : tie.After-slice_known-14-1 → tie.After-put_repeat-arg-4-1
-put-repeat-arg4-of-slice-known14 p = p.before.before.before.before.before.before.before.before.before
+put-repeat-arg4-of-slice-known14 p = p
 
 abbrev repeat-refusal-of-run : tie.After-run-answer → tie.After-repeat_refusal-k
-repeat-refusal-of-run p = p.before.before.before.before.before.before.before.before
+repeat-refusal-of-run p = p
 
 abbrev repeat-refusal-of-slice-known14 : tie.After-slice_known-14-1 → tie.After-repeat_refusal-k
 repeat-refusal-of-slice-known14 p = repeat-refusal-of-run (run-of-out-elements (out-elements-of-put-repeat-arg4 (put-repeat-arg4-of-slice-known14 p)))
@@ -67,10 +67,10 @@ abbrev arguments : tie.Else-k-ne0 → List Numbers
 arguments e = value_sizes (length (S e).args.times.now)
 
 abbrev outer : tie.Else-k-ne0 → List Numbers
-outer e = list_sizes (length (S e).args.out-offsets.now) (length (S e).args.out-values.now)
+outer e = list_sizes (length (S e).args.out_offsets.now) (length (S e).args.out_values.now)
 
 abbrev inner : tie.Else-k-ne0 → List Numbers
-inner e = inner_sizes (length (S e).args.inner-offsets.now)
+inner e = inner_sizes (length (S e).args.inner_offsets.now)
 
 -- the sizes have passed
 passed : (e : tie.Else-k-ne0) → Sized ((lists e ++ arguments e) ++ (outer e ++ inner e)) (length (S e).args.counts.now) 48
@@ -113,34 +113,34 @@ put_repeat-requires c κs =
     let e = else1-of-put-repeat-arg4 c in
     let r = all_right (lists e ++ arguments e) (outer e ++ inner e) (passed e).fit in
     let o = list-fits _ _ (all_left (outer e) (inner e) r) in
-    let k = (run-of-put-repeat-arg4 c).run in
-    ready k.ensures (rw k.kept.1.1.1.1.1.1.1.1.1.1.1.1.0 o.offsets) (rw k.kept.1.1.1.1.1.1.1.1.1.1.1.1.1.1.0 (inner-fits _ (all_right (outer e) (inner e) r))) (rw k.kept.1.1.1.1.1.1.1.1.1.1.1.1.1.1.1.1.0 o.values) refl refl refl (passed e).counts
+    let k = (run-of-put-repeat-arg4 c).run-answer in
+    ready k.ensures (rw k.kept.1.1.1.1.1.1.1.1.1.1.1.1.0 o.offsets) (rw k.kept.1.1.1.1.1.1.1.1.1.1.1.1.1.1.0 (inner-fits _ (all_right (outer e) (inner e) r))) (rw k.kept.1.1.1.1.1.1.1.1.1.1.1.1.1.1.1.1.0 o.values) refl refl refl (passed e).counts-1
 
 shape_of-out_offsets : tie.Need-shape_of-out_offsets
-shape_of-out_offsets c = (put-repeat-of-slice-known14 c).put-repeat.auto.1.1.1.1.0
+shape_of-out_offsets c = (put-repeat-of-slice-known14 c).put_repeat.auto.out_offsets
 
 shape_of-out_rows : tie.Need-shape_of-out_rows
-shape_of-out_rows c = (run-of-slice-known14 c).run.auto.1.1.1.1.1.1.1.1.1.1.1.1.1.0
+shape_of-out_rows c = (run-of-slice-known14 c).run-answer.auto.out_rows
 
 shape_of-inner_offsets : tie.Need-shape_of-inner_offsets
-shape_of-inner_offsets c = (put-repeat-of-slice-known14 c).put-repeat.auto.1.1.1.1.1.0
+shape_of-inner_offsets c = (put-repeat-of-slice-known14 c).put_repeat.auto.inner_offsets
 
 shape_of-inner_rows : tie.Need-shape_of-inner_rows
-shape_of-inner_rows c = (run-of-slice-known14 c).run.auto.1.1.1.1.1.1.1.1.1.1.1.1.1.1.1.0
+shape_of-inner_rows c = (run-of-slice-known14 c).run-answer.auto.inner_rows
 
 shape_of-out_values : tie.Need-shape_of-out_values
-shape_of-out_values c = (put-repeat-of-slice-known14 c).put-repeat.auto.1.1.1.1.1.1.0
+shape_of-out_values c = (put-repeat-of-slice-known14 c).put_repeat.auto.out_values
 
 shape_of-out_elements : tie.Need-shape_of-out_elements
-shape_of-out_elements c = (run-of-slice-known14 c).run.auto.1.1.1.1.1.1.1.1.1.1.1.1.1.1.1.1.1.0
+shape_of-out_elements c = (run-of-slice-known14 c).run-answer.auto.out_elements
 
 shape_of-counts : tie.Need-shape_of-counts
-shape_of-counts c = (put-repeat-of-slice-known14 c).put-repeat.auto.1.1.1.1.1.1.1.0
+shape_of-counts c = (put-repeat-of-slice-known14 c).put_repeat.auto.counts
 
 returns : tie.Need-returns
 returns c =
     let e = else1-of-slice-known14 c in
-    repeat_as (called _ _ refl (repeat-refusal-of-slice-known14 c).repeat-refusal.ensures e.if-k-ne0.false) (repeat_returns (run-of-slice-known14 c).run.ensures (put-repeat-of-slice-known14 c).put-repeat.ensures)
+    repeat_as (called _ _ refl (repeat-refusal-of-slice-known14 c).repeat_refusal-k.ensures e.if-k-ne0.false) (repeat_returns (run-of-slice-known14 c).run-answer.ensures (put-repeat-of-slice-known14 c).put_repeat.ensures)
 
 pub enter_spec : {M : Type 1} → statement M
 enter_spec =

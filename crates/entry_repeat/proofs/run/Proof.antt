@@ -15,19 +15,19 @@ slice_bounds-get_list-end-2 c = search rules
 
 -- the places that are used below
 abbrev get-list-of-lo3 : tie.After-lo-3-1 → tie.After-get_list
-get-list-of-lo3 p = p.before.before.before.before.before.before
+get-list-of-lo3 p = p
 
 abbrev get-list-of-lv3 : tie.After-lv-3-1 → tie.After-get_list
-get-list-of-lv3 p = p.before.before.before.before.before.before.before
+get-list-of-lv3 p = p
 
 abbrev general-list-repeat-of-slice-known6 : tie.After-slice_known-6-1 → tie.After-general_list_repeat
-general-list-repeat-of-slice-known6 p = p.before.before.before.before.before.before.before.before.before
+general-list-repeat-of-slice-known6 p = p
 
 abbrev shared-slice-known5-of-lv : tie.After-lv-1 → tie.After-shared_slice_known-5-1
-shared-slice-known5-of-lv p = p.before.before.before.before.before.before
+shared-slice-known5-of-lv p = p
 
 abbrev start-of-shared-slice-known5 : tie.After-shared_slice_known-5-1 → tie.Start
-start-of-shared-slice-known5 p = p.before.before.before.before.before
+start-of-shared-slice-known5 p = p
 
 abbrev start-of-lv : tie.After-lv-1 → tie.Start
 start-of-lv p = start-of-shared-slice-known5 (shared-slice-known5-of-lv p)
@@ -48,13 +48,13 @@ abbrev start-of-lt3 : tie.After-lt-3-1 → tie.Start
 start-of-lt3 p = start-of-lv3 p.before
 
 abbrev out-rows-of-slice-known6 : tie.After-slice_known-6-1 → tie.After-out_rows-1
-out-rows-of-slice-known6 p = p.before.before.before.before.before.before.before
+out-rows-of-slice-known6 p = p
 
 abbrev general-list-repeat-arg2-of-out-rows : tie.After-out_rows-1 → tie.After-general_list_repeat-arg-2-1
-general-list-repeat-arg2-of-out-rows p = p.before.before.before.before.before.before.before
+general-list-repeat-arg2-of-out-rows p = p
 
 abbrev get-values-of-general-list-repeat-arg2 : tie.After-general_list_repeat-arg-2-1 → tie.After-get_values
-get-values-of-general-list-repeat-arg2 p = p.before.before.before.before.before.before
+get-values-of-general-list-repeat-arg2 p = p
 
 abbrev get-values-of-slice-known6 : tie.After-slice_known-6-1 → tie.After-get_values
 get-values-of-slice-known6 p = get-values-of-general-list-repeat-arg2 (general-list-repeat-arg2-of-out-rows (out-rows-of-slice-known6 p))
@@ -72,13 +72,13 @@ abbrev start-of-general-list-repeat-arg4 : tie.After-general_list_repeat-arg-4-1
 start-of-general-list-repeat-arg4 p = start-of-general-list-repeat-arg3 p.before
 
 abbrev o-of-slice-known6 : tie.After-slice_known-6-1 → tie.After-o-1
-o-of-slice-known6 p = p.before.before.before.before.before.before.before.before
+o-of-slice-known6 p = p
 
 abbrev lt3-of-o : tie.After-o-1 → tie.After-lt-3-1
-lt3-of-o p = p.before.before.before.before.before.before.before.before
+lt3-of-o p = p
 
 abbrev get-list-of-lt3 : tie.After-lt-3-1 → tie.After-get_list
-get-list-of-lt3 p = p.before.before.before.before.before.before.before.before
+get-list-of-lt3 p = p
 
 abbrev get-list-of-slice-known6 : tie.After-slice_known-6-1 → tie.After-get_list
 get-list-of-slice-known6 p = get-list-of-lt3 (lt3-of-o (o-of-slice-known6 p))
@@ -87,13 +87,13 @@ abbrev start-of-general-list-repeat-arg5 : tie.After-general_list_repeat-arg-5-1
 start-of-general-list-repeat-arg5 p = start-of-general-list-repeat-arg4 p.before
 
 abbrev lo3-of-general-list-repeat : tie.After-general_list_repeat → tie.After-lo-3-1
-lo3-of-general-list-repeat p = p.before.before.before.before.before.before.before.before.before
+lo3-of-general-list-repeat p = p
 
 abbrev slice-known3-of-lo3 : tie.After-lo-3-1 → tie.After-slice_known-3-1
-slice-known3-of-lo3 p = p.before.before.before.before.before.before.before.before.before
+slice-known3-of-lo3 p = p
 
 abbrev start-of-slice-known3 : tie.After-slice_known-3-1 → tie.Start
-start-of-slice-known3 p = p.before.before.before.before.before.before.before.before.before
+start-of-slice-known3 p = p
 
 abbrev start-of-slice-known6 : tie.After-slice_known-6-1 → tie.Start
 start-of-slice-known6 p = start-of-slice-known3 (slice-known3-of-lo3 (lo3-of-general-list-repeat (general-list-repeat-of-slice-known6 p)))
@@ -111,13 +111,13 @@ slice_bounds-lo-end : tie.Need-slice_bounds-lo-end
 slice_bounds-lo-end c = rw c.get_list.auto.o (start-of-lt2 c).requires.0.offsets
 
 slice_bounds-general_list_repeat-end : tie.Need-slice_bounds-general_list_repeat-end
-slice_bounds-general_list_repeat-end c = sym (length-take-le _ _ (rw (get-list-of-lo3 c).get-list.auto.1.1.0 (start-of-lo3 c).requires.0.offsets))
+slice_bounds-general_list_repeat-end c = sym (length-take-le _ _ (rw (get-list-of-lo3 c).get_list.auto.o (start-of-lo3 c).requires.0.offsets))
 
 slice_bounds-lv-end : tie.Need-slice_bounds-lv-end
-slice_bounds-lv-end c = rw (get-list-of-lo3 c).get-list.auto.1.1.1.0 (start-of-lo3 c).requires.0.values
+slice_bounds-lv-end c = rw (get-list-of-lo3 c).get_list.auto.v (start-of-lo3 c).requires.0.values
 
 slice_bounds-general_list_repeat-end-2 : tie.Need-slice_bounds-general_list_repeat-end-2
-slice_bounds-general_list_repeat-end-2 c = sym (length-take-le _ _ (rw (get-list-of-lv3 c).get-list.auto.1.1.1.0 (start-of-lv3 c).requires.0.values))
+slice_bounds-general_list_repeat-end-2 c = sym (length-take-le _ _ (rw (get-list-of-lv3 c).get_list.auto.v (start-of-lv3 c).requires.0.values))
 
 slice_bounds-lt-end : tie.Need-slice_bounds-lt-end
 slice_bounds-lt-end c = rw c.get_values.auto.v (start-of-lv3 c).requires.1.0
@@ -148,39 +148,39 @@ general_list_repeat-requires c κs = search rules
 
 shape_of-o : tie.Need-shape_of-o
 shape_of-o c =
-    let k = (general-list-repeat-of-slice-known6 c).general-list-repeat in
+    let k = (general-list-repeat-of-slice-known6 c).general_list_repeat in
     let s = start-of-slice-known6 c in
     whole k.last.1.1.1.1.1.1.1.1.1.0 s.args.o.now s.args.mo s.requires.1.1.0 k.kept.1.1.1.1.1.1.1.1.1.0
 
 shape_of-out_rows : tie.Need-shape_of-out_rows
-shape_of-out_rows c = (general-list-repeat-of-slice-known6 c).general-list-repeat.auto.1.1.1.1.1.1.1.1.1.1.0
+shape_of-out_rows c = (general-list-repeat-of-slice-known6 c).general_list_repeat.auto.out_rows
 
 shape_of-io : tie.Need-shape_of-io
 shape_of-io c =
-    let k = (general-list-repeat-of-slice-known6 c).general-list-repeat in
+    let k = (general-list-repeat-of-slice-known6 c).general_list_repeat in
     let s = start-of-slice-known6 c in
     whole k.last.1.1.1.1.1.1.1.1.1.1.1.0 s.args.io.now s.args.mi s.requires.1.1.1.0 k.kept.1.1.1.1.1.1.1.1.1.1.1.0
 
 shape_of-inner_rows : tie.Need-shape_of-inner_rows
-shape_of-inner_rows c = (general-list-repeat-of-slice-known6 c).general-list-repeat.auto.1.1.1.1.1.1.1.1.1.1.1.1.0
+shape_of-inner_rows c = (general-list-repeat-of-slice-known6 c).general_list_repeat.auto.inner_rows
 
 shape_of-v : tie.Need-shape_of-v
 shape_of-v c =
-    let k = (general-list-repeat-of-slice-known6 c).general-list-repeat in
+    let k = (general-list-repeat-of-slice-known6 c).general_list_repeat in
     let s = start-of-slice-known6 c in
     whole k.last.1.1.1.1.1.1.1.1.1.1.1.1.1.0 s.args.v.now s.args.mv s.requires.1.1.1.1 k.kept.1.1.1.1.1.1.1.1.1.1.1.1.1.0
 
 shape_of-out_elements : tie.Need-shape_of-out_elements
-shape_of-out_elements c = (general-list-repeat-of-slice-known6 c).general-list-repeat.auto.1.1.1.1.1.1.1.1.1.1.1.1.1.1.0
+shape_of-out_elements c = (general-list-repeat-of-slice-known6 c).general_list_repeat.auto.out_elements
 
 returns : tie.Need-returns
 returns c =
-    let k = (general-list-repeat-of-slice-known6 c).general-list-repeat in
+    let k = (general-list-repeat-of-slice-known6 c).general_list_repeat in
     let s = start-of-slice-known6 c in
     let p = s.requires.1.1 in
-    let d = (get-list-of-slice-known6 c).get-list.ensures in
+    let d = (get-list-of-slice-known6 c).get_list.ensures in
     repeat_ran s.args.mo s.args.mi s.args.mv s.args.o.now s.args.io.now s.args.v.now k.ensures k.kept.1.1.1.1.1.1.1.1.1.0 k.kept.1.1.1.1.1.1.1.1.1.1.1.0 k.kept.1.1.1.1.1.1.1.1.1.1.1.1.1.0 p.0 p.1.0 p.1.1
-    (repeat_decoded _ _ _ _ _ _ d.offsets d.values (get-values-of-slice-known6 c).get-values.ensures (length-take-le _ _ p.0) (length-take-le _ _ p.1.0) (length-take-le _ _ p.1.1))
+    (repeat_decoded _ _ _ _ _ _ d.offsets d.values (get-values-of-slice-known6 c).get_values.ensures (length-take-le _ _ p.0) (length-take-le _ _ p.1.0) (length-take-le _ _ p.1.1))
 
 pub run_spec : {M : Type 1} → statement M
 run_spec =

@@ -16,28 +16,28 @@ slice_bounds-get_list-end-2 c = search rules
 
 -- the places that are used below
 abbrev get-values3-of-lz3 : tie.After-lz-3-1 → tie.After-get_values-3
-get-values3-of-lz3 p = p.before.before.before.before.before.before
+get-values3-of-lz3 p = p
 
 abbrev run-of-slice-known4 : tie.After-slice_known-4-1 → tie.After-run
-run-of-slice-known4 p = p.before.before.before.before.before.before
+run-of-slice-known4 p = p
 
 abbrev get-values2-of-lx3 : tie.After-lx-3-1 → tie.After-get_values-2
-get-values2-of-lx3 p = p.before.before.before.before.before.before.before
+get-values2-of-lx3 p = p
 
 abbrev get-values2-of-ly3 : tie.After-ly-3-1 → tie.After-get_values-2
-get-values2-of-ly3 p = p.before.before.before.before.before.before.before.before
+get-values2-of-ly3 p = p
 
 abbrev get-values-of-lv3 : tie.After-lv-3-1 → tie.After-get_values
-get-values-of-lv3 p = p.before.before.before.before.before.before.before.before.before
+get-values-of-lv3 p = p
 
 abbrev get-values-of-lx3 : tie.After-lx-3-1 → tie.After-get_values
 get-values-of-lx3 p = get-values-of-lv3 p.before
 
 abbrev lx2-of-lz2 : tie.After-lz-2-1 → tie.After-lx-2-1
-lx2-of-lz2 p = p.before.before.before.before.before.before
+lx2-of-lz2 p = p
 
 abbrev get-list-of-lx2 : tie.After-lx-2-1 → tie.After-get_list
-get-list-of-lx2 p = p.before.before.before.before.before
+get-list-of-lx2 p = p
 
 abbrev get-list-of-lz2 : tie.After-lz-2-1 → tie.After-get_list
 get-list-of-lz2 p = get-list-of-lx2 (lx2-of-lz2 p)
@@ -49,19 +49,19 @@ abbrev get-list-of-lv3 : tie.After-lv-3-1 → tie.After-get_list
 get-list-of-lv3 p = get-list-of-lo3 p.before
 
 abbrev shared-slice-known7-of-lv : tie.After-lv-1 → tie.After-shared_slice_known-7-1
-shared-slice-known7-of-lv p = p.before.before.before.before.before.before.before
+shared-slice-known7-of-lv p = p
 
 abbrev start-of-shared-slice-known7 : tie.After-shared_slice_known-7-1 → tie.Start
-start-of-shared-slice-known7 p = p.before.before.before.before.before.before.before
+start-of-shared-slice-known7 p = p
 
 abbrev start-of-lv : tie.After-lv-1 → tie.Start
 start-of-lv p = start-of-shared-slice-known7 (shared-slice-known7-of-lv p)
 
 abbrev run-arg2-of-slice-known4 : tie.After-slice_known-4-1 → tie.After-run-arg-2-1
-run-arg2-of-slice-known4 p = p.before.before.before.before.before.before.before.before.before
+run-arg2-of-slice-known4 p = p
 
 abbrev get-values3-of-run-arg2 : tie.After-run-arg-2-1 → tie.After-get_values-3
-get-values3-of-run-arg2 p = p.before.before.before.before.before.before.before.before
+get-values3-of-run-arg2 p = p
 
 abbrev get-values3-of-slice-known4 : tie.After-slice_known-4-1 → tie.After-get_values-3
 get-values3-of-slice-known4 p = get-values3-of-run-arg2 (run-arg2-of-slice-known4 p)
@@ -70,13 +70,13 @@ abbrev start-of-lx : tie.After-lx-1 → tie.Start
 start-of-lx p = start-of-lv p.before.before.before.before
 
 abbrev run-arg4-of-slice-known4 : tie.After-slice_known-4-1 → tie.After-run-arg-4-1
-run-arg4-of-slice-known4 p = p.before.before.before.before.before.before.before
+run-arg4-of-slice-known4 p = p
 
 abbrev lv3-of-run-arg4 : tie.After-run-arg-4-1 → tie.After-lv-3-1
-lv3-of-run-arg4 p = p.before.before.before.before.before.before.before
+lv3-of-run-arg4 p = p
 
 abbrev get-values2-of-lv3 : tie.After-lv-3-1 → tie.After-get_values-2
-get-values2-of-lv3 p = p.before.before.before.before.before.before
+get-values2-of-lv3 p = p
 
 abbrev get-values2-of-slice-known4 : tie.After-slice_known-4-1 → tie.After-get_values-2
 get-values2-of-slice-known4 p = get-values2-of-lv3 (lv3-of-run-arg4 (run-arg4-of-slice-known4 p))
@@ -85,13 +85,13 @@ abbrev start-of-ly : tie.After-ly-1 → tie.Start
 start-of-ly p = start-of-lx p.before.before.before
 
 abbrev run-arg3-of-slice-known4 : tie.After-slice_known-4-1 → tie.After-run-arg-3-1
-run-arg3-of-slice-known4 p = p.before.before.before.before.before.before.before.before
+run-arg3-of-slice-known4 p = p
 
 abbrev lz2-of-run-arg3 : tie.After-run-arg-3-1 → tie.After-lz-2-1
-lz2-of-run-arg3 p = p.before.before.before.before.before.before.before.before
+lz2-of-run-arg3 p = p
 
 abbrev get-values-of-lz2 : tie.After-lz-2-1 → tie.After-get_values
-get-values-of-lz2 p = p.before.before.before.before.before.before.before
+get-values-of-lz2 p = p
 
 abbrev get-values-of-slice-known4 : tie.After-slice_known-4-1 → tie.After-get_values
 get-values-of-slice-known4 p = get-values-of-lz2 (lz2-of-run-arg3 (run-arg3-of-slice-known4 p))
@@ -106,10 +106,10 @@ abbrev start-of-lo3 : tie.After-lo-3-1 → tie.Start
 start-of-lo3 p = start-of-lz2 p.before
 
 abbrev lz-of-run-arg2 : tie.After-run-arg-2-1 → tie.After-lz-1
-lz-of-run-arg2 p = p.before.before.before.before.before.before.before.before.before
+lz-of-run-arg2 p = p
 
 abbrev get-list-of-lz : tie.After-lz-1 → tie.After-get_list
-get-list-of-lz p = p.before.before.before.before.before.before.before.before.before
+get-list-of-lz p = p
 
 abbrev get-list-of-slice-known4 : tie.After-slice_known-4-1 → tie.After-get_list
 get-list-of-slice-known4 p = get-list-of-lz (lz-of-run-arg2 (run-arg2-of-slice-known4 p))
@@ -160,34 +160,34 @@ get_values-requires-3 : tie.Need-get_values-requires-3
 get_values-requires-3 c κs = (start-of-lz c).requires.1.1.1.0
 
 slice_bounds-lo-end : tie.Need-slice_bounds-lo-end
-slice_bounds-lo-end c = rw (get-list-of-lz2 c).get-list.auto.1.1.0 (start-of-lz2 c).requires.0.offsets
+slice_bounds-lo-end c = rw (get-list-of-lz2 c).get_list.auto.o (start-of-lz2 c).requires.0.offsets
 
 slice_bounds-run-end : tie.Need-slice_bounds-run-end
-slice_bounds-run-end c = sym (length-take-le _ _ (rw (get-list-of-lo3 c).get-list.auto.1.1.0 (start-of-lo3 c).requires.0.offsets))
+slice_bounds-run-end c = sym (length-take-le _ _ (rw (get-list-of-lo3 c).get_list.auto.o (start-of-lo3 c).requires.0.offsets))
 
 slice_bounds-lv-end : tie.Need-slice_bounds-lv-end
-slice_bounds-lv-end c = rw (get-list-of-lo3 c).get-list.auto.1.1.1.0 (start-of-lo3 c).requires.0.values
+slice_bounds-lv-end c = rw (get-list-of-lo3 c).get_list.auto.v (start-of-lo3 c).requires.0.values
 
 slice_bounds-run-end-2 : tie.Need-slice_bounds-run-end-2
-slice_bounds-run-end-2 c = sym (length-take-le _ _ (rw (get-list-of-lv3 c).get-list.auto.1.1.1.0 (start-of-lv3 c).requires.0.values))
+slice_bounds-run-end-2 c = sym (length-take-le _ _ (rw (get-list-of-lv3 c).get_list.auto.v (start-of-lv3 c).requires.0.values))
 
 slice_bounds-lx-end : tie.Need-slice_bounds-lx-end
-slice_bounds-lx-end c = rw (get-values-of-lv3 c).get-values.auto.1.0 (start-of-lv3 c).requires.1.0
+slice_bounds-lx-end c = rw (get-values-of-lv3 c).get_values.auto.v (start-of-lv3 c).requires.1.0
 
 slice_bounds-run-end-3 : tie.Need-slice_bounds-run-end-3
-slice_bounds-run-end-3 c = sym (length-take-le _ _ (rw (get-values-of-lx3 c).get-values.auto.1.0 (start-of-lx3 c).requires.1.0))
+slice_bounds-run-end-3 c = sym (length-take-le _ _ (rw (get-values-of-lx3 c).get_values.auto.v (start-of-lx3 c).requires.1.0))
 
 slice_bounds-ly-end : tie.Need-slice_bounds-ly-end
-slice_bounds-ly-end c = rw (get-values2-of-lx3 c).get-values2.auto.1.0 (start-of-lx3 c).requires.1.1.0
+slice_bounds-ly-end c = rw (get-values2-of-lx3 c).get_values-2.auto.v (start-of-lx3 c).requires.1.1.0
 
 slice_bounds-run-end-4 : tie.Need-slice_bounds-run-end-4
-slice_bounds-run-end-4 c = sym (length-take-le _ _ (rw (get-values2-of-ly3 c).get-values2.auto.1.0 (start-of-ly3 c).requires.1.1.0))
+slice_bounds-run-end-4 c = sym (length-take-le _ _ (rw (get-values2-of-ly3 c).get_values-2.auto.v (start-of-ly3 c).requires.1.1.0))
 
 slice_bounds-lz-end : tie.Need-slice_bounds-lz-end
 slice_bounds-lz-end c = rw c.get_values-3.auto.v (start-of-ly3 c).requires.1.1.1.0
 
 slice_bounds-run-end-5 : tie.Need-slice_bounds-run-end-5
-slice_bounds-run-end-5 c = sym (length-take-le _ _ (rw (get-values3-of-lz3 c).get-values3.auto.1.0 (start-of-lz3 c).requires.1.1.1.0))
+slice_bounds-run-end-5 c = sym (length-take-le _ _ (rw (get-values3-of-lz3 c).get_values-3.auto.v (start-of-lz3 c).requires.1.1.1.0))
 
 slice_bounds-run-end-6 : tie.Need-slice_bounds-run-end-6
 slice_bounds-run-end-6 c = (start-of-lz3 c).requires.1.1.1.1.0
@@ -211,7 +211,7 @@ shape_of-o c =
     whole k.last.1.1.1.1.1.1.1.1.1.1.1.1.1.1.1.1.0 s.args.o.now s.args.mo s.requires.1.1.1.1.0 k.kept.1.1.1.1.1.1.1.1.1.1.1.1.1.1.1.1.0
 
 shape_of-out_rows : tie.Need-shape_of-out_rows
-shape_of-out_rows c = (run-of-slice-known4 c).run.auto.1.1.1.1.1.1.1.1.1.1.1.1.1.1.1.1.1.0
+shape_of-out_rows c = (run-of-slice-known4 c).run.auto.out_rows
 
 shape_of-v : tie.Need-shape_of-v
 shape_of-v c =
@@ -220,16 +220,16 @@ shape_of-v c =
     whole k.last.1.1.1.1.1.1.1.1.1.1.1.1.1.1.1.1.1.1.0 s.args.v.now s.args.mv s.requires.1.1.1.1.1 k.kept.1.1.1.1.1.1.1.1.1.1.1.1.1.1.1.1.1.1.0
 
 shape_of-out_elements : tie.Need-shape_of-out_elements
-shape_of-out_elements c = (run-of-slice-known4 c).run.auto.1.1.1.1.1.1.1.1.1.1.1.1.1.1.1.1.1.1.1.0
+shape_of-out_elements c = (run-of-slice-known4 c).run.auto.out_elements
 
 returns : tie.Need-returns
 returns c =
     let k = (run-of-slice-known4 c).run in
     let s = start-of-slice-known4 c in
     let p = s.requires.1.1.1.1 in
-    let d = (get-list-of-slice-known4 c).get-list.ensures in
+    let d = (get-list-of-slice-known4 c).get_list.ensures in
     list_ran s.args.mo s.args.mv s.args.o.now s.args.v.now k.ensures k.kept.1.1.1.1.1.1.1.1.1.1.1.1.1.1.1.1.0 k.kept.1.1.1.1.1.1.1.1.1.1.1.1.1.1.1.1.1.1.0 p.0 p.1
-    (with_decoded s.args.op _ _ _ _ _ _ _ d.offsets d.values (get-values-of-slice-known4 c).get-values.ensures (get-values2-of-slice-known4 c).get-values2.ensures (get-values3-of-slice-known4 c).get-values3.ensures (length-take-le _ _ p.0) (length-take-le _ _ p.1))
+    (with_decoded s.args.op _ _ _ _ _ _ _ d.offsets d.values (get-values-of-slice-known4 c).get_values.ensures (get-values2-of-slice-known4 c).get_values-2.ensures (get-values3-of-slice-known4 c).get_values-3.ensures (length-take-le _ _ p.0) (length-take-le _ _ p.1))
 
 pub run_spec : {M : Type 1} → statement M
 run_spec =

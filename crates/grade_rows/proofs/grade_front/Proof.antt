@@ -15,13 +15,13 @@ use Rattle.grade_rows.proofs.grade_front.Tie as tie
 -- ---- places: an answer that counts, the start, what is cut
 
 abbrev S : tie.Else-not-is_made → tie.Start
-S e = e.before.before.before.before.before
+S e = e
 
 abbrev counts : tie.After-bytes_for-element_bytes → tie.Else-not-is_made
-counts b = b.before.before.before.before
+counts b = b
 
 made : (e : tie.Else-not-is_made) → is_made (S e).args.answer ≡ true
-made e = sym e.is_made.ensures ∙ not-false _ e.if-not-is_made.false
+made e = sym e.is_made.ensures ∙ not-false _ e.if-not-is_made.false-raw
 
 -- the rows at the front
 at : (m : tie.After-elements_in-m) → let a = (S m.before.before).args in AtFront m.before.rows_in_lem.result m.elements_in-m.result a.offsets.now a.rows.now a.values.now a.elements.now
@@ -33,7 +33,7 @@ is_made-requires : tie.Need-is_made-requires
 is_made-requires c κs = search rules
 
 returns-then-not-is_made : tie.Need-returns-then-not-is_made
-returns-then-not-is_made c = none-graded _ _ _ _ _ _ _ (sym c.is_made.ensures ∙ not-true _ c.if-not-is_made.true)
+returns-then-not-is_made c = none-graded _ _ _ _ _ _ _ (sym c.is_made.ensures ∙ not-true _ c.if-not-is_made.true-raw)
 
 rows_in-n-requires : tie.Need-rows_in-n-requires
 rows_in-n-requires c κs = search rules
@@ -42,7 +42,7 @@ elements_in-m-requires : tie.Need-elements_in-m-requires
 elements_in-m-requires c κs = search rules
 
 overflow_add-slots : tie.Need-overflow_add-slots
-overflow_add-slots c = omega (arith, (at c).offsets, (S c.before.before).well-formed)
+overflow_add-slots c = omega (arith, (at c).offsets, (S c.before.before).well_formed)
 
 bytes_for-row_bytes-requires : tie.Need-bytes_for-row_bytes-requires
 bytes_for-row_bytes-requires c κs = search rules
@@ -51,25 +51,23 @@ bytes_for-element_bytes-requires : tie.Need-bytes_for-element_bytes-requires
 bytes_for-element_bytes-requires c κs = search rules
 
 slice_bounds-grade_rows-end : tie.Need-slice_bounds-grade_rows-end
-slice_bounds-grade_rows-end c = sym (length-take-le _ _ (at c.before.before.before).offsets)
+slice_bounds-grade_rows-end c = sym (length-take-le _ _ (at c.before.before).offsets)
 
 slice_bounds-grade_rows-end-2 : tie.Need-slice_bounds-grade_rows-end-2
-slice_bounds-grade_rows-end-2 c = let b = c.before.before in sym (length-take-le _ _ (omega (arith, (at b.before.before).rows, b.bytes_for-row_bytes.ensures)))
+slice_bounds-grade_rows-end-2 c = sym (length-take-le _ _ (omega (arith, (at c.before.before).rows, c.bytes_for-row_bytes.ensures)))
 
 slice_bounds-grade_rows-end-3 : tie.Need-slice_bounds-grade_rows-end-3
-slice_bounds-grade_rows-end-3 c = sym (length-take-le _ _ (at c.before.before.before.before.before).values)
+slice_bounds-grade_rows-end-3 c = sym (length-take-le _ _ (at c.before.before).values)
 
 slice_bounds-grade_rows-end-4 : tie.Need-slice_bounds-grade_rows-end-4
-slice_bounds-grade_rows-end-4 c = let b = c.before.before.before.before in sym (length-take-le _ _ (omega (arith, (at b.before.before).elements, b.bytes_for-element_bytes.ensures)))
+slice_bounds-grade_rows-end-4 c = sym (length-take-le _ _ (omega (arith, (at c.before.before).elements, c.bytes_for-element_bytes.ensures)))
 
 grade_rows-requires : tie.Need-grade_rows-requires
 grade_rows-requires c κs =
-    let b = c.before.before.before.before.before in
-    let m = b.before.before in
-    let s = S (counts b) in
-    let l = length-take-le (m.before.rows_in_lem.result + 1) s.args.offsets.now (at m).offsets in (
-      s.requires.positive (made (counts b)),
-      (subst Readable (sym (front_cut _ _ _ _ _ _ b.bytes_for-row_bytes.ensures b.bytes_for-element_bytes.ensures)) (at m).formed, omega (arith, l, m.before.rows_in_lem.ensures, s.requires.room (made (counts b)))),
+    let s = S (counts c.before) in
+    let l = length-take-le (c.before.rows_in_lem.result + 1) s.args.offsets.now (at c.before.before.before).offsets in (
+      s.requires.positive (made (counts c.before)),
+      (subst Readable (sym (front_cut _ _ _ _ _ _ c.bytes_for-row_bytes.ensures c.bytes_for-element_bytes.ensures)) (at c.before.before.before).formed, omega (arith, l, c.before.rows_in_lem.ensures, s.requires.room (made (counts c.before)))),
     )
 
 shape_of-grades : tie.Need-shape_of-grades
@@ -77,10 +75,7 @@ shape_of-grades c = search rules
 
 returns : tie.Need-returns
 returns c =
-    let g = c.before.before in
-    let b = g.before.before.before.before.before.before in
-    let m = b.before.before in
-    front-graded _ _ _ _ _ _ _ (made (counts b)) m.before.rows_in_lem.ensures m.elements_in-m.ensures b.bytes_for-row_bytes.ensures b.bytes_for-element_bytes.ensures g.grade_rows.ensures
+    front-graded _ _ _ _ _ _ _ (made (counts c.before.before.before.before)) c.before.rows_in_lem.ensures c.elements_in-m.ensures c.bytes_for-row_bytes.ensures c.bytes_for-element_bytes.ensures c.grade_rows.ensures
 
 pub grade_front_spec : {M : Type 1} → statement M
 grade_front_spec =

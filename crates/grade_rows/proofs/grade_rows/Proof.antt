@@ -23,7 +23,7 @@ decreases-loop-r k offsets rows rstart values elements estart grades₀ n r₀ g
 -- ---- places: the start, the column, the row that a turn grades
 
 abbrev S : tie.At-loop-r invariant-loop-r decreases-loop-r → tie.Start invariant-loop-r decreases-loop-r
-S l = l.before.before.before.before.before
+S l = l
 
 abbrev C : tie.At-loop-r invariant-loop-r decreases-loop-r → Column
 C l = let a = (S l).args in column a.offsets.now (from a.rstart a.rows.now) a.values.now (from a.estart a.elements.now)
@@ -32,12 +32,12 @@ abbrev rows_are : (l : tie.At-loop-r invariant-loop-r decreases-loop-r) → l.ro
 rows_are l = l.row_count-n.ensures
 
 abbrev In : tie.After-row_grade invariant-loop-r decreases-loop-r → tie.In-loop-r invariant-loop-r decreases-loop-r
-In g = g.before.before.before
+In g = g
 
 -- the grade that a turn writes is row r's
-graded : (g : tie.After-row_grade invariant-loop-r decreases-loop-r) → let l = (In g).before in g.row_grade.result ≡ grade_of (S l).args.k (row_at (C l) l.loop-r.r)
+graded : (g : tie.After-row_grade invariant-loop-r decreases-loop-r) → let l = (In g) in g.row_grade.result ≡ grade_of (S l).args.k (row_at (C l) l.loop-r.r)
 graded g =
-    let l = (In g).before in
+    let l = (In g) in
     g.row_grade.ensures ∙ ap (grade_of (S l).args.k) (row_from_lem (C l) l.loop-r.r _ _ g.offset_at-a.ensures.0 g.offset_at-b.ensures.0)
 
 -- ---- needs
@@ -52,37 +52,33 @@ offset_at-a-requires : tie.Need-offset_at-a-requires invariant-loop-r decreases-
 offset_at-a-requires c κs = omega (arith, c.loop-r-test.true, rows_are c.before)
 
 overflow_add-r : tie.Need-overflow_add-r invariant-loop-r decreases-loop-r
-overflow_add-r c = let i = c.before in omega (arith, i.loop-r-test.true, rows_are i.before, (S i.before).good)
+overflow_add-r c = omega (arith, c.loop-r-test.true, rows_are c.before.before, (S c.before.before).good)
 
 offset_at-b-requires : tie.Need-offset_at-b-requires invariant-loop-r decreases-loop-r
-offset_at-b-requires c κs = let i = c.before in omega (arith, i.loop-r-test.true, rows_are i.before)
+offset_at-b-requires c κs = omega (arith, c.loop-r-test.true, rows_are c.before.before)
 
 row_grade-requires : tie.Need-row_grade-requires invariant-loop-r decreases-loop-r
-row_grade-requires c κs = let i = c.before.before in let l = i.before in ((S l).requires.0, between (C l) _ l.loop-r.r _ _ (S l).requires.1.0 (rows_are l) i.loop-r-test.true c.offset_at-a.ensures.0 c.offset_at-b.ensures.0)
+row_grade-requires c κs = ((S c.before.before.before).requires.0, between (C c.before.before.before) _ c.loop-r.r _ _ (S c.before.before.before).requires.1.0 (rows_are c.before.before.before) c.loop-r-test.true c.offset_at-a.ensures.0 c.offset_at-b.ensures.0)
 
 bounds-grades-r : tie.Need-bounds-grades-r invariant-loop-r decreases-loop-r
-bounds-grades-r c = let i = In c in let l = i.before in omega (arith, i.loop-r-test.true, rows_are l, (S l).pre.1.1, l.loop-r.invariant.same)
+bounds-grades-r c = let i = In c in omega (arith, i.loop-r-test.true, rows_are i, (S i).requires.1.1, i.loop-r.invariant.same)
 
-overflow_add-r : tie.Need-overflow_add-r invariant-loop-r decreases-loop-r
-overflow_add-r c = let i = In c in omega (arith, i.loop-r-test.true, rows_are i.before, (S i.before).good)
+overflow_add-r-in-loop-r : tie.Need-overflow_add-r-in-loop-r invariant-loop-r decreases-loop-r
+overflow_add-r-in-loop-r c = let i = In c in omega (arith, i.loop-r-test.true, rows_are i, (S i).good)
 
 loop-r-smaller : tie.Need-loop-r-smaller invariant-loop-r decreases-loop-r
-loop-r-smaller c = omega (arith, (In c).loop-test.true)
+loop-r-smaller c = omega (arith, (In c).loop-r-test.true)
 
 loop-r-preserved : tie.Need-loop-r-preserved invariant-loop-r decreases-loop-r
-loop-r-preserved c = let i = In c in let l = i.before in turned (λ r. grade_of (S l).args.k (row_at (C l) r)) _ _ _ _ _ l.loop-r.invariant i.loop-r-test.true (omega (arith, rows_are l, (S l).pre.1.1)) (graded c)
+loop-r-preserved c = let i = In c in turned (λ r. grade_of (S i).args.k (row_at (C i) r)) _ _ _ _ _ i.loop-r.invariant i.loop-r-test.true (omega (arith, rows_are i, (S i).requires.1.1)) (graded c)
 
 shape_of-grades : tie.Need-shape_of-grades invariant-loop-r decreases-loop-r
 shape_of-grades c = c.loop-r.invariant.same
 
 returns : tie.Need-returns invariant-loop-r decreases-loop-r
 returns c =
-    let l = c.before in
-    let a = (S l).args in
-    done (λ r. grade_of a.k (row_at (C l) r)) _ _ _ _ l.loop-r.invariant c.loop-r-test.false ∙ ap (λ w. over w a.grades.now) (ap (tab (λ r. grade_of a.k (row_at (C l) r)) 0) (rows_are l) ∙ sym (rows-graded a.k (C l)))
-
-overflow_add-r-in-loop-r : tie.Need-overflow_add-r-in-loop-r invariant-loop-r decreases-loop-r
-overflow_add-r-in-loop-r c = search rules
+    let a = (S c.before).args in
+    done (λ r. grade_of a.k (row_at (C c.before) r)) _ _ _ _ c.loop-r.invariant c.loop-r-test.false ∙ ap (λ w. over w a.grades.now) (ap (tab (λ r. grade_of a.k (row_at (C c.before) r)) 0) (rows_are c.before) ∙ sym (rows-graded a.k (C c.before)))
 
 pub grade_rows_spec : {M : Type 1} → statement M
 grade_rows_spec =

@@ -9,7 +9,7 @@ is_valid-requires : tie.Need-is_valid-requires
 is_valid-requires c κs = search rules
 
 returns-then-not-is_valid : tie.Need-returns-then-not-is_valid
-returns-then-not-is_valid c = null_grade _ _ _ _ _ _ (sym c.is_valid.ensures ∙ not-true _ c.if-not-is_valid.true)
+returns-then-not-is_valid c = null_grade _ _ _ _ _ _ (sym c.is_valid.ensures ∙ not-true _ c.if-not-is_valid.true-raw)
 
 overflow_sub-b : tie.Need-overflow_sub-b
 overflow_sub-b c = search rules
@@ -18,7 +18,7 @@ elements_grade-requires : tie.Need-elements_grade-requires
 elements_grade-requires c κs = search rules
 
 returns : tie.Need-returns
-returns c = row_graded _ _ _ _ _ _ (sym c.is_valid.ensures ∙ not-false _ c.if-not-is_valid.false) c.elements_grade.ensures
+returns c = row_graded _ _ _ _ _ _ (sym c.is_valid.ensures ∙ not-false _ c.if-not-is_valid.false-raw) c.elements_grade.ensures
 
 pub row_grade_spec : {M : Type 1} → statement M
 row_grade_spec =

@@ -12,22 +12,22 @@ use Rattle.grades.proofs.grade_recipe.Tie as tie
 -- ---- places: the answer told, the recipe run, the station chosen, the start
 
 abbrev told : tie.After-after-1 → tie.After-answer_for-answer
-told c = c.before.before.before.before.before.before.before.before.before
+told c = c
 
 abbrev ran : tie.After-answer_for-answer → tie.After-run_recipe-done
-ran t = t.before.before.before.before.before.before.before.before.before.before.before.before.before.before.before.before.before.before.before
+ran t = t
 
 abbrev named : tie.After-run_recipe-done → tie.After-station_for-named
-named r = r.before.before.before.before.before.before.before.before.before.before.before.before.before
+named r = r
 
 abbrev S : tie.After-run_recipe-done → tie.Start
-S r = (named r).before.before.before.before.before.before.before.before.before.before.before.before.before.before.before
+S r = (named r)
 
 abbrev C : tie.After-run_recipe-done → Column
 C r = let a = (S r).args in column a.offsets.now (from a.rows_start a.rows.now) a.values.now (from a.elements-start a.elements.now)
 
-early : (r : tie.After-run_recipe-done) → (named r).before.early-refusal.result ≡ grade_refusal (S r).args.k (rows_of (C r)) (length (S r).args.grades.now)
-early r = early_is (S r).args.k (C r) (length (S r).args.grades.now) (named r).before.early-refusal.ensures
+early : (r : tie.After-run_recipe-done) → (named r).early_refusal-early.result ≡ grade_refusal (S r).args.k (rows_of (C r)) (length (S r).args.grades.now)
+early r = early_is (S r).args.k (C r) (length (S r).args.grades.now) (named r).early_refusal-early.ensures
 
 -- ---- needs
 
@@ -45,9 +45,8 @@ answer_for-answer-requires c κs = tt
 
 grade_front-requires : tie.Need-grade_front-requires
 grade_front-requires c κs =
-    let t = c.before.before.before.before.before in
-    let r = ran t in
-    counted _ _ _ _ (graded_meets _ _ _ _ _ (early r) (named r).station-for.ensures t.answer_for-answer.ensures r.run_recipe-done.ensures.0) (has_places _ _ _ _ (recipe-rows _ _ _ _ _ _ _ _ _))
+    let r = ran c.before in
+    counted _ _ _ _ (graded_meets _ _ _ _ _ (early r) (named r).station_for-named.ensures c.answer_for-answer.ensures r.run_recipe-done.ensures.0) (has_places _ _ _ _ (recipe-rows _ _ _ _ _ _ _ _ _))
 
 shape_of-one_offsets : tie.Need-shape_of-one_offsets
 shape_of-one_offsets c = (ran (told c)).run_recipe-done.auto.one_offsets
@@ -93,7 +92,7 @@ returns c =
     let t = told c in
     let r = ran t in
     let m = r.run_recipe-done.ensures in
-    let h = (named r).station-for.ensures in
+    let h = (named r).station_for-named.ensures in
     let w = graded_meets _ _ _ _ _ (early r) h t.answer_for-answer.ensures m.0 in
     (w, (m.1.0, (m.1.1.0, (graded-tally _ _ _ _ _ (early r) _ h m.1.1.1, graded-front _ _ _ w c.grade_front.ensures))))
 

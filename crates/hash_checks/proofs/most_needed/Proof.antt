@@ -25,20 +25,20 @@ abbrev D : tie.Start invariant-loop-left decreases-loop-left → Column
 D s = let a = s.args in column a.roffsets.now (from a.r_rstart a.rrows.now) a.rvalues.now (from a.r_estart a.relements.now)
 
 abbrev S : tie.At-loop-left invariant-loop-left decreases-loop-left → tie.Start invariant-loop-left decreases-loop-left
-S l = l.before.before.before.before.before.before
+S l = l
 
 abbrev L : tie.After-offset_at-d invariant-loop-left decreases-loop-left → tie.At-loop-left invariant-loop-left decreases-loop-left
-L q = q.before.before.before.before.before
+L q = q
 
 lefts : (q : tie.After-offset_at-d invariant-loop-left decreases-loop-left) → let l = L q in ReadableRowˡ (C (S l)).rows l.row_count-n.result (C (S l)).values (C (S l)).elements l.loop-left.r q.offset_at-a.result q.offset_at-b.result
 lefts q =
     let l = L q in
-    between (C (S l)) l.row_count-n.result l.loop-left.r q.offset_at-a.result q.offset_at-b.result (S l).pre.0 l.row_count-n.ensures (omega (arith, q.before.before.before.before)) q.offset_at-a.ensures.0 q.offset_at-b.ensures.0
+    between (C (S l)) l.row_count-n.result l.loop-left.r q.offset_at-a.result q.offset_at-b.result (S l).requires.0 l.row_count-n.ensures (omega (arith, q)) q.offset_at-a.ensures.0 q.offset_at-b.ensures.0
 
 rights : (q : tie.After-offset_at-d invariant-loop-left decreases-loop-left) → let l = L q in ReadableRowˡ (D (S l)).rows l.row_count-n.result (D (S l)).values (D (S l)).elements l.loop-left.r q.offset_at-c.result q.offset_at-d.result
 rights q =
     let l = L q in
-    between (D (S l)) l.row_count-n.result l.loop-left.r q.offset_at-c.result q.offset_at-d.result (S l).pre.1.0 (l.row_count-n.ensures ∙ sym (S l).pre.1.1) (omega (arith, q.before.before.before.before)) q.offset_at-c.ensures.0 q.offset_at-d.ensures.0
+    between (D (S l)) l.row_count-n.result l.loop-left.r q.offset_at-c.result q.offset_at-d.result (S l).requires.1.0 (l.row_count-n.ensures ∙ sym (S l).requires.1.1) (omega (arith, q)) q.offset_at-c.ensures.0 q.offset_at-d.ensures.0
 
 row_count-n-requires : tie.Need-row_count-n-requires invariant-loop-left decreases-loop-left
 row_count-n-requires c κs = search
@@ -53,16 +53,16 @@ overflow_add-r : tie.Need-overflow_add-r invariant-loop-left decreases-loop-left
 overflow_add-r c = omega arith
 
 offset_at-b-requires : tie.Need-offset_at-b-requires invariant-loop-left decreases-loop-left
-offset_at-b-requires c κs = omega (arith, c.before)
+offset_at-b-requires c κs = omega (arith, c)
 
 offset_at-c-requires : tie.Need-offset_at-c-requires invariant-loop-left decreases-loop-left
-offset_at-c-requires c κs = omega (arith, c.before.before, (S c.before.before.before).pre.1.1)
+offset_at-c-requires c κs = omega (arith, c, (S c.before.before.before).requires.1.1)
 
 overflow_add-r-in-loop-left : tie.Need-overflow_add-r-in-loop-left invariant-loop-left decreases-loop-left
-overflow_add-r-in-loop-left c = omega (arith, c.before.before.before)
+overflow_add-r-in-loop-left c = omega (arith, c)
 
 offset_at-d-requires : tie.Need-offset_at-d-requires invariant-loop-left decreases-loop-left
-offset_at-d-requires c κs = omega (arith, c.before.before.before, (S c.before.before.before.before).pre.1.1)
+offset_at-d-requires c κs = omega (arith, c, (S c.before.before.before.before).requires.1.1)
 
 are_valid-valid-requires : tie.Need-are_valid-valid-requires invariant-loop-left decreases-loop-left
 are_valid-valid-requires c κs = ((lefts c).rows, ((rights c).rows, (lefts c).there))
@@ -79,39 +79,33 @@ valid_need-need-requires c κs = (omega (arith, c.offset_at-b.ensures.1), omega 
 greater-most-requires : tie.Need-greater-most-requires invariant-loop-left decreases-loop-left
 greater-most-requires c κs = search
 
-overflow_add-r : tie.Need-overflow_add-r invariant-loop-left decreases-loop-left
-overflow_add-r c = omega (arith, c.before.before.before.before.before.before.before)
+overflow_add-r-in-loop-left-2 : tie.Need-overflow_add-r-in-loop-left-2 invariant-loop-left decreases-loop-left
+overflow_add-r-in-loop-left-2 c = omega (arith, c)
 
 overflow_sub-left : tie.Need-overflow_sub-left invariant-loop-left decreases-loop-left
-overflow_sub-left c = omega (arith, c.before.before.before.before.before.before.before)
+overflow_sub-left c = omega (arith, c)
 
 loop-left-smaller : tie.Need-loop-left-smaller invariant-loop-left decreases-loop-left
-loop-left-smaller c = omega (arith, c.before.before.before.before.before.before.before)
+loop-left-smaller c = omega (arith, c)
 
 loop-left-preserved : tie.Need-loop-left-preserved invariant-loop-left decreases-loop-left
 loop-left-preserved c =
-    let v = c.before.before in
-    let q = v.before in
-    let l = L q in
+    let l = L c.before.before.before in
     let s = S l in
-    let a = q.offset_at-a in
-    let b = q.offset_at-b in
-    let x = q.offset_at-c in
-    let y = q.offset_at-d in
+    let a = c.offset_at-a in
+    let b = c.offset_at-b in
+    let x = c.offset_at-c in
+    let y = c.offset_at-d in
     let e = c.valid_need-need.ensures in
-    greatest_more (need_at s.args.op (C s) (D s)) l.row_count-n.result c.valid_need-need.result c.greater-most.result l.loop-left.invariant q.loop-left-test.true
-    (need_here s.args.op (C s) (D s) l.loop-left.r a.result b.result x.result y.result v.are_valid-valid.result a.ensures.0 b.ensures.0 x.ensures.0 y.ensures.0 v.are_valid-valid.ensures e)
-    (rw e (valid_le s.args.op v.are_valid-valid.result _ _ (omega (arith, b.ensures.1)) (omega (arith, y.ensures.1))))
+    greatest_more (need_at s.args.op (C s) (D s)) l.row_count-n.result c.valid_need-need.result c.greater-most.result l.loop-left.invariant c.loop-left-test.true
+    (need_here s.args.op (C s) (D s) l.loop-left.r a.result b.result x.result y.result c.are_valid-valid.result a.ensures.0 b.ensures.0 x.ensures.0 y.ensures.0 c.are_valid-valid.ensures e)
+    (rw e (valid_le s.args.op c.are_valid-valid.result _ _ (omega (arith, b.ensures.1)) (omega (arith, y.ensures.1))))
     c.greater-most.ensures
 
 returns : tie.Need-returns invariant-loop-left decreases-loop-left
 unfolding most_needed
 returns c =
-    let l = c.before in
-    (greatest_done _ _ l.loop-left.invariant c.loop-left-test.false ∙ rw l.row_count-n.ensures, l.loop-left.invariant.low)
-
-overflow_add-r-in-loop-left-2 : tie.Need-overflow_add-r-in-loop-left-2 invariant-loop-left decreases-loop-left
-overflow_add-r-in-loop-left-2 c = search rules
+    (greatest_done _ _ c.loop-left.invariant c.loop-left-test.false ∙ rw c.row_count-n.ensures, c.loop-left.invariant.low)
 
 pub most_needed_spec : {M : Type 1} → statement M
 most_needed_spec =

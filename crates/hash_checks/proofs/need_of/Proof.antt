@@ -11,7 +11,7 @@ enum_told-in-Pair : tie.Need-enum_told-in-Pair
 enum_told-in-Pair c = search
 
 overflow_add-result : tie.Need-overflow_add-result
-overflow_add-result c = let s = c.before in omega (arith, s.requires.0, s.requires.1)
+overflow_add-result c = omega (arith, c.requires.0, c.requires.1)
 
 returns-in-Distinct : tie.Need-returns-in-Distinct
 unfolding row_need

@@ -8,14 +8,14 @@ enum_told-1 c = search
 
 measure_first-requires : tie.Need-measure_first-requires
 unfolding row_need
-measure_first-requires c κs = let s = c.before.before.before.before.before in (s.requires.0, (s.requires.1.1.0, (rw c.in-Distinct.is at s.requires.1.1.1.1.0, s.requires.1.1.1.1.1)))
+measure_first-requires c κs = (c.requires.0, (c.requires.1.1.0, (rw c.in-Distinct.is at c.requires.1.1.1.1.0, c.requires.1.1.1.1.1)))
 
 enum_known-op : tie.Need-enum_known-op
 enum_known-op c = search
 
 measure_set-requires : tie.Need-measure_set-requires
 unfolding row_need
-measure_set-requires c κs = let s = c.before.before.before.before.before in (s.requires.0, (s.requires.1.0, (s.requires.1.1.0, (s.requires.1.1.1.0, (rw c.in-Pair.is at s.requires.1.1.1.1.0, s.requires.1.1.1.1.1)))))
+measure_set-requires c κs = (c.requires.0, (c.requires.1.0, (c.requires.1.1.0, (c.requires.1.1.1.0, (rw c.in-Pair.is at c.requires.1.1.1.1.0, c.requires.1.1.1.1.1)))))
 
 shape_of-area-in-Distinct : tie.Need-shape_of-area-in-Distinct
 shape_of-area-in-Distinct c = search

@@ -5,10 +5,10 @@ use Rattle.hash_rows.proofs.measure_set.Statement.{statement}
 use Rattle.hash_rows.proofs.measure_set.Tie as tie
 
 overflow_add-n : tie.Need-overflow_add-n
-overflow_add-n c = let s = c.before.before.before in omega (arith, s.requires.1.1.0, s.requires.1.1.1.0)
+overflow_add-n c = omega (arith, c.requires.1.1.0, c.requires.1.1.1.0)
 
 measure_set-requires : tie.Need-measure_set-requires
-measure_set-requires c κs = let s = c.before.before.before.before in (s.requires.0, (s.requires.1.0, omega (arith, s.requires.1.1.0, s.requires.1.1.1.0)))
+measure_set-requires c κs = (c.requires.0, (c.requires.1.0, omega (arith, c.requires.1.1.0, c.requires.1.1.1.0)))
 
 returns-then-n-m-lt-FEW : tie.Need-returns-then-n-m-lt-FEW
 returns-then-n-m-lt-FEW c = (c.measure_set.ensures, c.requires.1.1.1.1.1)
@@ -17,13 +17,13 @@ enum_told-1 : tie.Need-enum_told-1
 enum_told-1 c = search
 
 measure_union-requires : tie.Need-measure_union-requires
-measure_union-requires c κs = let s = c.before.before.before.before.before.before in (s.requires.0, (s.requires.1.0, (omega (arith, s.requires.1.1.0), (omega (arith, s.requires.1.1.1.0), (omega (arith, s.requires.1.1.1.1.0), s.requires.1.1.1.1.1)))))
+measure_union-requires c κs = (c.requires.0, (c.requires.1.0, (omega (arith, c.requires.1.1.0), (omega (arith, c.requires.1.1.1.0), (omega (arith, c.requires.1.1.1.1.0), c.requires.1.1.1.1.1)))))
 
 enum_told-in-Intersect : tie.Need-enum_told-in-Intersect
 enum_told-in-Intersect c = search
 
 measure_intersect-requires : tie.Need-measure_intersect-requires
-measure_intersect-requires c κs = let s = c.before.before.before.before.before.before in (s.requires.0, (s.requires.1.0, (omega (arith, s.requires.1.1.0), (omega (arith, s.requires.1.1.1.0), (omega (arith, s.requires.1.1.1.1.0), s.requires.1.1.1.1.1)))))
+measure_intersect-requires c κs = (c.requires.0, (c.requires.1.0, (omega (arith, c.requires.1.1.0), (omega (arith, c.requires.1.1.1.0), (omega (arith, c.requires.1.1.1.1.0), c.requires.1.1.1.1.1)))))
 
 shape_of-area-in-Union : tie.Need-shape_of-area-in-Union
 shape_of-area-in-Union c = search

@@ -9,9 +9,8 @@ enum_told-1 c = search
 write_first-requires : tie.Need-write_first-requires
 unfolding hash_elems row_need
 write_first-requires c κs =
-    let s = c.before.before.before.before.before.before.before.before in
     let e = c.in-Distinct.is in
-    (s.requires.0, (rw e at s.requires.1.1.0, (s.requires.1.1.1.0, (rw e at s.requires.1.1.1.1.1.0, s.requires.1.1.1.1.1.1))))
+    (c.requires.0, (rw e at c.requires.1.1.0, (c.requires.1.1.1.0, (rw e at c.requires.1.1.1.1.1.0, c.requires.1.1.1.1.1.1))))
 
 enum_known-op : tie.Need-enum_known-op
 enum_known-op c = search
@@ -19,9 +18,8 @@ enum_known-op c = search
 write_set-requires : tie.Need-write_set-requires
 unfolding hash_elems row_need
 write_set-requires c κs =
-    let s = c.before.before.before.before.before.before.before.before in
     let e = c.in-Pair.is in
-    (s.requires.0, (s.requires.1.0, (rw e at s.requires.1.1.0, (s.requires.1.1.1.0, (s.requires.1.1.1.1.0, (rw e at s.requires.1.1.1.1.1.0, s.requires.1.1.1.1.1.1))))))
+    (c.requires.0, (c.requires.1.0, (rw e at c.requires.1.1.0, (c.requires.1.1.1.0, (c.requires.1.1.1.1.0, (rw e at c.requires.1.1.1.1.1.0, c.requires.1.1.1.1.1.1))))))
 
 shape_of-out_values-in-Distinct : tie.Need-shape_of-out_values-in-Distinct
 shape_of-out_values-in-Distinct c = search

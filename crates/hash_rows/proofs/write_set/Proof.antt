@@ -4,10 +4,10 @@ use Rattle.hash_rows.proofs.write_set.Statement.{statement}
 use Rattle.hash_rows.proofs.write_set.Tie as tie
 
 overflow_add-n : tie.Need-overflow_add-n
-overflow_add-n c = let s = c.before.before.before.before in omega (arith, s.requires.1.1.1.0, s.requires.1.1.1.1.0)
+overflow_add-n c = omega (arith, c.requires.1.1.1.0, c.requires.1.1.1.1.0)
 
 write_set-requires : tie.Need-write_set-requires
-write_set-requires c κs = let s = c.before.before.before.before.before.before.before in (s.requires.0, (s.requires.1.0, s.requires.1.1.0))
+write_set-requires c κs = (c.requires.0, (c.requires.1.0, c.requires.1.1.0))
 
 shape_of-out_values-then-n-m-lt-FEW : tie.Need-shape_of-out_values-then-n-m-lt-FEW
 shape_of-out_values-then-n-m-lt-FEW c = search
@@ -22,13 +22,13 @@ enum_told-1 : tie.Need-enum_told-1
 enum_told-1 c = search
 
 write_union-requires : tie.Need-write_union-requires
-write_union-requires c κs = let s = c.before.before.before.before.before.before.before.before.before in (s.requires.0, (s.requires.1.0, (rw c.in-Union.is at s.requires.1.1.0, (omega (arith, s.requires.1.1.1.0), (omega (arith, s.requires.1.1.1.1.0), (omega (arith, s.requires.1.1.1.1.1.0), s.requires.1.1.1.1.1.1))))))
+write_union-requires c κs = (c.requires.0, (c.requires.1.0, (rw c.in-Union.is at c.requires.1.1.0, (omega (arith, c.requires.1.1.1.0), (omega (arith, c.requires.1.1.1.1.0), (omega (arith, c.requires.1.1.1.1.1.0), c.requires.1.1.1.1.1.1))))))
 
 enum_told-in-Intersect : tie.Need-enum_told-in-Intersect
 enum_told-in-Intersect c = search
 
 write_intersect-requires : tie.Need-write_intersect-requires
-write_intersect-requires c κs = let s = c.before.before.before.before.before.before.before.before.before in (s.requires.0, (s.requires.1.0, (rw c.in-Intersect.is at s.requires.1.1.0, (omega (arith, s.requires.1.1.1.0), (omega (arith, s.requires.1.1.1.1.0), (omega (arith, s.requires.1.1.1.1.1.0), s.requires.1.1.1.1.1.1))))))
+write_intersect-requires c κs = (c.requires.0, (c.requires.1.0, (rw c.in-Intersect.is at c.requires.1.1.0, (omega (arith, c.requires.1.1.1.0), (omega (arith, c.requires.1.1.1.1.0), (omega (arith, c.requires.1.1.1.1.1.0), c.requires.1.1.1.1.1.1))))))
 
 shape_of-out_values-in-Union : tie.Need-shape_of-out_values-in-Union
 shape_of-out_values-in-Union c = search

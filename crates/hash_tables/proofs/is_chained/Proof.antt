@@ -27,47 +27,42 @@ overflow_add-b : tie.Need-overflow_add-b invariant-loop-s decreases-loop-s
 overflow_add-b c = omega (arith, c, c.requires.1.1.0.inside)
 
 same_elem-requires : tie.Need-same_elem-requires invariant-loop-s decreases-loop-s
-same_elem-requires c κs = let s = c.before.before.before.before.before in (s.requires.0, (s.requires.1.0, (omega (arith, c, s.requires.1.1.0.inside), s.requires.1.1.0.bits)))
+same_elem-requires c κs = (c.requires.0, (c.requires.1.0, (omega (arith, c, c.requires.1.1.0.inside), c.requires.1.1.0.bits)))
 
 returns-then-same_elem : tie.Need-returns-then-same_elem invariant-loop-s decreases-loop-s
 returns-then-same_elem c =
-    let i = c.before.before in
-    let l = i.loop-s in
-    let s = c.before.before.before.before.before.before.before in
-    let a = s.args in
-    let p = chained-step (elem_at a.others.now (from a.ostart a.oelements.now)) a.b a.m a.o a.area.now (elem_at a.values.now (from a.estart a.elements.now) a.i) s.requires.1.1.1.1.0 l.s i.loop-s-test.true l.invariant.1 in
+    let l = c.loop-s in
+    let a = c.args in
+    let p = chained-step (elem_at a.others.now (from a.ostart a.oelements.now)) a.b a.m a.o a.area.now (elem_at a.values.now (from a.estart a.elements.now) a.i) c.requires.1.1.1.1.0 l.s c.loop-s-test.true l.invariant.1 in
     sym (rw (← c.same_elem.ensures, c.if-same_elem.true) at p) ∙ l.invariant.0
 
 overflow_add-o : tie.Need-overflow_add-o invariant-loop-s decreases-loop-s
-overflow_add-o c = omega (arith, c.before.before, c.requires.1.1.1.0)
+overflow_add-o c = omega (arith, c, c.requires.1.1.1.0)
 
 overflow_add-o-in-loop-s : tie.Need-overflow_add-o-in-loop-s invariant-loop-s decreases-loop-s
-overflow_add-o-in-loop-s c = omega (arith, c.before.before, c.requires.1.1.1.0)
+overflow_add-o-in-loop-s c = omega (arith, c, c.requires.1.1.1.0)
 
 offset_bounds-area-o : tie.Need-offset_bounds-area-o invariant-loop-s decreases-loop-s
-offset_bounds-area-o c = omega (arith, c.before.before, c.requires.1.1.1.0)
+offset_bounds-area-o c = omega (arith, c, c.requires.1.1.1.0)
 
 bounds-area-o : tie.Need-bounds-area-o invariant-loop-s decreases-loop-s
-bounds-area-o c = omega (arith, c.before.before.before, c.requires.1.1.1.0)
+bounds-area-o c = omega (arith, c, c.requires.1.1.1.0)
 
 wide-s-requires : tie.Need-wide-s-requires invariant-loop-s decreases-loop-s
 wide-s-requires c κs = tt
 
 loop-s-smaller : tie.Need-loop-s-smaller invariant-loop-s decreases-loop-s
 loop-s-smaller c =
-    let i = c.before.before.before.before in
-    let l = i.loop-s in
-    omega (arith, c.wide-s.ensures, i.loop-s-test.true, c.requires.1.1.1.1.0 (l.s - 1) (omega (arith, i)))
+    let l = c.loop-s in
+    omega (arith, c.wide-s.ensures, c.loop-s-test.true, c.requires.1.1.1.1.0 (l.s - 1) (omega (arith, c)))
 
 loop-s-preserved : tie.Need-loop-s-preserved invariant-loop-s decreases-loop-s
 loop-s-preserved c =
-    let i = c.before.before.before.before in
-    let l = i.loop-s in
-    let s = c.before.before.before.before.before.before.before.before.before in
-    let a = s.args in
-    let d = s.requires.1.1.1.1.0 in
-    let p = chained-step (elem_at a.others.now (from a.ostart a.oelements.now)) a.b a.m a.o a.area.now (elem_at a.values.now (from a.estart a.elements.now) a.i) d l.s i.loop-s-test.true l.invariant.1 in
-    (rw c.wide-s.ensures (sym (rw (← c.same_elem.ensures, c.if-same_elem.false) at p) ∙ l.invariant.0), omega (arith, c.wide-s.ensures, i, d (l.s - 1) (omega (arith, i))))
+    let l = c.loop-s in
+    let a = c.args in
+    let d = c.requires.1.1.1.1.0 in
+    let p = chained-step (elem_at a.others.now (from a.ostart a.oelements.now)) a.b a.m a.o a.area.now (elem_at a.values.now (from a.estart a.elements.now) a.i) d l.s c.loop-s-test.true l.invariant.1 in
+    (rw c.wide-s.ensures (sym (rw (← c.same_elem.ensures, c.if-same_elem.false) at p) ∙ l.invariant.0), omega (arith, c.wide-s.ensures, c, d (l.s - 1) (omega (arith, c))))
 
 returns : tie.Need-returns invariant-loop-s decreases-loop-s
 returns c =

@@ -16,32 +16,27 @@ head_of-h-requires c κs = search rules
 
 overflow_add-o : tie.Need-overflow_add-o
 overflow_add-o c =
-    let s = c.before.before.before.before.before in
-    omega (arith, listed_lt _ _ _ _ _ _ s.requires.1.1.1.1 (omega arith) (omega arith) _ c.head_of-h.ensures, s.requires.1.1.1.1.room)
+    omega (arith, listed_lt _ _ _ _ _ _ c.requires.1.1.1.1 (omega arith) (omega arith) _ c.head_of-h.ensures, c.requires.1.1.1.1.room)
 
 offset_bounds-area-o : tie.Need-offset_bounds-area-o
 offset_bounds-area-o c =
-    let s = c.before.before.before.before.before in
-    omega (arith, listed_lt _ _ _ _ _ _ s.requires.1.1.1.1 (omega arith) (omega arith) _ c.head_of-h.ensures, s.requires.1.1.1.1.room)
+    omega (arith, listed_lt _ _ _ _ _ _ c.requires.1.1.1.1 (omega arith) (omega arith) _ c.head_of-h.ensures, c.requires.1.1.1.1.room)
 
 bounds-area-o : tie.Need-bounds-area-o
 bounds-area-o c =
-    let s = c.before.before.before.before.before.before in
-    omega (arith, listed_lt _ _ _ _ _ _ s.requires.1.1.1.1 (omega arith) (omega arith) _ c.head_of-h.ensures, s.requires.1.1.1.1.room)
+    omega (arith, listed_lt _ _ _ _ _ _ c.requires.1.1.1.1 (omega arith) (omega arith) _ c.head_of-h.ensures, c.requires.1.1.1.1.room)
 
 wide-s-requires : tie.Need-wide-s-requires
 wide-s-requires c κs = search rules
 
 is_chained-requires : tie.Need-is_chained-requires
 is_chained-requires c κs =
-    let s = c.before.before.before.before.before.before.before in
-    let T = s.requires.1.1.1.1 in
-    (s.requires.0, (s.requires.1.0, (s.requires.1.1.0, (T.room, (T.down, listed_le _ _ _ _ _ _ T (omega arith) (omega arith) _ c.head_of-h.ensures c.wide-s.ensures)))))
+    let T = c.requires.1.1.1.1 in
+    (c.requires.0, (c.requires.1.0, (c.requires.1.1.0, (T.room, (T.down, listed_le _ _ _ _ _ _ T (omega arith) (omega arith) _ c.head_of-h.ensures c.wide-s.ensures)))))
 
 returns : tie.Need-returns
 returns c =
-    let s = c.before.before.before.before.before.before.before.before in
-    listed _ _ _ _ _ _ s.requires.1.1.1.1 (omega arith) (omega arith) _ c.head_of-h.ensures c.wide-s.ensures c.is_chained.ensures
+    listed _ _ _ _ _ _ c.requires.1.1.1.1 (omega arith) (omega arith) _ c.head_of-h.ensures c.wide-s.ensures c.is_chained.ensures
 
 pub is_listed_spec : {M : Type 1} → statement M
 is_listed_spec =

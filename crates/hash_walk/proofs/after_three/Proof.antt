@@ -33,16 +33,16 @@ W s = hash_rows s.args.op (C s) (D s)
 -- ---- places: the start, from the test for 14, the rows measured, that test passed, and the test itself, from the one for 8
 
 abbrev S : tie.After-is_short → tie.Start
-S k = k.before.before.before.before.before.before.before.before.before
+S k = k
 
 abbrev measured : tie.After-op_refusal-long → tie.After-measure_pairs-m
-measured u = u.before.before.before
+measured u = u
 
 abbrev enough : tie.After-op_refusal-long → tie.Else-is_short
-enough u = u.before.before.before.before.before
+enough u = u
 
 abbrev U : tie.After-op_refusal-long → tie.Start
-U u = S (enough u).before
+U u = S (enough u)
 
 -- ---- what the tests found
 
@@ -50,7 +50,7 @@ fits : (e : tie.Else-is_short) → let s = S e.before in most_needed s.args.op (
 fits e = let s = S e.before in area-fits s.args.op (C s) (D s) (length s.args.area.now) (R s) e.is_short.ensures e.most_needed-longest.ensures.0 e.if-is_short.false
 
 eight : (u : tie.After-op_refusal-long) → u.op_refusal-long.result ≡ op_refusal (U u).args.op (length (flat (W (U u))))
-eight u = u.op_refusal-long.ensures ∙ ap (op_refusal (U u).args.op) (measured u).measure-pairs.ensures.0
+eight u = u.op_refusal-long.ensures ∙ ap (op_refusal (U u).args.op) (measured u).measure_pairs-m.ensures.0
 
 -- once only 9 is left
 goes : (e : tie.Else-long-ne0) → let s = U e.before in hash_after s.args.op (C s) (D s) (length s.args.area.now) (R s) ≡ fitted (W s) (R s)
@@ -63,40 +63,38 @@ rows_are : (h : tie.After-has_room) → h.row_count-n.result ≡ length (W (U h.
 rows_are h = let s = U h.before.before.before in h.row_count-n.ensures ∙ sym (length_hashes s.args.op (C s) (D s))
 
 room_is : (h : tie.After-has_room) → let s = U h.before.before.before in h.has_room.result ≡ fits_in (length (W s)) (length (flat (W s))) (R s)
-room_is h = h.has_room.ensures ∙ same_fit _ (rows_are h) (measured h.before.before.before).measure-pairs.ensures.0
+room_is h = h.has_room.ensures ∙ same_fit _ (rows_are h) (measured h.before.before.before).measure_pairs-m.ensures.0
 
 roomy : (e : tie.Else-not-has_room) → let s = U e.before.before.before.before in RoomInˡ (length (W s)) (length (flat (W s))) (length s.args.out_offsets.now) (length s.args.out_rows.now) (length s.args.out_values.now) (length s.args.out_elements.now)
-roomy e = has_room _ _ _ _ _ _ (sym (room_is e.before) ∙ not-false _ e.if-not-has_room.false)
+roomy e = has_room _ _ _ _ _ _ (sym (room_is e.before) ∙ not-false _ e.if-not-has_room.false-raw)
 
 -- ---- needs
 
 most_needed-longest-requires : tie.Need-most_needed-longest-requires
-most_needed-longest-requires c κs = let s = c.before.before.before.before.before.before.before in (s.requires.0, (s.requires.1.0, s.requires.1.1.0))
+most_needed-longest-requires c κs = (c.requires.0, (c.requires.1.0, c.requires.1.1.0))
 
 is_short-requires : tie.Need-is_short-requires
 is_short-requires c κs = c.most_needed-longest.ensures.1
 
 returns-then-is_short : tie.Need-returns-then-is_short
 returns-then-is_short c =
-    let k = c.before in
-    let s = S k in
-    (list-refused 14 (after-short s.args.op (C s) (D s) (length s.args.area.now) (R s) k.is_short.ensures k.most_needed-longest.ensures.0 c.if-is_short.true), s.requires.1.1.1)
+    let s = S c.before in
+    (list-refused 14 (after-short s.args.op (C s) (D s) (length s.args.area.now) (R s) c.is_short.ensures c.most_needed-longest.ensures.0 c.if-is_short.true), s.requires.1.1.1)
 
 measure_pairs-m-requires : tie.Need-measure_pairs-m-requires
-measure_pairs-m-requires c κs = let e = c.before in let s = S e.before in (s.requires.0, (s.requires.1.0, (s.requires.1.1.0, (fits e, s.requires.1.1.1))))
+measure_pairs-m-requires c κs = let s = S c.before.before in (s.requires.0, (s.requires.1.0, (s.requires.1.1.0, (fits c.before, s.requires.1.1.1))))
 
 op_refusal-long-requires : tie.Need-op_refusal-long-requires
 op_refusal-long-requires c κs = search
 
 shape_of-area-then-long-ne0 : tie.Need-shape_of-area-then-long-ne0
-shape_of-area-then-long-ne0 c = (measured c.before).measure-pairs.auto.1.1.1.1.1.1.1.1.1.1.1.1.1.0
+shape_of-area-then-long-ne0 c = (measured c.before).measure_pairs-m.auto.area
 
 returns-then-long-ne0 : tie.Need-returns-then-long-ne0
 returns-then-long-ne0 c =
-    let u = c.before in
-    let s = U u in
-    let n = enough u in
-    (list-refused _ (after_eight s.args.op (C s) (D s) (length s.args.area.now) (R s) n.is_short.ensures n.most_needed-longest.ensures.0 n.if-is_short.false (eight u) c.if-long-ne0.true), (measured u).measure-pairs.ensures.1.1)
+    let s = U c.before in
+    let n = enough c.before in
+    (list-refused _ (after_eight s.args.op (C s) (D s) (length s.args.area.now) (R s) n.is_short.ensures n.most_needed-longest.ensures.0 n.if-is_short.false (eight c.before) c.if-long-ne0.true), (measured c.before).measure_pairs-m.ensures.1.1)
 
 row_count-n-requires : tie.Need-row_count-n-requires
 row_count-n-requires c κs = search
@@ -105,28 +103,24 @@ has_room-requires : tie.Need-has_room-requires
 has_room-requires c κs = search
 
 shape_of-area-then-not-has_room : tie.Need-shape_of-area-then-not-has_room
-shape_of-area-then-not-has_room c = (measured c.before.before.before.before).measure-pairs.auto.1.1.1.1.1.1.1.1.1.1.1.1.1.0
+shape_of-area-then-not-has_room c = (measured c.before.before.before.before).measure_pairs-m.auto.area
 
 returns-then-not-has_room : tie.Need-returns-then-not-has_room
 returns-then-not-has_room c =
-    let h = c.before in
-    let s = U h.before.before.before in
-    (list-refused 9 (goes h.before.before ∙ fitted_short (W s) (R s) (sym (room_is h) ∙ not-true _ c.if-not-has_room.true)), (measured h.before.before.before).measure-pairs.ensures.1.1)
+    let s = U c.before.before.before.before in
+    (list-refused 9 (goes c.before.before.before ∙ fitted_short (W s) (R s) (sym (room_is c.before) ∙ not-true _ c.if-not-has_room.true-raw)), (measured c.before.before.before.before).measure_pairs-m.ensures.1.1)
 
 write_pairs-requires : tie.Need-write_pairs-requires
 write_pairs-requires c κs =
-    let e = c.before.before.before.before.before in
-    let u = e.before.before.before.before in
-    let s = U u in
-    let m = (measured u).measure-pairs in
-    (s.requires.0, (s.requires.1.0, (s.requires.1.1.0, (held s.args.op m.result (length (flat (W s))) m.ensures.0 m.ensures.1.0 (sym (eight u) ∙ e.if-long-ne0.false), (rw (length_hashes s.args.op (C s) (D s)) at (roomy e), (rw m.kept.1.1.1.1.1.1.1.1.1.1.1.1.1.0 (fits (enough u)), m.ensures.1.1))))))
+    let s = U c.before.before.before.before.before.before.before.before.before in
+    let m = (measured c.before.before.before.before.before.before.before.before.before).measure_pairs-m in
+    (s.requires.0, (s.requires.1.0, (s.requires.1.1.0, (held s.args.op m.result (length (flat (W s))) m.ensures.0 m.ensures.1.0 (sym (eight c.before.before.before.before.before.before.before.before.before) ∙ c.if-long-ne0.false), (rw (length_hashes s.args.op (C s) (D s)) at (roomy c.before.before.before.before.before), (rw m.kept.1.1.1.1.1.1.1.1.1.1.1.1.1.0 (fits (enough c.before.before.before.before.before.before.before.before.before)), m.ensures.1.1))))))
 
 list_answer-requires : tie.Need-list_answer-requires
 list_answer-requires c κs =
-    let e = c.before.before.before.before.before.before.before.before.before.before.before.before.before.before.before.before in
-    let r = roomy e in
+    let r = roomy c.before.before.before.before.before.before.before.before.before.before.before.before.before.before in
     let w = c.write_pairs in
-    (omega (arith, r.rows, rows_are e.before, w.auto.out_rows), omega (arith, r.elements, (measured e.before.before.before.before).measure-pairs.ensures.0, w.auto.out_elements))
+    (omega (arith, r.rows, rows_are c.before.before.before.before.before.before.before.before.before.before.before.before.before.before.before, w.auto.out_rows), omega (arith, r.elements, (measured c.before.before.before.before.before.before.before.before.before.before.before.before.before.before.before.before.before.before).measure_pairs-m.ensures.0, w.auto.out_elements))
 
 shape_of-out_offsets : tie.Need-shape_of-out_offsets
 shape_of-out_offsets c = c.write_pairs.auto.out_offsets
@@ -141,16 +135,13 @@ shape_of-out_elements : tie.Need-shape_of-out_elements
 shape_of-out_elements c = c.write_pairs.auto.out_elements
 
 shape_of-area : tie.Need-shape_of-area
-shape_of-area c = c.write_pairs.auto.area ∙ (measured c.before.before.before.before.before.before.before.before.before.before.before.before.before.before.before.before.before.before.before.before.before).measure-pairs.auto.1.1.1.1.1.1.1.1.1.1.1.1.1.0
+shape_of-area c = c.write_pairs.auto.area ∙ (measured c.before.before.before.before.before.before.before.before.before.before.before.before.before.before.before.before.before.before.before).measure_pairs-m.auto.area
 
 returns : tie.Need-returns
 returns c =
-    let e = c.before.before.before.before.before.before.before.before.before.before.before.before.before.before.before.before.before in
-    let h = e.before in
-    let u = h.before.before.before in
-    let s = U u in
+    let s = U c.before.before.before.before.before.before.before.before.before.before.before.before.before.before.before.before.before.before.before in
     let w = c.write_pairs.ensures in
-    (list-made (W s) _ _ (goes h.before.before ∙ fitted-made (W s) (R s) (sym (room_is h) ∙ not-false _ e.if-not-has_room.false)) (rows_are h) (measured u).measure-pairs.ensures.0 w.0 c.list_answer.ensures, w.1)
+    (list-made (W s) _ _ (goes c.before.before.before.before.before.before.before.before.before.before.before.before.before.before.before.before.before.before ∙ fitted-made (W s) (R s) (sym (room_is c.before.before.before.before.before.before.before.before.before.before.before.before.before.before.before.before) ∙ not-false _ c.if-not-has_room.false-raw)) (rows_are c.before.before.before.before.before.before.before.before.before.before.before.before.before.before.before.before) (measured c.before.before.before.before.before.before.before.before.before.before.before.before.before.before.before.before.before.before.before).measure_pairs-m.ensures.0 w.0 c.list_answer.ensures, w.1)
 
 pub after_three_spec : {M : Type 1} → statement M
 after_three_spec =

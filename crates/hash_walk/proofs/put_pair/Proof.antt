@@ -22,18 +22,16 @@ shape_of-out_rows-then-not-are_valid c = search
 returns-then-not-are_valid : tie.Need-returns-then-not-are_valid
 unfolding push_bits
 returns-then-not-are_valid c =
-    let s = c.before.before.before.before.before.before.before.before.before.before.before.before.before in
-    let a = s.args in
-    let v = c.before.before.before.before.before in
-    let e = elems_pair (hash_elems a.op) (from a.l_rstart a.lrows.now) (from a.r_rstart a.rrows.now) (elem_at a.lvalues.now (from a.l_estart a.lelements.now)) (elem_at a.rvalues.now (from a.r_estart a.relements.now)) a.r a.a a.b a.c a.d v.are_valid.result v.are_valid.ensures in
-    let f = not-true v.are_valid.result c.if-not-are_valid.true in (
+    let a = c.args in
+    let e = elems_pair (hash_elems a.op) (from a.l_rstart a.lrows.now) (from a.r_rstart a.rrows.now) (elem_at a.lvalues.now (from a.l_estart a.lelements.now)) (elem_at a.rvalues.now (from a.r_estart a.relements.now)) a.r a.a a.b a.c a.d c.are_valid.result c.are_valid.ensures in
+    let f = not-true c.are_valid.result c.if-not-are_valid.true-raw in (
       record {
-        rows = rw (is_row_pair (hash_elems a.op) (from a.l_rstart a.lrows.now) (from a.r_rstart a.rrows.now) (elem_at a.lvalues.now (from a.l_estart a.lelements.now)) (elem_at a.rvalues.now (from a.r_estart a.relements.now)) a.r a.a a.b a.c a.d v.are_valid.result v.are_valid.ensures, f) c.push_bit.ensures;
+        rows = rw (is_row_pair (hash_elems a.op) (from a.l_rstart a.lrows.now) (from a.r_rstart a.rrows.now) (elem_at a.lvalues.now (from a.l_estart a.lelements.now)) (elem_at a.rvalues.now (from a.r_estart a.relements.now)) a.r a.a a.b a.c a.d c.are_valid.result c.are_valid.ensures, f) c.push_bit.ensures;
         values = rw (e, f);
         elements = rw (e, f);
         place = rw (e, f) (omega arith);
       },
-      s.requires.1.1.1.1.1.0,
+      c.requires.1.1.1.1.1.0,
     )
 
 overflow_sub-b : tie.Need-overflow_sub-b
@@ -44,13 +42,11 @@ overflow_sub-d c = search
 
 write_row-next-requires : tie.Need-write_row-next-requires
 write_row-next-requires c κs =
-    let s = c.before.before.before.before.before.before.before.before.before.before.before.before in
-    let a = s.args in
-    let v = c.before.before.before.before in
-    let e = elems_pair (hash_elems a.op) (from a.l_rstart a.lrows.now) (from a.r_rstart a.rrows.now) (elem_at a.lvalues.now (from a.l_estart a.lelements.now)) (elem_at a.rvalues.now (from a.r_estart a.relements.now)) a.r a.a a.b a.c a.d v.are_valid.result v.are_valid.ensures in
-    let f = not-false v.are_valid.result c.if-not-are_valid.false in
-    let p = s.requires.1.1.1.1.1.1 in
-    (record { inside = omega (arith, s.requires.0.rises, s.requires.0.inside); bits = s.requires.0.elements }, (record { inside = omega (arith, s.requires.1.0.rises, s.requires.1.0.inside); bits = s.requires.1.0.elements }, (record { values = rw (e, f) at p.values; elements = rw (e, f) at p.elements }, (omega (arith, s.requires.1.1.0), (omega (arith, s.requires.1.1.1.0), (need_valid a.op (from a.l_rstart a.lrows.now) (from a.r_rstart a.rrows.now) a.r a.a a.b a.c a.d v.are_valid.result _ v.are_valid.ensures f s.requires.1.1.1.1.0, s.requires.1.1.1.1.1.0))))))
+    let a = c.args in
+    let e = elems_pair (hash_elems a.op) (from a.l_rstart a.lrows.now) (from a.r_rstart a.rrows.now) (elem_at a.lvalues.now (from a.l_estart a.lelements.now)) (elem_at a.rvalues.now (from a.r_estart a.relements.now)) a.r a.a a.b a.c a.d c.are_valid.result c.are_valid.ensures in
+    let f = not-false c.are_valid.result c.if-not-are_valid.false-raw in
+    let p = c.requires.1.1.1.1.1.1 in
+    (record { inside = omega (arith, c.requires.0.rises, c.requires.0.inside); bits = c.requires.0.elements }, (record { inside = omega (arith, c.requires.1.0.rises, c.requires.1.0.inside); bits = c.requires.1.0.elements }, (record { values = rw (e, f) at p.values; elements = rw (e, f) at p.elements }, (omega (arith, c.requires.1.1.0), (omega (arith, c.requires.1.1.1.0), (need_valid a.op (from a.l_rstart a.lrows.now) (from a.r_rstart a.rrows.now) a.r a.a a.b a.c a.d c.are_valid.result _ c.are_valid.ensures f c.requires.1.1.1.1.0, c.requires.1.1.1.1.1.0))))))
 
 push_bit-requires-2 : tie.Need-push_bit-requires-2
 push_bit-requires-2 c κs = omega (arith, c.requires.1.1.1.1.1.1.rows)
@@ -70,12 +66,11 @@ shape_of-area c = search
 returns : tie.Need-returns
 returns c =
     let a = c.args in
-    let v = c.before.before.before.before.before.before.before.before.before.before.before.before.before.before in
-    let e = elems_pair (hash_elems a.op) (from a.l_rstart a.lrows.now) (from a.r_rstart a.rrows.now) (elem_at a.lvalues.now (from a.l_estart a.lelements.now)) (elem_at a.rvalues.now (from a.r_estart a.relements.now)) a.r a.a a.b a.c a.d v.are_valid.result v.are_valid.ensures in
-    let f = not-false v.are_valid.result c.if-not-are_valid.false in
+    let e = elems_pair (hash_elems a.op) (from a.l_rstart a.lrows.now) (from a.r_rstart a.rrows.now) (elem_at a.lvalues.now (from a.l_estart a.lelements.now)) (elem_at a.rvalues.now (from a.r_estart a.relements.now)) a.r a.a a.b a.c a.d c.are_valid.result c.are_valid.ensures in
+    let f = not-false c.are_valid.result c.if-not-are_valid.false-raw in
     let w = c.write_row-next.ensures in (
       record {
-        rows = rw (is_row_pair (hash_elems a.op) (from a.l_rstart a.lrows.now) (from a.r_rstart a.rrows.now) (elem_at a.lvalues.now (from a.l_estart a.lelements.now)) (elem_at a.rvalues.now (from a.r_estart a.relements.now)) a.r a.a a.b a.c a.d v.are_valid.result v.are_valid.ensures, f) c.push_bit-2.ensures;
+        rows = rw (is_row_pair (hash_elems a.op) (from a.l_rstart a.lrows.now) (from a.r_rstart a.rrows.now) (elem_at a.lvalues.now (from a.l_estart a.lelements.now)) (elem_at a.rvalues.now (from a.r_estart a.relements.now)) a.r a.a a.b a.c a.d c.are_valid.result c.are_valid.ensures, f) c.push_bit-2.ensures;
         values = rw (e, f) w.0.values;
         elements = rw (e, f) w.0.elements;
         place = rw (e, f) w.0.next;

@@ -35,28 +35,28 @@ D s = let a = s.args in column a.roffsets.now (from a.r_rstart a.rrows.now) a.rv
 -- ---- places
 
 abbrev put : tie.At-loop-left invariant-loop-left decreases-loop-left → tie.After-put_offset invariant-loop-left decreases-loop-left
-put l = l.before.before
+put l = l
 
 abbrev S : tie.At-loop-left invariant-loop-left decreases-loop-left → tie.Start invariant-loop-left decreases-loop-left
-S l = (put l).before.before.before.before.before.before.before.before.before.before
+S l = (put l)
 
 abbrev L : tie.After-offset_at-d invariant-loop-left decreases-loop-left → tie.At-loop-left invariant-loop-left decreases-loop-left
-L q = q.before.before.before.before.before
+L q = q
 
 abbrev pair : tie.After-put_offset-arg-in-loop-left-1 invariant-loop-left decreases-loop-left → tie.After-put_pair-at invariant-loop-left decreases-loop-left
-pair p = p.before.before.before.before.before.before.before.before
+pair p = p
 
 abbrev read : tie.After-put_pair-at invariant-loop-left decreases-loop-left → tie.After-offset_at-d invariant-loop-left decreases-loop-left
-read w = w.before.before.before.before.before
+read w = w
 
 abbrev turn : tie.After-out_offsets-in-loop-left-1 invariant-loop-left decreases-loop-left → tie.In-loop-left invariant-loop-left decreases-loop-left
-turn c = (read (pair c.before.before)).before.before.before.before
+turn c = (read (pair c.before.before))
 
 abbrev count : tie.At-loop-left invariant-loop-left decreases-loop-left → ℕ
-count l = (put l).before.before.row_count.result
+count l = (put l).row_count-n.result
 
 rows_are : (l : tie.At-loop-left invariant-loop-left decreases-loop-left) → count l ≡ row_count (C (S l)).offsets
-rows_are l = (put l).before.before.row_count.ensures
+rows_are l = (put l).row_count-n.ensures
 
 abbrev W : tie.At-loop-left invariant-loop-left decreases-loop-left → ℕ → Row
 W l = hash_at (S l).args.op (C (S l)) (D (S l))
@@ -65,7 +65,7 @@ W l = hash_at (S l).args.op (C (S l)) (D (S l))
 abbrev made : (q : tie.After-offset_at-d invariant-loop-left decreases-loop-left) → Row
 made q = let l = L q in on_rows (hash_elems (S l).args.op) (row_from (C (S l)).rows (elem_at (C (S l)).values (C (S l)).elements) l.loop-left.r q.offset_at-a.result q.offset_at-b.result) (row_from (D (S l)).rows (elem_at (D (S l)).values (D (S l)).elements) l.loop-left.r q.offset_at-c.result q.offset_at-d.result)
 
-same_row : (q : tie.After-offset_at-d invariant-loop-left decreases-loop-left) → made q ≡ W (L q) (L q).loop.r
+same_row : (q : tie.After-offset_at-d invariant-loop-left decreases-loop-left) → made q ≡ W (L q) (L q).loop-left.r
 same_row q = let l = L q in same_pair (hash_elems (S l).args.op) (C (S l)) (D (S l)) l.loop-left.r q.offset_at-a.result q.offset_at-b.result q.offset_at-c.result q.offset_at-d.result q.offset_at-a.ensures.0 q.offset_at-b.ensures.0 q.offset_at-c.ensures.0 q.offset_at-d.ensures.0
 
 -- ---- needs
@@ -83,37 +83,36 @@ offset_at-a-requires : tie.Need-offset_at-a-requires invariant-loop-left decreas
 offset_at-a-requires c κs = omega (arith, rows_are c.before)
 
 overflow_add-r : tie.Need-overflow_add-r invariant-loop-left decreases-loop-left
-overflow_add-r c = omega (arith, c.before)
+overflow_add-r c = omega (arith, c)
 
 offset_at-b-requires : tie.Need-offset_at-b-requires invariant-loop-left decreases-loop-left
-offset_at-b-requires c κs = omega (arith, c.before, rows_are c.before.before)
+offset_at-b-requires c κs = omega (arith, c, rows_are c.before.before)
 
 offset_at-c-requires : tie.Need-offset_at-c-requires invariant-loop-left decreases-loop-left
-offset_at-c-requires c κs = omega (arith, c.before.before, rows_are c.before.before.before, (S c.before.before.before).pre.1.1.0)
+offset_at-c-requires c κs = omega (arith, c, rows_are c.before.before.before, (S c.before.before.before).requires.1.1.0)
 
 overflow_add-r-in-loop-left : tie.Need-overflow_add-r-in-loop-left invariant-loop-left decreases-loop-left
-overflow_add-r-in-loop-left c = omega (arith, c.before.before.before)
+overflow_add-r-in-loop-left c = omega (arith, c)
 
 offset_at-d-requires : tie.Need-offset_at-d-requires invariant-loop-left decreases-loop-left
-offset_at-d-requires c κs = omega (arith, c.before.before.before, rows_are c.before.before.before.before, (S c.before.before.before.before).pre.1.1.0)
+offset_at-d-requires c κs = omega (arith, c, rows_are c.before.before.before.before, (S c.before.before.before.before).requires.1.1.0)
 
 put_pair-at-requires : tie.Need-put_pair-at-requires invariant-loop-left decreases-loop-left
 put_pair-at-requires c κs =
-    let q = c.before.before.before.before in
-    let l = L q in
+    let l = L c.before.before.before.before in
     let s = S l in
-    let x = q.offset_at-a in
-    let y = q.offset_at-b in
-    let z = q.offset_at-c in
-    let w = q.offset_at-d in
-    let fits = need_fits s.args.op (C s) (D s) (count l) l.loop-left.r x.result y.result z.result w.result (length s.args.area.now) (rows_are l) (omega (arith, q.before.before.before.before)) x.ensures.0 y.ensures.0 z.ensures.0 w.ensures.0 s.requires.1.1.1.1.1.0 in
-    let one = between (C s) (count l) l.loop-left.r x.result y.result s.requires.0 (rows_are l) (omega (arith, q.before.before.before.before)) x.ensures.0 y.ensures.0 in
-    let two = between (D s) (count l) l.loop-left.r z.result w.result s.requires.1.0 (rows_are l ∙ sym s.requires.1.1.0) (omega (arith, q.before.before.before.before)) z.ensures.0 w.ensures.0 in
-    let place = walk_room (W l) (count l) (made q) q.loop-left-test.true (same_row q) l.loop-left.invariant.0 (hash_room s.args.op (C s) (D s) (count l) (rows_are l) s.requires.1.1.1.1.0 (put_keeps s.args.out_offsets.now 0 0 (put l).put-offset.ensures)) in
+    let x = c.offset_at-a in
+    let y = c.offset_at-b in
+    let z = c.offset_at-c in
+    let w = c.offset_at-d in
+    let fits = need_fits s.args.op (C s) (D s) (count l) l.loop-left.r x.result y.result z.result w.result (length s.args.area.now) (rows_are l) (omega (arith, c)) x.ensures.0 y.ensures.0 z.ensures.0 w.ensures.0 s.requires.1.1.1.1.1.0 in
+    let one = between (C s) (count l) l.loop-left.r x.result y.result s.requires.0 (rows_are l) (omega (arith, c)) x.ensures.0 y.ensures.0 in
+    let two = between (D s) (count l) l.loop-left.r z.result w.result s.requires.1.0 (rows_are l ∙ sym s.requires.1.1.0) (omega (arith, c)) z.ensures.0 w.ensures.0 in
+    let place = walk_room (W l) (count l) (made c.before.before.before.before) c.loop-left-test.true (same_row c.before.before.before.before) l.loop-left.invariant.0 (hash_room s.args.op (C s) (D s) (count l) (rows_are l) s.requires.1.1.1.1.0 (put_keeps s.args.out_offsets.now 0 0 (put l).put_offset.ensures)) in
     (one, (two, (y.ensures.1, (w.ensures.1, (rw l.loop-left.invariant.2 fits, (l.loop-left.invariant.1, place))))))
 
 overflow_add-r-in-loop-left-2 : tie.Need-overflow_add-r-in-loop-left-2 invariant-loop-left decreases-loop-left
-overflow_add-r-in-loop-left-2 c = omega (arith, (read (pair c)).before.before.before.before)
+overflow_add-r-in-loop-left-2 c = omega (arith, (read (pair c)))
 
 put_offset-requires-in-loop-left : tie.Need-put_offset-requires-in-loop-left invariant-loop-left decreases-loop-left
 put_offset-requires-in-loop-left c κs =
@@ -122,10 +121,10 @@ put_offset-requires-in-loop-left c κs =
     let l = L q in
     let s = S l in
     let k = walk_small (W l) (count l) (made q) q.loop-left-test.true (same_row q) l.loop-left.invariant.0 w.put_pair-at.ensures.0 in
-    (walk_slot (W l) (count l) (made q) q.loop-left-test.true (same_row q) l.loop-left.invariant.0 (hash_room s.args.op (C s) (D s) (count l) (rows_are l) s.requires.1.1.1.1.0 (put_keeps s.args.out_offsets.now 0 0 (put l).put-offset.ensures)), omega (arith, s.requires.1.1.1.0, rw (hashes_at s.args.op (C s) (D s) (count l) (rows_are l)) at k))
+    (walk_slot (W l) (count l) (made q) q.loop-left-test.true (same_row q) l.loop-left.invariant.0 (hash_room s.args.op (C s) (D s) (count l) (rows_are l) s.requires.1.1.1.1.0 (put_keeps s.args.out_offsets.now 0 0 (put l).put_offset.ensures)), omega (arith, s.requires.1.1.1.0, rw (hashes_at s.args.op (C s) (D s) (count l) (rows_are l)) at k))
 
-overflow_add-r : tie.Need-overflow_add-r invariant-loop-left decreases-loop-left
-overflow_add-r c = omega (arith, turn c)
+overflow_add-r-in-loop-left-3 : tie.Need-overflow_add-r-in-loop-left-3 invariant-loop-left decreases-loop-left
+overflow_add-r-in-loop-left-3 c = omega (arith, turn c)
 
 overflow_sub-left : tie.Need-overflow_sub-left invariant-loop-left decreases-loop-left
 overflow_sub-left c = omega (arith, turn c)
@@ -141,7 +140,7 @@ loop-left-preserved c =
     (walk_more (W l) (count l) (made q) q.loop-left-test.true (same_row q) l.loop-left.invariant.0 w.put_pair-at.ensures.0 c.put_offset-in-loop-left.ensures, w.put_pair-at.ensures.1, w.put_pair-at.kept.1.1.1.1.1.1.1.1.1.1.1.1.1.1.1.1.1.1.1.1.1.0 ∙ l.loop-left.invariant.2)
 
 shape_of-out_offsets : tie.Need-shape_of-out_offsets invariant-loop-left decreases-loop-left
-shape_of-out_offsets c = c.loop-left.invariant.0.lo ∙ (put c.before).put-offset.kept.0
+shape_of-out_offsets c = c.loop-left.invariant.0.lo ∙ (put c.before).put_offset.kept.0
 
 shape_of-out_rows : tie.Need-shape_of-out_rows invariant-loop-left decreases-loop-left
 shape_of-out_rows c = c.loop-left.invariant.0.lr
@@ -157,15 +156,11 @@ shape_of-area c = c.loop-left.invariant.2
 
 returns : tie.Need-returns invariant-loop-left decreases-loop-left
 returns c =
-    let l = c.before in
-    let s = S l in (
-      rw (← hashes_at s.args.op (C s) (D s) (count l) (rows_are l))
-          (walk_done (W l) (count l) s.args.out_offsets.now l.loop-left.invariant.0 c.loop-left-test.false (put l).put-offset.ensures (hash_room s.args.op (C s) (D s) (count l) (rows_are l) s.requires.1.1.1.1.0 refl)),
-      l.loop-left.invariant.1,
+    let s = S c.before in (
+      rw (← hashes_at s.args.op (C s) (D s) (count c.before) (rows_are c.before))
+          (walk_done (W c.before) (count c.before) s.args.out_offsets.now c.loop-left.invariant.0 c.loop-left-test.false (put c.before).put_offset.ensures (hash_room s.args.op (C s) (D s) (count c.before) (rows_are c.before) s.requires.1.1.1.1.0 refl)),
+      c.loop-left.invariant.1,
     )
-
-overflow_add-r-in-loop-left-3 : tie.Need-overflow_add-r-in-loop-left-3 invariant-loop-left decreases-loop-left
-overflow_add-r-in-loop-left-3 c = search rules
 
 pub write_pairs_spec : {M : Type 1} → statement M
 write_pairs_spec =

@@ -25,7 +25,7 @@ module _ (s : tie.Start) where
 
 module _ (c : tie.Else-not-fits_i32) where
   index_fits : fits narrow c.args.index ≡ true
-  index_fits = rw (read_index c.before.before) at (sym c.fits_i32.ensures ∙ not-false _ c.if-not-fits_i32.false)
+  index_fits = rw (read_index c.before.before) at (sym c.fits_i32.ensures ∙ not-false _ c.if-not-fits_i32.false-raw)
 
   index_small : SFits w32 c.args.index
   index_small = fits_signed narrow refl w32 (omega arith) _ index_fits
@@ -33,7 +33,7 @@ module _ (c : tie.Else-not-fits_i32) where
 -- the place that was found
 module _ (c : tie.After-index_place-at) where
   abbrev start : tie.Start
-  start = c.before.before.before
+  start = c
 
   at_small : SFits w32 c.index_place-at.result
   at_small = record { sfits = c.index_place-at.type_inv }
@@ -49,7 +49,7 @@ fits_i32-requires : tie.Need-fits_i32-requires
 fits_i32-requires c κs = search
 
 returns-then-not-fits_i32 : tie.Need-returns-then-not-fits_i32
-returns-then-not-fits_i32 c = answer-unfit narrow _ _ (rw (read_index c.before.before) at (sym c.fits_i32.ensures ∙ not-true _ c.if-not-fits_i32.true))
+returns-then-not-fits_i32 c = answer-unfit narrow _ _ (rw (read_index c.before.before) at (sym c.fits_i32.ensures ∙ not-true _ c.if-not-fits_i32.true-raw))
 
 overflow_cast-n : tie.Need-overflow_cast-n
 overflow_cast-n c = search rules
@@ -62,24 +62,20 @@ index_place-at-requires c κs = rw (read_len c.before.before) tt
 
 returns-then-at-lt0 : tie.Need-returns-then-at-lt0
 returns-then-at-lt0 c =
-    let a = c.before in
-    answer_before narrow _ _ _ (index_fits a.before) (at_is a) (rw (read_at a) at c.if-at-lt0.true)
+    answer_before narrow _ _ _ (index_fits c.before.before) (at_is c.before) (rw (read_at c.before) at c.if-at-lt0.true)
 
 overflow_cast-result : tie.Need-overflow_cast-result
 overflow_cast-result c =
-    let a = c.before.before in
-    rw (read_at a) (casts w32 a.index_place-at.result tt (at_small a) (not_below a.index_place-at.result 0 (rw (read_at a) at c.if-at-lt0.false)))
+    rw (read_at c.before.before) (casts w32 c.index_place-at.result tt (at_small c.before.before) (not_below c.index_place-at.result 0 (rw (read_at c.before.before) at c.if-at-lt0.false)))
 
 returns-then-at-n : tie.Need-returns-then-at-n
 returns-then-at-n c =
-    let a = c.before.before in
-    rw (read_at a)
-    (answer-inside narrow _ _ _ (index_fits a.before) (at_is a) (not_below a.index_place-at.result 0 (rw (read_at a) at c.if-at-lt0.false)) (rw (read_at a, read_len (start a)) at c.if-at-n.true))
+    rw (read_at c.before.before)
+    (answer-inside narrow _ _ _ (index_fits c.before.before.before) (at_is c.before.before) (not_below c.index_place-at.result 0 (rw (read_at c.before.before) at c.if-at-lt0.false)) (rw (read_at c.before.before, read_len (start c.before.before)) at c.if-at-n.true))
 
 returns : tie.Need-returns
 returns c =
-    let a = c.before.before in
-    answer_past narrow _ _ _ (index_fits a.before) (at_is a) (rw (read_at a, read_len (start a)) at c.if-at-n.false)
+    answer_past narrow _ _ _ (index_fits c.before.before.before) (at_is c.before.before) (rw (read_at c.before.before, read_len (start c.before.before)) at c.if-at-n.false)
 
 pub adjusted_array_index_spec : {M : Type 1} → statement M
 adjusted_array_index_spec =

@@ -4,16 +4,16 @@ use Rattle.index.proofs.index_place.Statement.{statement}
 use Rattle.index.proofs.index_place.Tie as tie
 
 overflow_add-result : tie.Need-overflow_add-result
-overflow_add-result c = let s = c.before in laws.end_fits w32 _ _ s.ranges.index s.ranges.len s.requires c.if-index-lt0.true
+overflow_add-result c = laws.end_fits w32 _ _ c.ranges.index c.ranges.len c.requires c.if-index-lt0.true
 
 returns-then-index-lt0 : tie.Need-returns-then-index-lt0
-returns-then-index-lt0 c = let s = c.before in laws.index_back w32 _ _ s.ranges.index s.ranges.len s.requires c.if-index-lt0.true
+returns-then-index-lt0 c = laws.index_back w32 _ _ c.ranges.index c.ranges.len c.requires c.if-index-lt0.true
 
 overflow_sub-result : tie.Need-overflow_sub-result
-overflow_sub-result c = let s = c.before in laws.natural-fits w32 _ _ s.ranges.index s.ranges.len c.if-index-lt0.false
+overflow_sub-result c = laws.natural-fits w32 _ _ c.ranges.index c.ranges.len c.if-index-lt0.false
 
 returns : tie.Need-returns
-returns c = let s = c.before in laws.index_on w32 _ _ s.ranges.index s.ranges.len c.if-index-lt0.false
+returns c = laws.index_on w32 _ _ c.ranges.index c.ranges.len c.if-index-lt0.false
 
 pub index_place_spec : {M : Type 1} → statement M
 index_place_spec =

@@ -20,7 +20,7 @@ read_len s = to_z_pos w64 (omega (arith, s.requires))
 -- the place that was found
 module _ (c : tie.After-index_place-at) where
   abbrev start : tie.Start
-  start = c.before
+  start = c
 
   at_small : SFits w64 c.index_place-at.result
   at_small = record { sfits = c.index_place-at.type_inv }
@@ -40,25 +40,22 @@ index_place-at-requires c κs = rw (read_len c) tt
 
 returns-then-at-lt0 : tie.Need-returns-then-at-lt0
 unfolding fits
-returns-then-at-lt0 c = let a = c.before in answer_before wide _ _ _ refl (at_is a) (rw (read_at a) at c.if-at-lt0.true)
+returns-then-at-lt0 c = answer_before wide _ _ _ refl (at_is c.before) (rw (read_at c.before) at c.if-at-lt0.true)
 
 overflow_cast-result : tie.Need-overflow_cast-result
 overflow_cast-result c =
-    let a = c.before.before in
-    rw (read_at a) (casts w64 a.index_place-at.result tt (at_small a) (not_below a.index_place-at.result 0 (rw (read_at a) at c.if-at-lt0.false)))
+    rw (read_at c.before.before) (casts w64 c.index_place-at.result tt (at_small c.before.before) (not_below c.index_place-at.result 0 (rw (read_at c.before.before) at c.if-at-lt0.false)))
 
 returns-then-at-n : tie.Need-returns-then-at-n
 unfolding fits
 returns-then-at-n c =
-    let a = c.before.before in
-    rw (read_at a)
-    (answer-inside wide _ _ _ refl (at_is a) (not_below a.index_place-at.result 0 (rw (read_at a) at c.if-at-lt0.false)) (rw (read_at a, read_len (start a)) at c.if-at-n.true))
+    rw (read_at c.before.before)
+    (answer-inside wide _ _ _ refl (at_is c.before.before) (not_below c.index_place-at.result 0 (rw (read_at c.before.before) at c.if-at-lt0.false)) (rw (read_at c.before.before, read_len (start c.before.before)) at c.if-at-n.true))
 
 returns : tie.Need-returns
 unfolding fits
 returns c =
-    let a = c.before.before in
-    answer_past wide _ _ _ refl (at_is a) (rw (read_at a, read_len (start a)) at c.if-at-n.false)
+    answer_past wide _ _ _ refl (at_is c.before.before) (rw (read_at c.before.before, read_len (start c.before.before)) at c.if-at-n.false)
 
 pub adjusted_array_index_spec : {M : Type 1} → statement M
 adjusted_array_index_spec =

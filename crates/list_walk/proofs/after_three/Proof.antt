@@ -52,13 +52,13 @@ R s = rows_refusal (N s) (call_of s.args.op (rows_of (C s)) (shown_by (X s)) (sh
 -- ---- places: the start; the total, from what is written by it and after it
 
 abbrev S : tie.After-total-total → tie.Start
-S t = t.before.before.before.before.before.before.before.before
+S t = t
 
 abbrev sum : tie.After-write_fitting-arg-in-Sum-4-1 → tie.In-Sum-2
-sum p = p.before.before.before.before.before
+sum p = p
 
 abbrev written : tie.After-out_large-1 → tie.After-write_fitting
-written p = p.before.before.before.before.before.before.before
+written p = p
 
 -- what was measured
 total_is : (t : tie.After-total-total) → t.total-total.result ≡ measure_of (gate (R (S t)) (made (length (flat (W (S t))))))
@@ -76,16 +76,15 @@ enum_known-total-in-Sum-1 c = search
 write_fitting-requires : tie.Need-write_fitting-requires
 unfolding let_through
 write_fitting-requires c κs =
-    let t = (sum c).before.before in
+    let t = (sum c) in
     let s = S t in
-    let m = measure_sum (R s) (length (flat (W s))) _ (fitted (W s) (L s)) (sym (total_is t) ∙ (sum c).total3.given.1) in
-    (s.requires.0, (s.requires.1, (m.1, subst (λ x. let_through x ≤ (N s).offset) (sum c).total3.given.1 t.total-total.ensures.1)))
+    let m = measure_sum (R s) (length (flat (W s))) _ (fitted (W s) (L s)) (sym (total_is t) ∙ (sum c).in-Sum.is) in
+    (s.requires.0, (s.requires.1, (m.1, subst (λ x. let_through x ≤ (N s).offset) (sum c).in-Sum.is t.total-total.ensures.1)))
 
 returns-in-Refused : tie.Need-returns-in-Refused
 returns-in-Refused c =
-    let t = c.before in
-    let s = S t in
-    list-refused _ (laws.after_three_lem (N s) s.args.op (C s) (X s) (Y s) (Z s) (L s) s.requires.1 ∙ measure_refused (R s) (length (flat (W s))) _ (fitted (W s) (L s)) (sym (total_is t) ∙ c.in-Refused.is))
+    let s = S c.before in
+    list-refused _ (laws.after_three_lem (N s) s.args.op (C s) (X s) (Y s) (Z s) (L s) s.requires.1 ∙ measure_refused (R s) (length (flat (W s))) _ (fitted (W s) (L s)) (sym (total_is c.before) ∙ c.in-Refused.is))
 
 shape_of-out_offsets : tie.Need-shape_of-out_offsets
 shape_of-out_offsets c = search
@@ -104,10 +103,10 @@ shape_of-out_large c = search
 
 returns-in-Sum : tie.Need-returns-in-Sum
 returns-in-Sum c =
-    let t = (sum (written c).before).before.before in
+    let t = (sum (written c)) in
     let s = S t in
-    let m = measure_sum (R s) (length (flat (W s))) _ (fitted (W s) (L s)) (sym (total_is t) ∙ (sum (written c).before).total3.given.1) in
-    rw (laws.after_three_lem (N s) s.args.op (C s) (X s) (Y s) (Z s) (L s) s.requires.1, m.0) (written c).write-fitting.ensures
+    let m = measure_sum (R s) (length (flat (W s))) _ (fitted (W s) (L s)) (sym (total_is t) ∙ (sum (written c)).in-Sum.is) in
+    rw (laws.after_three_lem (N s) s.args.op (C s) (X s) (Y s) (Z s) (L s) s.requires.1, m.0) (written c).write_fitting.ensures
 
 pub after_three_spec : {M : Type 1} → statement M
 after_three_spec =

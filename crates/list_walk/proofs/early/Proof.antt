@@ -29,14 +29,14 @@ Z s = arguments s.args.zs.now (from s.args.zstart s.args.zbits.now)
 -- ---- places: the starting bits tested, the list tested; and the start
 
 abbrev S : tie.After-is_start_over → tie.Start
-S t = t.before.before.before.before.before.before
+S t = t
 
 abbrev started : tie.After-list_refusal-k → tie.After-is_start_over
-started f = f.before.before
+started f = f
 
 -- no starting bit of a column that is taken is over 7
 not_over : (f : tie.After-list_refusal-k) → let a = (S (started f)).args in start_over a.op a.xstart a.ystart a.zstart ≡ false
-not_over f = sym (started f).is-start-over.ensures ∙ f.if-is_start_over.false
+not_over f = sym (started f).is_start_over.ensures ∙ f.if-is_start_over.false
 
 -- 13, 1 and 2 of the list do not apply
 formed : (e : tie.Else-k-ne0) → columns_refusal (C (S (started e.before)) ∷ []) [] ≡ 0
@@ -72,12 +72,11 @@ arguments_refusal-requires c κs = not_over c.before.before
 
 returns : tie.Need-returns
 returns c =
-    let f = c.before.before.before in
-    let s = S (started f) in (
-      call-arguments s.args.op (C s) (X s) (Y s) (Z s) (not_over f) (formed c.before.before) _ (arguments_are c),
+    let s = S (started c.before.before.before) in (
+      call-arguments s.args.op (C s) (X s) (Y s) (Z s) (not_over c.before.before.before) (formed c.before.before) _ (arguments_are c),
       λ h. record {
         column = readable (C s) (formed c.before.before);
-        arguments = served s.args.op (row_count (C s).offsets) (X s) (Y s) (Z s) (not_over f) (sym (arguments_are c) ∙ h);
+        arguments = served s.args.op (row_count (C s).offsets) (X s) (Y s) (Z s) (not_over c.before.before.before) (sym (arguments_are c) ∙ h);
       },
     )
 

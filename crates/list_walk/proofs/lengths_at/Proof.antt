@@ -50,14 +50,14 @@ M s = room_for (row_count (C s).offsets) (length (flat (W s)))
 -- ---- places: the early refusals; and the start
 
 abbrev early-of : tie.After-total-total → tie.After-early-k
-early-of t = t.before.before
+early-of t = t
 
 abbrev S : tie.After-early-k → tie.Start
-S e = e.before.before.before.before.before.before
+S e = e
 
 -- the early refusals have passed
 begun : (t : tie.After-total-total) → let s = S (early-of t) in Begun s.args.op (C s) (X s) (Y s) (Z s)
-begun t = (early-of t).early.ensures.1 t.if-k-ne0.false
+begun t = (early-of t).early-k.ensures.1 t.if-k-ne0.false
 
 -- what was measured
 total_is : (t : tie.After-total-total) → let s = S (early-of t) in t.total-total.result ≡ measure_of (gate (R s) (made (length (flat (W s)))))
@@ -93,21 +93,19 @@ lengths_for-requires c κs =
 returns-in-Refused : tie.Need-returns-in-Refused
 unfolding asked_list
 returns-in-Refused c =
-    let t = c.before in
-    let s = S (early-of t) in
+    let s = S (early-of c.before) in
     sym
-    (lengths_go (N s) s.args.op (C s) (X s) (Y s) (Z s) _ (early-of t).early.ensures.0 t.if-k-ne0.false (begun t).arguments
-    ∙ measure_refused (R s) (length (flat (W s))) _ (made (M s)) (sym (total_is t) ∙ c.in-Refused.is))
+    (lengths_go (N s) s.args.op (C s) (X s) (Y s) (Z s) _ (early-of c.before).early-k.ensures.0 c.if-k-ne0.false (begun c.before).arguments
+    ∙ measure_refused (R s) (length (flat (W s))) _ (made (M s)) (sym (total_is c.before) ∙ c.in-Refused.is))
 
 returns-in-Sum : tie.Need-returns-in-Sum
 returns-in-Sum c =
-    let t = c.before.before.before in
-    let s = S (early-of t) in
-    let m = measure_sum (R s) (length (flat (W s))) _ (made (M s)) (sym (total_is t) ∙ c.in-Sum.is) in
+    let s = S (early-of c.before.before.before) in
+    let m = measure_sum (R s) (length (flat (W s))) _ (made (M s)) (sym (total_is c.before.before.before) ∙ c.in-Sum.is) in
     c.lengths_for.ensures
     ∙ ap (λ (n : ℕ). made (room_for n c.in-Sum.m)) c.row_count.ensures
     ∙ ap (λ (n : ℕ). made (room_for (row_count (C s).offsets) n)) m.1
-    ∙ sym (lengths_go (N s) s.args.op (C s) (X s) (Y s) (Z s) _ (early-of t).early.ensures.0 t.if-k-ne0.false (begun t).arguments ∙ m.0)
+    ∙ sym (lengths_go (N s) s.args.op (C s) (X s) (Y s) (Z s) _ (early-of c.before.before.before).early-k.ensures.0 c.if-k-ne0.false (begun c.before.before.before).arguments ∙ m.0)
 
 pub lengths_at_spec : {M : Type 1} → statement M
 lengths_at_spec =

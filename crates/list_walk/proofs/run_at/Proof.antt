@@ -39,13 +39,13 @@ L s = let a = s.args in room (length (O s)) (length a.out_rows.now) (length a.ou
 -- ---- places: what is written, the early refusals passed and found; and the start
 
 abbrev wrote : tie.After-out_large-1 → tie.After-after_three
-wrote c = c.before.before.before.before.before.before.before
+wrote c = c
 
 abbrev passed : tie.After-out_large-1 → tie.Else-k-ne0
-passed c = (wrote c).before.before.before.before.before.before
+passed c = (wrote c)
 
 abbrev S : tie.After-early-k → tie.Start
-S e = e.before.before.before.before.before.before.before.before
+S e = e
 
 -- ---- needs
 
@@ -57,30 +57,29 @@ returns-then-k-ne0 c = let s = S c.before in list-refused _ (run_early (N s) s.a
 
 after_three-requires : tie.Need-after_three-requires
 after_three-requires c κs =
-    let e = c.before.before.before.before.before in
-    let b = e.early-k.ensures.1 e.if-k-ne0.false in
+    let b = c.early-k.ensures.1 c.if-k-ne0.false in
     (b.column, b.arguments)
 
 shape_of-out_offsets : tie.Need-shape_of-out_offsets
-shape_of-out_offsets c = (wrote c).after-three.auto.1.1.1.1.1.1.1.1.1.1.1.1.1.1.1.1.0
+shape_of-out_offsets c = (wrote c).after_three.auto.out_offsets
 
 shape_of-out_rows : tie.Need-shape_of-out_rows
-shape_of-out_rows c = (wrote c).after-three.auto.1.1.1.1.1.1.1.1.1.1.1.1.1.1.1.1.1.0
+shape_of-out_rows c = (wrote c).after_three.auto.out_rows
 
 shape_of-out_values : tie.Need-shape_of-out_values
-shape_of-out_values c = (wrote c).after-three.auto.1.1.1.1.1.1.1.1.1.1.1.1.1.1.1.1.1.1.0
+shape_of-out_values c = (wrote c).after_three.auto.out_values
 
 shape_of-out_elements : tie.Need-shape_of-out_elements
-shape_of-out_elements c = (wrote c).after-three.auto.1.1.1.1.1.1.1.1.1.1.1.1.1.1.1.1.1.1.1.0
+shape_of-out_elements c = (wrote c).after_three.auto.out_elements
 
 shape_of-out_large : tie.Need-shape_of-out_large
-shape_of-out_large c = (wrote c).after-three.auto.1.1.1.1.1.1.1.1.1.1.1.1.1.1.1.1.1.1.1.1.1.1.0
+shape_of-out_large c = (wrote c).after_three.auto.out_large
 
 returns : tie.Need-returns
 returns c =
     let e = passed c in
-    let s = S e.before in
-    rw (run_goes (N s) s.args.op (C s) (X s) (Y s) (Z s) _ e.early-k.ensures.0 (L s) e.if-k-ne0.false) (wrote c).after-three.ensures
+    let s = S e in
+    rw (run_goes (N s) s.args.op (C s) (X s) (Y s) (Z s) _ e.early-k.ensures.0 (L s) e.if-k-ne0.false) (wrote c).after_three.ensures
 
 pub run_at_spec : {M : Type 1} → statement M
 run_at_spec =

@@ -45,28 +45,28 @@ W s = call_rows (N s) s.args.op (C s) (X s) (Y s) (Z s)
 
 -- the places that are used below
 abbrev has-room-of-write-rows-arg5 : tie.After-write_rows-arg-5-1 → tie.After-has_room
-has-room-of-write-rows-arg5 p = p.before.before.before.before.before.before
+has-room-of-write-rows-arg5 p = p
 
 abbrev write-rows-of-list-answer-arg2 : tie.After-list-answer-arg2 → tie.After-write_rows
-write-rows-of-list-answer-arg2 p = p.before.before.before.before.before.before.before.before.before
+write-rows-of-list-answer-arg2 p = p
 
 abbrev start-of-has-room : tie.After-has_room → tie.Start
-start-of-has-room p = p.before.before.before.before.before.before.before.before.before.before
+start-of-has-room p = p
 
 abbrev write-rows-of-list-answer : tie.After-list_answer → tie.After-write_rows
-write-rows-of-list-answer p = p.before.before.before.before.before.before.before.before.before.before
+write-rows-of-list-answer p = p
 
 abbrev out-rows-of-list-answer-arg2 : tie.After-list-answer-arg2 → tie.After-out_rows-1
-out-rows-of-list-answer-arg2 p = p.before.before.before.before.before.before.before
+out-rows-of-list-answer-arg2 p = p
 
 abbrev else1-of-out-rows : tie.After-out_rows-1 → tie.Else-not-has_room
-else1-of-out-rows p = p.before.before.before.before.before.before.before.before
+else1-of-out-rows p = p
 
 abbrev else1-of-list-answer-arg2 : tie.After-list-answer-arg2 → tie.Else-not-has_room
 else1-of-list-answer-arg2 p = else1-of-out-rows (out-rows-of-list-answer-arg2 p)
 
 abbrev else1-of-list-answer : tie.After-list_answer → tie.Else-not-has_room
-else1-of-list-answer p = else1-of-list-answer-arg2 p.before
+else1-of-list-answer p = else1-of-list-answer-arg2 p
 
 abbrev S : tie.After-has_room → tie.Start
 S h = start-of-has-room h
@@ -82,7 +82,7 @@ room_is : (h : tie.After-has_room) → h.has_room.result ≡ fits_in (length (W 
 room_is h = rw (slots h) at h.has_room.ensures ∙ same_fit (L (S h)) (rows_are h) (S h).requires.1.1.0
 
 roomy : (e : tie.Else-not-has_room) → let s = S e.before in RoomInˡ (length (W s)) (length (flat (W s))) (length (O s)) (length s.args.out_rows.now) (length s.args.out_values.now) (length s.args.out_elements.now)
-roomy e = has_room _ _ _ _ _ _ (sym (room_is e.before) ∙ not-false _ e.if-not-has_room.false)
+roomy e = has_room _ _ _ _ _ _ (sym (room_is e.before) ∙ not-false _ e.if-not-has_room.false-raw)
 
 row_count-n-requires : tie.Need-row_count-n-requires
 row_count-n-requires c κs = search
@@ -94,7 +94,7 @@ has_room-requires : tie.Need-has_room-requires
 has_room-requires c κs = search
 
 returns-then-not-has_room : tie.Need-returns-then-not-has_room
-returns-then-not-has_room c = let h = c.before in list-refused 9 (fitted_short (W (S h)) (L (S h)) (sym (room_is h) ∙ not-true _ c.if-not-has_room.true))
+returns-then-not-has_room c = list-refused 9 (fitted_short (W (S c.before)) (L (S c.before)) (sym (room_is c.before) ∙ not-true _ c.if-not-has_room.true-raw))
 
 write_rows-requires : tie.Need-write_rows-requires
 write_rows-requires c κs =
@@ -104,9 +104,9 @@ write_rows-requires c κs =
 list_answer-requires : tie.Need-list_answer-requires
 list_answer-requires c κs =
     let e = else1-of-list-answer-arg2 c in
-    let s = S e.before in
+    let s = S e in
     let r = roomy e in
-    (omega (arith, r.rows, rows_are e.before, (write-rows-of-list-answer-arg2 c).write-rows.auto.1.1.1.1.1.1.1.1.1.1.1.1.1.1.1.1.1.0), omega (arith, r.elements, s.requires.1.1.0, (write-rows-of-list-answer-arg2 c).write-rows.auto.1.1.1.1.1.1.1.1.1.1.1.1.1.1.1.1.1.1.1.0))
+    (omega (arith, r.rows, rows_are e, (write-rows-of-list-answer-arg2 c).write_rows.auto.out_rows), omega (arith, r.elements, s.requires.1.1.0, (write-rows-of-list-answer-arg2 c).write_rows.auto.out_elements))
 
 shape_of-out_offsets : tie.Need-shape_of-out_offsets
 shape_of-out_offsets c = search
@@ -126,9 +126,8 @@ shape_of-out_large c = search
 returns : tie.Need-returns
 returns c =
     let e = else1-of-list-answer c in
-    let h = e.before in
-    let s = S h in
-    list-made (W s) _ _ (fitted-made (W s) (L s) (sym (room_is h) ∙ not-false _ e.if-not-has_room.false)) (rows_are h) s.requires.1.1.0 (write-rows-of-list-answer c).write-rows.ensures c.list_answer.ensures
+    let s = S e in
+    list-made (W s) _ _ (fitted-made (W s) (L s) (sym (room_is e) ∙ not-false _ e.if-not-has_room.false-raw)) (rows_are e) s.requires.1.1.0 (write-rows-of-list-answer c).write_rows.ensures c.list_answer.ensures
 
 pub write_fitting_spec : {M : Type 1} → statement M
 write_fitting_spec =

@@ -17,8 +17,7 @@ shifted c = shl_exact {a = 1} 1 c.args.m 64 (omega arith) (omega (arith, c.if-m-
 
 returns-then-m-eq64 : tie.Need-returns-then-m-eq64
 returns-then-m-eq64 c =
-    let s = c.before in
-    (low_flipped s.args.m 64 s.args.word s.requires s.ranges.word.fits, rw c.if-m-eq64.true (omega arith))
+    (low_flipped c.args.m 64 c.args.word c.requires c.ranges.word.fits, rw c.if-m-eq64.true (omega arith))
 
 overflow_shl-result : tie.Need-overflow_shl-result
 overflow_shl-result c = search rules
@@ -28,10 +27,9 @@ overflow_sub-result c = rw (shifted c) (pow_pos c.args.m)
 
 returns : tie.Need-returns
 returns c =
-    let s = c.before in
-    let r = 18446744073709551615 - s.args.word in
-    rw (shifted c, and_mask r s.args.m)
-    (ap (map not) (low_mod s.args.m r) ∙ low_flipped s.args.m 64 s.args.word s.requires s.ranges.word.fits, mod-lt r (pow_pos s.args.m))
+    let r = 18446744073709551615 - c.args.word in
+    rw (shifted c, and_mask r c.args.m)
+    (ap (map not) (low_mod c.args.m r) ∙ low_flipped c.args.m 64 c.args.word c.requires c.ranges.word.fits, mod-lt r (pow_pos c.args.m))
 
 pub flipped_spec : {M : Type 1} → statement M
 flipped_spec =

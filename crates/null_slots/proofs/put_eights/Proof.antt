@@ -22,10 +22,10 @@ module _ (l : tie.At-loop-left invariant-loop-left decreases-loop-left) where
   room = nulling_room l.loop-left.invariant l.requires.1.1
 
 abbrev I : tie.After-out-1 invariant-loop-left decreases-loop-left → tie.In-loop-left invariant-loop-left decreases-loop-left
-I c = c.before.before.before.before
+I c = c
 
 abbrev R : tie.After-out-2-1 invariant-loop-left decreases-loop-left → tie.Else-left-eq0 invariant-loop-left decreases-loop-left
-R c = c.before.before.before.before
+R c = c
 
 loop-left-init : tie.Need-loop-left-init invariant-loop-left decreases-loop-left
 loop-left-init c = nulling_begun
@@ -37,19 +37,19 @@ overflow_cast-few_at : tie.Need-overflow_cast-few_at invariant-loop-left decreas
 overflow_cast-few_at c = omega (arith, c.few_at.ensures.1)
 
 put_few-requires : tie.Need-put_few-requires invariant-loop-left decreases-loop-left
-put_few-requires c κs = let i = c.before.before in let r = room i.before in (omega arith, omega (arith, i.loop-left-test.true))
+put_few-requires c κs = let r = room c.before.before.before in (omega arith, omega (arith, c.loop-left-test.true))
 
 overflow_add-j : tie.Need-overflow_add-j invariant-loop-left decreases-loop-left
-overflow_add-j c = let i = I c in let b = bytes i.before in omega (arith, i.loop-left-test.true)
+overflow_add-j c = let i = I c in let b = bytes i in omega (arith, i.loop-left-test.true)
 
 overflow_add-p : tie.Need-overflow_add-p invariant-loop-left decreases-loop-left
-overflow_add-p c = let i = I c in let r = room i.before in omega (arith, i.loop-left-test.true)
+overflow_add-p c = let i = I c in let r = room i in omega (arith, i.loop-left-test.true)
 
 overflow_sub-left : tie.Need-overflow_sub-left invariant-loop-left decreases-loop-left
-overflow_sub-left c = omega (arith, (I c).loop-test.true)
+overflow_sub-left c = omega (arith, (I c).loop-left-test.true)
 
 loop-left-smaller : tie.Need-loop-left-smaller invariant-loop-left decreases-loop-left
-loop-left-smaller c = omega (arith, (I c).loop-test.true)
+loop-left-smaller c = omega (arith, (I c).loop-left-test.true)
 
 loop-left-preserved : tie.Need-loop-left-preserved invariant-loop-left decreases-loop-left
 loop-left-preserved c = let i = I c in nulling_more i.loop-left.invariant 1 _ (omega (arith, i.loop-left-test.true)) c.put_few.ensures c.few_at.ensures.0
@@ -67,13 +67,13 @@ overflow_cast-few_at-2 : tie.Need-overflow_cast-few_at-2 invariant-loop-left dec
 overflow_cast-few_at-2 c = omega (arith, c.few_at-2.type_inv)
 
 put_few-requires-2 : tie.Need-put_few-requires-2 invariant-loop-left decreases-loop-left
-put_few-requires-2 c κs = let a = c.before.before.before in let r = room a.before in (omega (arith, a.loop-left-test.false), omega arith)
+put_few-requires-2 c κs = let r = room c.before.before.before.before in (omega (arith, c.loop-left-test.false), omega arith)
 
 shape_of-out : tie.Need-shape_of-out invariant-loop-left decreases-loop-left
-shape_of-out c = c.put_few-2.auto.out ∙ (R c).before.before.loop.invariant.same
+shape_of-out c = c.put_few-2.auto.out ∙ (R c).loop-left.invariant.same
 
 returns : tie.Need-returns invariant-loop-left decreases-loop-left
-returns c = nulling_last (R c).before.before.loop.invariant _ c.put_few-2.ensures c.few_at-2.ensures.0
+returns c = nulling_last (R c).loop-left.invariant _ c.put_few-2.ensures c.few_at-2.ensures.0
 
 pub put_eights_spec : {M : Type 1} → statement M
 put_eights_spec =

@@ -22,10 +22,10 @@ module _ (l : tie.At-loop-left invariant-loop-left decreases-loop-left) where
   room = nulling_room l.loop-left.invariant l.requires.1.1
 
 abbrev I : tie.After-out-1 invariant-loop-left decreases-loop-left → tie.In-loop-left invariant-loop-left decreases-loop-left
-I c = c.before.before.before.before
+I c = c
 
 abbrev L : tie.After-out-2-1 invariant-loop-left decreases-loop-left → tie.At-loop-left invariant-loop-left decreases-loop-left
-L c = c.before.before.before.before
+L c = c
 
 loop-left-init : tie.Need-loop-left-init invariant-loop-left decreases-loop-left
 loop-left-init c = nulling_begun
@@ -34,28 +34,28 @@ word_from-requires : tie.Need-word_from-requires invariant-loop-left decreases-l
 word_from-requires c κs = let b = bytes c.before in (omega (arith, c.requires.0), omega (arith, c.loop-left-test.true))
 
 put_few-requires : tie.Need-put_few-requires invariant-loop-left decreases-loop-left
-put_few-requires c κs = let i = c.before.before in let r = room i.before in (omega arith, omega (arith, i.loop-left-test.true))
+put_few-requires c κs = let r = room c.before.before.before in (omega arith, omega (arith, c.loop-left-test.true))
 
 overflow_add-j : tie.Need-overflow_add-j invariant-loop-left decreases-loop-left
-overflow_add-j c = let i = I c in let b = bytes i.before in omega (arith, i.loop-left-test.true)
+overflow_add-j c = let i = I c in let b = bytes i in omega (arith, i.loop-left-test.true)
 
 overflow_add-p : tie.Need-overflow_add-p invariant-loop-left decreases-loop-left
-overflow_add-p c = let i = I c in let r = room i.before in omega (arith, i.loop-left-test.true)
+overflow_add-p c = let i = I c in let r = room i in omega (arith, i.loop-left-test.true)
 
 loop-left-smaller : tie.Need-loop-left-smaller invariant-loop-left decreases-loop-left
-loop-left-smaller c = omega (arith, (I c).loop-test.true)
+loop-left-smaller c = omega (arith, (I c).loop-left-test.true)
 
 loop-left-preserved : tie.Need-loop-left-preserved invariant-loop-left decreases-loop-left
 loop-left-preserved c = let i = I c in nulling_more i.loop-left.invariant 8 _ i.loop-left-test.true c.put_few.ensures c.word_from.ensures
 
 put_eights-requires : tie.Need-put_eights-requires invariant-loop-left decreases-loop-left
-put_eights-requires c κs = let l = c.before.before in (l.requires.0, (bytes l, room l))
+put_eights-requires c κs = (c.requires.0, (bytes c.before.before, room c.before.before))
 
 shape_of-out : tie.Need-shape_of-out invariant-loop-left decreases-loop-left
-shape_of-out c = c.put_eights.auto.out ∙ (L c).loop.invariant.same
+shape_of-out c = c.put_eights.auto.out ∙ (L c).loop-left.invariant.same
 
 returns : tie.Need-returns invariant-loop-left decreases-loop-left
-returns c = nulling_rest (L c).loop.invariant c.put_eights.ensures
+returns c = nulling_rest (L c).loop-left.invariant c.put_eights.ensures
 
 pub put_nulls_spec : {M : Type 1} → statement M
 put_nulls_spec =

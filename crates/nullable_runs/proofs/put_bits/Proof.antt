@@ -9,10 +9,10 @@ use Rattle.nullable_runs.proofs.put_bits.Tie as tie
 -- ---- places: the start, and what stands before a short run
 
 abbrev start : tie.Then-n-gt8 → tie.Start
-start t = t.before.before.before
+start t = t
 
 abbrev nulls : tie.After-push_copied → tie.After-put_nulls
-nulls p = p.before.before.before
+nulls p = p
 
 put_nulls-requires : tie.Need-put_nulls-requires
 put_nulls-requires c κs = let p = (start c.before).requires in (p.0, (p.1.0, p.1.1.0))
@@ -21,13 +21,13 @@ push_copied-requires : tie.Need-push_copied-requires
 push_copied-requires c κs = let p = (start c.before.before.before.before).requires in (p.0, (p.1.0, (p.1.1.1.0, p.1.1.1.1)))
 
 shape_of-out_values-then-n-gt8 : tie.Need-shape_of-out_values-then-n-gt8
-shape_of-out_values-then-n-gt8 c = (nulls c.before.before).put-nulls.auto.1.1.1.1.0
+shape_of-out_values-then-n-gt8 c = (nulls c.before.before).put_nulls.auto.out
 
 shape_of-out_elements-then-n-gt8 : tie.Need-shape_of-out_elements-then-n-gt8
 shape_of-out_elements-then-n-gt8 c = c.push_copied.auto.out
 
 returns-then-n-gt8 : tie.Need-returns-then-n-gt8
-returns-then-n-gt8 c = ((nulls c.before.before).put-nulls.ensures, c.push_copied.ensures)
+returns-then-n-gt8 c = ((nulls c.before.before).put_nulls.ensures, c.push_copied.ensures)
 
 returns-then-n-eq0 : tie.Need-returns-then-n-eq0
 unfolding tab nulled push_bits
@@ -35,9 +35,8 @@ returns-then-n-eq0 c = rw c.if-n-eq0.true (refl, refl)
 
 put_short-requires : tie.Need-put_short-requires
 put_short-requires c κs =
-    let e = c.before.before in
-    let p = e.requires in
-    (p.0, (omega (arith, e.if-n-eq0.false), (omega (arith, e.if-n-gt8.false), (p.1.0, (p.1.1.0, p.1.1.1.0)))))
+    let p = c.requires in
+    (p.0, (omega (arith, c.if-n-eq0.false), (omega (arith, c.if-n-gt8.false), (p.1.0, (p.1.1.0, p.1.1.1.0)))))
 
 shape_of-out_values : tie.Need-shape_of-out_values
 shape_of-out_values c = c.put_short.auto.out_values

@@ -10,13 +10,13 @@ use Rattle.nullable_runs.proofs.put_short.Tie as tie
 -- ---- places: the start and the bits read, from what comes after
 
 abbrev start : tie.After-few_at-few → tie.Start
-start p = p.before.before.before
+start p = p
 
 abbrev few-of-nulls : tie.After-put_few → tie.After-few_at-few
-few-of-nulls p = p.before.before
+few-of-nulls p = p
 
 abbrev nulls-of-pushed : tie.After-push_few → tie.After-put_few
-nulls-of-pushed p = p.before.before.before
+nulls-of-pushed p = p
 
 few_at-few-requires : tie.Need-few_at-few-requires
 few_at-few-requires c κs = let p = c.requires in (p.0, (p.1.0, (p.1.1.0, p.1.1.1.0)))
@@ -28,22 +28,21 @@ put_few-requires : tie.Need-put_few-requires
 put_few-requires c κs = let p = (start c.before).requires in (omega (arith, p.1.1.0), p.1.1.1.1.0)
 
 push_few-requires : tie.Need-push_few-requires
-push_few-requires c κs = let f = few-of-nulls c.before.before in let p = (start f).pre in (p.1.0, (p.1.1.0, (f.few_at-few.ensures.1, p.1.1.1.1.1)))
+push_few-requires c κs = let f = few-of-nulls c.before.before in let p = (start f).requires in (p.1.0, (p.1.1.0, (f.few_at-few.ensures.1, p.1.1.1.1.1)))
 
 shape_of-out_values : tie.Need-shape_of-out_values
-shape_of-out_values c = (nulls-of-pushed c.before.before).put-few.auto.1.1.0
+shape_of-out_values c = (nulls-of-pushed c.before.before).put_few.auto.out
 
 shape_of-out_elements : tie.Need-shape_of-out_elements
 shape_of-out_elements c = c.push_few.auto.out
 
 returns : tie.Need-returns
 returns c =
-    let q = c.before.before in
-    let p = nulls-of-pushed q in
+    let p = nulls-of-pushed c.before.before in
     let f = few-of-nulls p in
     let a = (start f).args in (
       p.put_few.ensures ∙ ap (λ (l : List Bool). nulled a.out_values-1.now a.at l) f.few_at-few.ensures.0,
-      q.push_few.ensures ∙ ap (λ (l : List Bool). push_bits a.out_elements-1.now a.at l) f.few_at-few.ensures.0,
+      c.push_few.ensures ∙ ap (λ (l : List Bool). push_bits a.out_elements-1.now a.at l) f.few_at-few.ensures.0,
     )
 
 pub put_short_spec : {M : Type 1} → statement M

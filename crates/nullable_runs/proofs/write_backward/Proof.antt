@@ -17,13 +17,13 @@ use Rattle.nullable_runs.proofs.write_backward.Tie as tie
 -- ---- places: the start, the byte and the first bit of the run, and its values, from what comes after
 
 abbrev start-of-bits : tie.After-start_from-first → tie.Start
-start-of-bits p = p.before.before.before.before
+start-of-bits p = p
 
 abbrev bits-of-nulls : tie.After-put_nulls_back → tie.After-start_from-first
-bits-of-nulls p = p.before.before.before.before.before
+bits-of-nulls p = p
 
 abbrev nulls-of-pushed : tie.After-push_turned → tie.After-put_nulls_back
-nulls-of-pushed p = p.before.before.before
+nulls-of-pushed p = p
 
 module _ (s : tie.Start) where
   -- room for the values and the bits
@@ -54,17 +54,16 @@ copy_backward-requires c κs = let s = start-of-bits c.before in (s.requires.0.i
 
 put_nulls_back-requires : tie.Need-put_nulls_back-requires
 put_nulls_back-requires c κs =
-    let b = c.before.before.before.before in
-    (omega (arith, b.start_from-first.ensures), (covered b, omega (arith, (many (start-of-bits b)).0, c.copy_backward.auto.out)))
+    (omega (arith, c.start_from-first.ensures), (covered c.before.before.before.before, omega (arith, (many (start-of-bits c.before.before.before.before)).0, c.copy_backward.auto.out)))
 
 push_turned-requires : tie.Need-push_turned-requires
 push_turned-requires c κs =
     let b = bits-of-nulls c.before.before in
     let m = many (start-of-bits b) in
-    (omega (arith, b.start_from-first.ensures), (covered b, (m.1, omega (arith, m.0, b.before.before))))
+    (omega (arith, b.start_from-first.ensures), (covered b, (m.1, omega (arith, m.0, b))))
 
 overflow_add-result : tie.Need-overflow_add-result
-overflow_add-result c = let b = bits-of-nulls (nulls-of-pushed c.before.before) in omega (arith, (many (start-of-bits b)).0, b.before.before)
+overflow_add-result c = let b = bits-of-nulls (nulls-of-pushed c.before.before) in omega (arith, (many (start-of-bits b)).0, b)
 
 shape_of-out_values : tie.Need-shape_of-out_values
 shape_of-out_values c = let p = nulls-of-pushed c.before.before in p.put_nulls_back.kept.1.1.1.1.0 ∙ p.copy_backward.kept.1.1.1.0
@@ -74,13 +73,12 @@ shape_of-out_elements c = c.push_turned.auto.out
 
 returns : tie.Need-returns
 returns c =
-    let q = c.before.before in
-    let p = nulls-of-pushed q in
+    let p = nulls-of-pushed c.before.before in
     let b = bits-of-nulls p in
     let s = start-of-bits b in
     nullable_back_written s.args.values.now s.args.elements.now s.args.estart b.byte_from-byte.result b.start_from-first.result s.args.a (λ z. omega (arith, s.requires.1.1)) (stands b) s.args.n s.args.at
     (p.put_nulls_back.ensures ∙ ap (λ (r : List ℤ). nulled r s.args.at (reverse (tab (bit_at s.args.elements.now) (8 * b.byte_from-byte.result + b.start_from-first.result) s.args.n))) p.copy_backward.ensures)
-    q.push_turned.ensures
+    c.push_turned.ensures
 
 pub write_backward_spec : {M : Type 1} → statement M
 write_backward_spec =

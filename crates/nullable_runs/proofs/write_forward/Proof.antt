@@ -17,13 +17,13 @@ use Rattle.nullable_runs.proofs.write_forward.Tie as tie
 -- ---- places: the start, the byte and the first bit of the run, and its values, from what comes after
 
 abbrev start-of-bits : tie.After-start_from-first → tie.Start
-start-of-bits p = p.before.before.before.before
+start-of-bits p = p
 
 abbrev values-of-bits : tie.After-put_bits → tie.After-copy_values
-values-of-bits p = p.before.before.before.before
+values-of-bits p = p
 
 abbrev bits-of-values : tie.After-copy_values → tie.After-start_from-first
-bits-of-values p = p.before.before
+bits-of-values p = p
 
 module _ (s : tie.Start) where
   -- room for the values and the bits
@@ -54,29 +54,27 @@ copy_values-requires c κs = let s = start-of-bits c.before in (s.requires.0.ins
 
 put_bits-requires : tie.Need-put_bits-requires
 put_bits-requires c κs =
-    let v = c.before.before.before in
-    let b = bits-of-values v in
+    let b = bits-of-values c.before.before.before in
     let m = many (start-of-bits b) in
-    (omega (arith, b.start_from-first.ensures), (covered b, (omega (arith, m.0, v.copy_values.auto.out), (m.1, omega (arith, m.0, b.before.before)))))
+    (omega (arith, b.start_from-first.ensures), (covered b, (omega (arith, m.0, c.copy_values.auto.out), (m.1, omega (arith, m.0, b)))))
 
 overflow_add-result : tie.Need-overflow_add-result
-overflow_add-result c = let b = bits-of-values (values-of-bits c.before.before.before) in omega (arith, (many (start-of-bits b)).0, b.before.before)
+overflow_add-result c = let b = bits-of-values (values-of-bits c.before.before.before) in omega (arith, (many (start-of-bits b)).0, b)
 
 shape_of-out_values : tie.Need-shape_of-out_values
-shape_of-out_values c = let p = c.before.before.before in p.put_bits.auto.out_values ∙ (values-of-bits p).copy-values.auto.1.1.1.0
+shape_of-out_values c = c.put_bits.auto.out_values ∙ (values-of-bits c.before.before.before).copy_values.auto.out
 
 shape_of-out_elements : tie.Need-shape_of-out_elements
 shape_of-out_elements c = c.put_bits.auto.out_elements
 
 returns : tie.Need-returns
 returns c =
-    let p = c.before.before.before in
-    let v = values-of-bits p in
+    let v = values-of-bits c.before.before.before in
     let b = bits-of-values v in
     let s = start-of-bits b in
     nullable_written s.args.values.now s.args.elements.now s.args.estart b.byte_from-byte.result b.start_from-first.result s.args.a (λ z. omega (arith, s.requires.1.1)) (stands b) s.args.n s.args.at
-    (p.put_bits.ensures.0 ∙ ap (λ (r : List ℤ). nulled r s.args.at (tab (bit_at s.args.elements.now) (8 * b.byte_from-byte.result + b.start_from-first.result) s.args.n)) v.copy_values.ensures)
-    p.put_bits.ensures.1
+    (c.put_bits.ensures.0 ∙ ap (λ (r : List ℤ). nulled r s.args.at (tab (bit_at s.args.elements.now) (8 * b.byte_from-byte.result + b.start_from-first.result) s.args.n)) v.copy_values.ensures)
+    c.put_bits.ensures.1
 
 pub write_forward_spec : {M : Type 1} → statement M
 write_forward_spec =

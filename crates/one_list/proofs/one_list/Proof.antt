@@ -16,22 +16,22 @@ use Rattle.one_list.proofs.one_list.Tie as tie
 -- ---- places: what the operation takes and the start; the first column cut, the second and, last, the third; the call
 
 abbrev S : tie.After-takes-t → tie.Start
-S c = c.before.before.before.before.before.before
+S c = c
 
 abbrev Y : tie.After-start_from-zstart → tie.After-start_from-ystart
-Y c = c.before.before.before
+Y c = c
 
 abbrev X : tie.After-start_from-zstart → tie.After-start_from-xstart
-X c = (Y c).before.before.before
+X c = (Y c)
 
 abbrev told : tie.After-start_from-zstart → tie.After-takes-t
-told c = (X c).before.before.before
+told c = (X c)
 
 abbrev cut : tie.After-after_three-arg-5-1 → tie.After-start_from-zstart
-cut c = c.before.before.before.before.before
+cut c = c
 
 abbrev called : tie.After-out_large-1 → tie.After-after_three
-called c = c.before.before.before.before.before.before.before
+called c = c
 
 -- ---- the arguments
 
@@ -68,7 +68,7 @@ start_from-xstart-requires c κs = (S c.before.before).requires.1.1.0.small
 
 column_values-y-requires : tie.Need-column_values-y-requires
 unfolding LiesIn
-column_values-y-requires c κs = let t = c.before.before.before in rw t.takes-t.ensures (S t).requires.1.1.1.second_in
+column_values-y-requires c κs = rw c.takes-t.ensures (S c.before.before.before).requires.1.1.1.second_in
 
 bits_from-ybits-requires : tie.Need-bits_from-ybits-requires
 unfolding LiesIn
@@ -79,7 +79,7 @@ start_from-ystart-requires c κs = (S c.before.before.before.before.before).requ
 
 column_values-z-requires : tie.Need-column_values-z-requires
 unfolding LiesIn
-column_values-z-requires c κs = let t = c.before.before.before.before.before.before in rw t.takes-t.ensures (S t).requires.1.1.1.third_in
+column_values-z-requires c κs = rw c.takes-t.ensures (S c.before.before.before.before.before.before).requires.1.1.1.third_in
 
 bits_from-zbits-requires : tie.Need-bits_from-zbits-requires
 unfolding LiesIn
@@ -95,9 +95,9 @@ after_three-requires c κs =
     rw s.requires.1.0 (
       s.requires.0,
       record {
-        first = λ u. column_serves (A s) s.requires.1.1.0 s.args.first s.args.pitch s.args.n (ltb 0 (takes_of s.args.op)) s.requires.1.1.1.first_in (ap (λ (t : Arity). ltb 0 t.columns) (told w).takes.ensures) (X w).before.before.column-values.ensures (X w).before.bits-from.ensures (X w).start-from.ensures u false;
-        second = λ u. column_serves (A s) s.requires.1.1.0 s.args.second s.args.pitch s.args.n (ltb 1 (takes_of s.args.op)) s.requires.1.1.1.second_in (ap (λ (t : Arity). ltb 1 t.columns) (told w).takes.ensures) (Y w).before.before.column-values2.ensures (Y w).before.bits-from2.ensures (Y w).start-from2.ensures u (second_limit s.args.op);
-        third = λ u. column_serves (A s) s.requires.1.1.0 s.args.third s.args.pitch s.args.n (ltb 2 (takes_of s.args.op)) s.requires.1.1.1.third_in (ap (λ (t : Arity). ltb 2 t.columns) (told w).takes.ensures) w.column_values-z.ensures w.bits_from-zbits.ensures w.start_from-zstart.ensures u (third_limit s.args.op);
+        first = λ u. column_serves (A s) s.requires.1.1.0 s.args.first s.args.pitch s.args.n (ltb 0 (takes_of s.args.op)) s.requires.1.1.1.first_in (ap (λ (t : Arity). ltb 0 t.columns) (told w).takes-t.ensures) (X w).column_values-x.ensures (X w).bits_from-xbits.ensures (X w).start_from-xstart.ensures u false;
+        second = λ u. column_serves (A s) s.requires.1.1.0 s.args.second s.args.pitch s.args.n (ltb 1 (takes_of s.args.op)) s.requires.1.1.1.second_in (ap (λ (t : Arity). ltb 1 t.columns) (told w).takes-t.ensures) (Y w).column_values-y.ensures (Y w).bits_from-ybits.ensures (Y w).start_from-ystart.ensures u (second_limit s.args.op);
+        third = λ u. column_serves (A s) s.requires.1.1.0 s.args.third s.args.pitch s.args.n (ltb 2 (takes_of s.args.op)) s.requires.1.1.1.third_in (ap (λ (t : Arity). ltb 2 t.columns) (told w).takes-t.ensures) w.column_values-z.ensures w.bits_from-zbits.ensures w.start_from-zstart.ensures u (third_limit s.args.op);
       },
     )
 
@@ -118,13 +118,13 @@ shape_of-out_large c = search
 
 returns : tie.Need-returns
 returns c =
-    let w = cut (called c).before in
+    let w = cut (called c) in
     let s = S (told w) in
     rw (← call_same s.args.op (rows_of (column (used s.args.width s.args.offsets.now s.args.large.now) (from s.args.rstart s.args.rows.now) s.args.values.now (from s.args.estart s.args.elements.now)))
-    (λ u. column-shown (A s) s.requires.1.1.0 s.args.first s.args.pitch s.args.n (ltb 0 (takes_of s.args.op)) s.requires.1.1.1.first_in (ap (λ (t : Arity). ltb 0 t.columns) (told w).takes.ensures) (X w).before.before.column-values.ensures (X w).before.bits-from.ensures (X w).start-from.ensures u)
-    (λ u. column-shown (A s) s.requires.1.1.0 s.args.second s.args.pitch s.args.n (ltb 1 (takes_of s.args.op)) s.requires.1.1.1.second_in (ap (λ (t : Arity). ltb 1 t.columns) (told w).takes.ensures) (Y w).before.before.column-values2.ensures (Y w).before.bits-from2.ensures (Y w).start-from2.ensures u)
-    (λ u. column-shown (A s) s.requires.1.1.0 s.args.third s.args.pitch s.args.n (ltb 2 (takes_of s.args.op)) s.requires.1.1.1.third_in (ap (λ (t : Arity). ltb 2 t.columns) (told w).takes.ensures) w.column_values-z.ensures w.bits_from-zbits.ensures w.start_from-zstart.ensures u))
-    (called c).after-three.ensures
+    (λ u. column-shown (A s) s.requires.1.1.0 s.args.first s.args.pitch s.args.n (ltb 0 (takes_of s.args.op)) s.requires.1.1.1.first_in (ap (λ (t : Arity). ltb 0 t.columns) (told w).takes-t.ensures) (X w).column_values-x.ensures (X w).bits_from-xbits.ensures (X w).start_from-xstart.ensures u)
+    (λ u. column-shown (A s) s.requires.1.1.0 s.args.second s.args.pitch s.args.n (ltb 1 (takes_of s.args.op)) s.requires.1.1.1.second_in (ap (λ (t : Arity). ltb 1 t.columns) (told w).takes-t.ensures) (Y w).column_values-y.ensures (Y w).bits_from-ybits.ensures (Y w).start_from-ystart.ensures u)
+    (λ u. column-shown (A s) s.requires.1.1.0 s.args.third s.args.pitch s.args.n (ltb 2 (takes_of s.args.op)) s.requires.1.1.1.third_in (ap (λ (t : Arity). ltb 2 t.columns) (told w).takes-t.ensures) w.column_values-z.ensures w.bits_from-zbits.ensures w.start_from-zstart.ensures u))
+    (called c).after_three.ensures
 
 pub one_list_spec : {M : Type 1} → statement M
 one_list_spec =

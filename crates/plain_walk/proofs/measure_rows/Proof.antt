@@ -31,38 +31,36 @@ C s = let a = s.args in column (used a.width a.offsets.now a.large.now) (from a.
 -- ---- places: the rows counted and the start, from the loop; a turn from the row measured
 
 abbrev counted : tie.At-loop-left invariant-loop-left decreases-loop-left → tie.After-row_count-n invariant-loop-left decreases-loop-left
-counted l = l.before.before
+counted l = l
 
 abbrev S : tie.At-loop-left invariant-loop-left decreases-loop-left → tie.Start invariant-loop-left decreases-loop-left
-S l = (counted l).before.before.before
+S l = (counted l)
 
 abbrev inside : tie.After-measure_row-more invariant-loop-left decreases-loop-left → tie.In-loop-left invariant-loop-left decreases-loop-left
-inside m = m.before.before.before
+inside m = m
 
 abbrev count : tie.At-loop-left invariant-loop-left decreases-loop-left → ℕ
-count l = (counted l).row_count.result
+count l = (counted l).row_count-n.result
 
 abbrev W : tie.At-loop-left invariant-loop-left decreases-loop-left → ℕ → Row
 W l = let s = S l in plain_at (N s) s.args.op (C s)
 
 -- row r of a turn can be read
-reads : (q : tie.After-offset_at-b invariant-loop-left decreases-loop-left) → let l = q.before.before in ReadableRowˡ (C (S l)).rows (count l) (C (S l)).values (C (S l)).elements l.loop-left.r l.loop-left.a q.offset_at-b.result
+reads : (q : tie.After-offset_at-b invariant-loop-left decreases-loop-left) → ReadableRowˡ (C (S q.before.before)).rows (count q.before.before) (C (S q.before.before)).values (C (S q.before.before)).elements q.loop-left.r q.loop-left.a q.offset_at-b.result
 reads q =
-    let l = q.before.before in
-    between (C (S l)) (count l) l.loop-left.r l.loop-left.a q.offset_at-b.result (S l).requires (counted l).row_count.ensures (omega (arith, l.loop-left.invariant.0.rows, q.loop-left-test.true)) l.loop-left.invariant.1 q.offset_at-b.ensures.0
+    between (C (S q.before.before)) (count q.before.before) q.loop-left.r q.loop-left.a q.offset_at-b.result (S q.before.before).requires (counted q.before.before).row_count-n.ensures (omega (arith, q.loop-left.invariant.0.rows, q.loop-left-test.true)) q.loop-left.invariant.1 q.offset_at-b.ensures.0
 
 -- the walk after it
-more : (m : tie.After-measure_row-more invariant-loop-left decreases-loop-left) → let l = (inside m).before in Summing (W l) (count l) m.offset_at-b.result (N (S l)).offset (l.loop-left.found + m.measure_row-more.result) (l.loop-left.r + 1) (l.loop-left.left - 1)
+more : (m : tie.After-measure_row-more invariant-loop-left decreases-loop-left) → let l = (inside m) in Summing (W l) (count l) m.offset_at-b.result (N (S l)).offset (l.loop-left.found + m.measure_row-more.result) (l.loop-left.r + 1) (l.loop-left.left - 1)
 more m =
-    let l = (inside m).before in
+    let l = (inside m) in
     let s = S l in
-    let q = m.before.before in
-    let b = q.offset_at-b in
+    let b = m.offset_at-b in
     let v = m.is_valid-valid in
-    sum_more (W l) (count l) (N s).offset m.measure_row-more.result l.loop-left.a b.result l.loop-left.invariant.0 (inside m).loop-test.true
+    sum_more (W l) (count l) (N s).offset m.measure_row-more.result l.loop-left.a b.result l.loop-left.invariant.0 (inside m).loop-left-test.true
     (m.measure_row-more.ensures ∙ ap (λ (w : Row). length (elems_of w)) (plain_row_lem (N s) s.args.op (C s) l.loop-left.r l.loop-left.a b.result v.result l.loop-left.invariant.1 b.ensures.0 v.ensures))
     (omega (arith, m.measure_row-more.ensures, plain-small (N s) s.args.op (C s) l.loop-left.r l.loop-left.a b.result v.result l.loop-left.invariant.1 b.ensures.0 v.ensures))
-    (reads q).rises refl b.ensures.1
+    (reads m.before.before).rises refl b.ensures.1
 
 row_count-n-requires : tie.Need-row_count-n-requires invariant-loop-left decreases-loop-left
 row_count-n-requires c κs = search
@@ -77,7 +75,7 @@ overflow_add-r : tie.Need-overflow_add-r invariant-loop-left decreases-loop-left
 overflow_add-r c = omega (arith, c.loop-left.invariant.0.rows, c.loop-left-test.true)
 
 offset_at-b-requires : tie.Need-offset_at-b-requires invariant-loop-left decreases-loop-left
-offset_at-b-requires c κs = omega (arith, (counted c.before).row_count.ensures, c.loop-left.invariant.0.rows, c.loop-left-test.true)
+offset_at-b-requires c κs = omega (arith, (counted c.before).row_count-n.ensures, c.loop-left.invariant.0.rows, c.loop-left-test.true)
 
 overflow_sub-len : tie.Need-overflow_sub-len invariant-loop-left decreases-loop-left
 overflow_sub-len c = (reads c).rises
@@ -89,28 +87,24 @@ measure_row-more-requires : tie.Need-measure_row-more-requires invariant-loop-le
 measure_row-more-requires c κs = record { inside = omega (arith, (reads c.before).rises, (reads c.before).inside); bits = (reads c.before).elements }
 
 overflow_add-found : tie.Need-overflow_add-found invariant-loop-left decreases-loop-left
-overflow_add-found c = omega (arith, (more c).small, (limits-fit (S (inside c).before).args.width).offset)
+overflow_add-found c = omega (arith, (more c).small, (limits-fit (S (inside c)).args.width).offset)
 
-overflow_add-r : tie.Need-overflow_add-r invariant-loop-left decreases-loop-left
-overflow_add-r c = omega (arith, (inside c).before.loop.invariant.0.rows, (inside c).loop-test.true)
+overflow_add-r-in-loop-left : tie.Need-overflow_add-r-in-loop-left invariant-loop-left decreases-loop-left
+overflow_add-r-in-loop-left c = omega (arith, (inside c).loop-left.invariant.0.rows, (inside c).loop-left-test.true)
 
 overflow_sub-left : tie.Need-overflow_sub-left invariant-loop-left decreases-loop-left
-overflow_sub-left c = omega (arith, (inside c).loop-test.true)
+overflow_sub-left c = omega (arith, (inside c).loop-left-test.true)
 
 loop-left-smaller : tie.Need-loop-left-smaller invariant-loop-left decreases-loop-left
-loop-left-smaller c = omega (arith, (inside c).loop-test.true)
+loop-left-smaller c = omega (arith, (inside c).loop-left-test.true)
 
 loop-left-preserved : tie.Need-loop-left-preserved invariant-loop-left decreases-loop-left
 loop-left-preserved c = (more c, c.offset_at-b.ensures.0)
 
 returns : tie.Need-returns invariant-loop-left decreases-loop-left
 returns c =
-    let l = c.before in
-    let s = S l in
-    (sum_done (W l) (count l) (N s).offset l.loop-left.invariant.0 (omega (arith, c.loop-left-test.false)) ∙ rw (plain_rows_lem (N s) s.args.op (C s) (count l) (counted l).row_count.ensures), l.loop-left.invariant.0.small)
-
-overflow_add-r-in-loop-left : tie.Need-overflow_add-r-in-loop-left invariant-loop-left decreases-loop-left
-overflow_add-r-in-loop-left c = search rules
+    let s = S c.before in
+    (sum_done (W c.before) (count c.before) (N s).offset c.loop-left.invariant.0 (omega (arith, c.loop-left-test.false)) ∙ rw (plain_rows_lem (N s) s.args.op (C s) (count c.before) (counted c.before).row_count-n.ensures), c.loop-left.invariant.0.small)
 
 pub measure_rows_spec : {M : Type 1} → statement M
 measure_rows_spec =

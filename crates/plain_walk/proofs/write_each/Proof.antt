@@ -41,31 +41,31 @@ O s = used s.args.width s.args.out_offsets.now s.args.out_large.now
 -- ---- places: the start and the first offset put, from the loop; a turn's row written and its bit read, from what comes after
 
 abbrev put : tie.At-loop-left invariant-loop-left decreases-loop-left → tie.After-put_offset invariant-loop-left decreases-loop-left
-put l = l.before.before.before
+put l = l
 
 abbrev begun : tie.After-put_offset-arg-2-1 invariant-loop-left decreases-loop-left → tie.Start invariant-loop-left decreases-loop-left
-begun p = p.before.before.before.before.before.before.before
+begun p = p
 
 abbrev S : tie.At-loop-left invariant-loop-left decreases-loop-left → tie.Start invariant-loop-left decreases-loop-left
-S l = begun (put l).before
+S l = begun (put l)
 
 abbrev written : tie.After-put_offset-arg-in-loop-left-2-1 invariant-loop-left decreases-loop-left → tie.After-put_row-at invariant-loop-left decreases-loop-left
-written p = p.before.before.before.before.before.before.before
+written p = p
 
 abbrev turned : tie.After-out_large-in-loop-left-1 invariant-loop-left decreases-loop-left → tie.After-put_row-at invariant-loop-left decreases-loop-left
 turned p = written p.before.before.before
 
 abbrev looked : tie.After-put_row-at invariant-loop-left decreases-loop-left → tie.After-is_valid-valid invariant-loop-left decreases-loop-left
-looked w = w.before.before.before.before
+looked w = w
 
 abbrev inside : tie.After-is_valid-valid invariant-loop-left decreases-loop-left → tie.In-loop-left invariant-loop-left decreases-loop-left
-inside v = v.before.before.before
+inside v = v
 
 abbrev count : tie.At-loop-left invariant-loop-left decreases-loop-left → ℕ
-count l = (put l).before.before.before.row_count.result
+count l = (put l).row_count-n.result
 
 rows_are : (l : tie.At-loop-left invariant-loop-left decreases-loop-left) → count l ≡ row_count (C (S l)).offsets
-rows_are l = (put l).before.before.before.row_count.ensures
+rows_are l = (put l).row_count-n.ensures
 
 abbrev W : tie.At-loop-left invariant-loop-left decreases-loop-left → ℕ → Row
 W l = let s = S l in plain_at (N s) s.args.op (C s)
@@ -75,24 +75,21 @@ roomy : (l : tie.At-loop-left invariant-loop-left decreases-loop-left) (lo : ℕ
 roomy l lo e = let s = S l in plain-room (N s) s.args.op (C s) (count l) (rows_are l) s.requires.1.1 e
 
 -- row r of a turn can be read
-reads : (q : tie.After-offset_at-b invariant-loop-left decreases-loop-left) → let l = q.before.before.before in ReadableRowˡ (C (S l)).rows (count l) (C (S l)).values (C (S l)).elements l.loop-left.r q.offset_at-a.result q.offset_at-b.result
+reads : (q : tie.After-offset_at-b invariant-loop-left decreases-loop-left) → ReadableRowˡ (C (S q.before.before.before)).rows (count q.before.before.before) (C (S q.before.before.before)).values (C (S q.before.before.before)).elements q.loop-left.r q.offset_at-a.result q.offset_at-b.result
 reads q =
-    let l = q.before.before.before in
-    between (C (S l)) (count l) l.loop-left.r q.offset_at-a.result q.offset_at-b.result (S l).requires.0 (rows_are l) (omega (arith, l.loop-left.invariant.0.rows, q.loop-left-test.true)) q.offset_at-a.ensures.0 q.offset_at-b.ensures.0
+    between (C (S q.before.before.before)) (count q.before.before.before) q.loop-left.r q.offset_at-a.result q.offset_at-b.result (S q.before.before.before).requires.0 (rows_are q.before.before.before) (omega (arith, q.loop-left.invariant.0.rows, q.loop-left-test.true)) q.offset_at-a.ensures.0 q.offset_at-b.ensures.0
 
 -- the row that a turn makes is row r's
 abbrev made : tie.After-is_valid-valid invariant-loop-left decreases-loop-left → Row
 made v =
-    let q = v.before in
-    let s = S (inside v).before in
-    plain_row v.is_valid-valid.result s.args.op (tab (elem_at (C s).values (C s).elements) q.offset_at-a.result (q.offset_at-b.result - q.offset_at-a.result))
+    let s = S (inside v) in
+    plain_row v.is_valid-valid.result s.args.op (tab (elem_at (C s).values (C s).elements) v.offset_at-a.result (v.offset_at-b.result - v.offset_at-a.result))
 
-same_row : (v : tie.After-is_valid-valid invariant-loop-left decreases-loop-left) → let l = (inside v).before in made v ≡ W l l.loop-left.r
+same_row : (v : tie.After-is_valid-valid invariant-loop-left decreases-loop-left) → let l = (inside v) in made v ≡ W l l.loop-left.r
 same_row v =
-    let q = v.before in
-    let l = (inside v).before in
+    let l = (inside v) in
     let s = S l in
-    plain_row_lem (N s) s.args.op (C s) l.loop-left.r q.offset_at-a.result q.offset_at-b.result v.is_valid-valid.result q.offset_at-a.ensures.0 q.offset_at-b.ensures.0 v.is_valid-valid.ensures
+    plain_row_lem (N s) s.args.op (C s) l.loop-left.r v.offset_at-a.result v.offset_at-b.result v.is_valid-valid.result v.offset_at-a.ensures.0 v.offset_at-b.ensures.0 v.is_valid-valid.ensures
 
 row_count-n-requires : tie.Need-row_count-n-requires invariant-loop-left decreases-loop-left
 row_count-n-requires c κs = search
@@ -120,10 +117,8 @@ is_valid-valid-requires c κs = ((reads c).rows, (reads c).there)
 
 put_row-at-requires : tie.Need-put_row-at-requires invariant-loop-left decreases-loop-left
 put_row-at-requires c κs =
-    let v = c.before.before.before in
-    let q = v.before in
-    let l = (inside v).before in
-    (record { inside = omega (arith, (reads q).rises, (reads q).inside); bits = (reads q).elements }, walk_room (W l) (count l) (made v) (inside v).loop-test.true (same_row v) l.loop-left.invariant.0 (roomy l _ (put_keeps (O (S l)) 0 0 (put l).put-offset.ensures)))
+    let l = (inside c.before.before.before) in
+    (record { inside = omega (arith, (reads c.before.before.before.before).rises, (reads c.before.before.before.before).inside); bits = (reads c.before.before.before.before).elements }, walk_room (W l) (count l) (made c.before.before.before) (inside c.before.before.before).loop-left-test.true (same_row c.before.before.before) l.loop-left.invariant.0 (roomy l _ (put_keeps (O (S l)) 0 0 (put l).put_offset.ensures)))
 
 overflow_add-r-in-loop-left : tie.Need-overflow_add-r-in-loop-left invariant-loop-left decreases-loop-left
 overflow_add-r-in-loop-left c = let i = inside (looked (written c)) in omega (arith, i, i.loop-left.invariant.0.rows, i.loop-left-test.true)
@@ -132,13 +127,13 @@ put_offset-requires-in-loop-left : tie.Need-put_offset-requires-in-loop-left inv
 put_offset-requires-in-loop-left c κs =
     let w = written c in
     let v = looked (written c) in
-    let l = (inside v).before in
+    let l = (inside v) in
     let s = S l in
-    let k = walk_small (W l) (count l) (made v) (inside v).loop-test.taken (same_row v) l.loop-left.invariant.0 w.put_row-at.ensures in
-    (walk_slot (W l) (count l) (made v) (inside v).loop-test.taken (same_row v) l.loop-left.invariant.0 (roomy l _ (put_keeps (O (S l)) 0 0 (put l).put-offset.ensures)), omega (arith, s.requires.1.0, rw (plain_rows_lem (N s) s.args.op (C s) (count l) (rows_are l)) at k))
+    let k = walk_small (W l) (count l) (made v) (inside v).loop-left-test.true (same_row v) l.loop-left.invariant.0 w.put_row-at.ensures in
+    (walk_slot (W l) (count l) (made v) (inside v).loop-left-test.true (same_row v) l.loop-left.invariant.0 (roomy l _ (put_keeps (O (S l)) 0 0 (put l).put_offset.ensures)), omega (arith, s.requires.1.0, rw (plain_rows_lem (N s) s.args.op (C s) (count l) (rows_are l)) at k))
 
-overflow_add-r : tie.Need-overflow_add-r invariant-loop-left decreases-loop-left
-overflow_add-r c = let i = inside (looked (turned c)) in omega (arith, i, i.loop-left.invariant.0.rows, i.loop-left-test.true)
+overflow_add-r-in-loop-left-2 : tie.Need-overflow_add-r-in-loop-left-2 invariant-loop-left decreases-loop-left
+overflow_add-r-in-loop-left-2 c = let i = inside (looked (turned c)) in omega (arith, i, i.loop-left.invariant.0.rows, i.loop-left-test.true)
 
 overflow_sub-left : tie.Need-overflow_sub-left invariant-loop-left decreases-loop-left
 overflow_sub-left c = omega (arith, (inside (looked (turned c))).loop-left-test.true)
@@ -150,11 +145,11 @@ loop-left-preserved : tie.Need-loop-left-preserved invariant-loop-left decreases
 loop-left-preserved c =
     let w = turned c in
     let v = looked (turned c) in
-    let l = (inside v).before in
-    (walk_more (W l) (count l) (made v) (inside v).loop-test.taken (same_row v) l.loop-left.invariant.0 w.put_row-at.ensures c.put_offset-in-loop-left.ensures, c.put_offset-in-loop-left.auto.narrow ∙ l.loop-left.invariant.1, c.put_offset-in-loop-left.auto.wide ∙ l.loop-left.invariant.2)
+    let l = (inside v) in
+    (walk_more (W l) (count l) (made v) (inside v).loop-left-test.true (same_row v) l.loop-left.invariant.0 w.put_row-at.ensures c.put_offset-in-loop-left.ensures, c.put_offset-in-loop-left.auto.narrow ∙ l.loop-left.invariant.1, c.put_offset-in-loop-left.auto.wide ∙ l.loop-left.invariant.2)
 
 shape_of-out_offsets : tie.Need-shape_of-out_offsets invariant-loop-left decreases-loop-left
-shape_of-out_offsets c = c.loop-left.invariant.1 ∙ (put c.before).put-offset.kept.1.0
+shape_of-out_offsets c = c.loop-left.invariant.1 ∙ (put c.before).put_offset.kept.1.0
 
 shape_of-out_rows : tie.Need-shape_of-out_rows invariant-loop-left decreases-loop-left
 shape_of-out_rows c = c.loop-left.invariant.0.lr
@@ -166,16 +161,12 @@ shape_of-out_elements : tie.Need-shape_of-out_elements invariant-loop-left decre
 shape_of-out_elements c = c.loop-left.invariant.0.le
 
 shape_of-out_large : tie.Need-shape_of-out_large invariant-loop-left decreases-loop-left
-shape_of-out_large c = c.loop-left.invariant.2 ∙ (put c.before).put-offset.kept.1.1.0
+shape_of-out_large c = c.loop-left.invariant.2 ∙ (put c.before).put_offset.kept.1.1.0
 
 returns : tie.Need-returns invariant-loop-left decreases-loop-left
 returns c =
-    let l = c.before in
-    let s = S l in
-    rw (← plain_rows_lem (N s) s.args.op (C s) (count l) (rows_are l)) (walk_done (W l) (count l) (O s) l.loop-left.invariant.0 (omega (arith, c.loop-left-test.false)) (put l).put-offset.ensures (roomy l _ refl))
-
-overflow_add-r-in-loop-left-2 : tie.Need-overflow_add-r-in-loop-left-2 invariant-loop-left decreases-loop-left
-overflow_add-r-in-loop-left-2 c = search rules
+    let s = S c.before in
+    rw (← plain_rows_lem (N s) s.args.op (C s) (count c.before) (rows_are c.before)) (walk_done (W c.before) (count c.before) (O s) c.loop-left.invariant.0 (omega (arith, c.loop-left-test.false)) (put c.before).put_offset.ensures (roomy c.before _ refl))
 
 pub write_each_spec : {M : Type 1} → statement M
 write_each_spec =

@@ -13,7 +13,7 @@ use Rattle.recipe_bytes.proofs.get_numbers.Tie as tie
 
 module _ (t : tie.After-numbers_taken-n) where
   abbrev S : tie.Start
-  S = t.before.before.before
+  S = t
 
   abbrev n : ℕ
   n = t.numbers_taken-n.result
@@ -33,18 +33,17 @@ overflow_mul-n : tie.Need-overflow_mul-n
 overflow_mul-n c = omega (arith, (some c).1)
 
 slice_bounds-fill_u32-end : tie.Need-slice_bounds-fill_u32-end
-slice_bounds-fill_u32-end c = sym (whole c.before)
+slice_bounds-fill_u32-end c = sym (whole c)
 
 fill_u32-requires : tie.Need-fill_u32-requires
-fill_u32-requires c κs = let t = c.before.before in let e = whole t in omega (arith, e, (some t).1, (S t).requires)
+fill_u32-requires c κs = let e = whole c.before in omega (arith, e, (some c.before).1, (S c.before).requires)
 
 shape_of-ns : tie.Need-shape_of-ns
 shape_of-ns c = search rules
 
 returns : tie.Need-returns
 returns c =
-    let t = c.before.before.before.before.before in
-    fronts (S t).args.numbers.now (n t) t.numbers_taken-n.ensures _ c.fill_u32.ensures
+    fronts (S c.before.before.before.before).args.numbers.now (n c.before.before.before.before) c.numbers_taken-n.ensures _ c.fill_u32.ensures
 
 pub get_numbers_spec : {M : Type 1} → statement M
 get_numbers_spec =

@@ -13,25 +13,25 @@ slice_bounds-get_numbers-end c = search rules
 
 -- the places that are used below
 abbrev get-values-of-sv3 : tie.After-sv-3-1 → tie.After-get_values
-get-values-of-sv3 p = p.before.before.before.before.before.before.before
+get-values-of-sv3 p = p
 
 abbrev get-values-of-la3 : tie.After-la-3-1 → tie.After-get_values
-get-values-of-la3 p = p.before.before.before.before.before.before.before.before
+get-values-of-la3 p = p
 
 abbrev get-list2-of-lv3 : tie.After-lv-3-1 → tie.After-get_list-2
-get-list2-of-lv3 p = p.before.before.before.before.before.before.before.before.before
+get-list2-of-lv3 p = p
 
 abbrev get-list2-of-so3 : tie.After-so-3-1 → tie.After-get_list-2
-get-list2-of-so3 p = p.before.before.before.before.before.before.before.before.before.before
+get-list2-of-so3 p = p
 
 abbrev get-list2-of-sv3 : tie.After-sv-3-1 → tie.After-get_list-2
 get-list2-of-sv3 p = get-list2-of-so3 p.before
 
 abbrev get-list2-of-ns3 : tie.After-ns-3-1 → tie.After-get_list-2
-get-list2-of-ns3 p = p.before.before.before.before.before.before.before
+get-list2-of-ns3 p = p
 
 abbrev get-list-of-get-list2 : tie.After-get_list-2 → tie.After-get_list
-get-list-of-get-list2 p = p.before.before.before.before.before
+get-list-of-get-list2 p = p
 
 abbrev get-list-of-ns3 : tie.After-ns-3-1 → tie.After-get_list
 get-list-of-ns3 p = get-list-of-get-list2 (get-list2-of-ns3 p)
@@ -43,10 +43,10 @@ abbrev get-list-of-lv3 : tie.After-lv-3-1 → tie.After-get_list
 get-list-of-lv3 p = get-list-of-lo3 p.before
 
 abbrev so-of-la2 : tie.After-la-2-1 → tie.After-so-1
-so-of-la2 p = p.before.before.before.before.before.before.before
+so-of-la2 p = p
 
 abbrev get-numbers-of-so : tie.After-so-1 → tie.After-get_numbers
-get-numbers-of-so p = p.before.before.before.before.before.before.before
+get-numbers-of-so p = p
 
 abbrev get-numbers-of-la2 : tie.After-la-2-1 → tie.After-get_numbers
 get-numbers-of-la2 p = get-numbers-of-so (so-of-la2 p)
@@ -55,19 +55,19 @@ abbrev get-numbers-of-ns3 : tie.After-ns-3-1 → tie.After-get_numbers
 get-numbers-of-ns3 p = get-numbers-of-la2 p.before.before
 
 abbrev shared-slice-known9-of-ns : tie.After-ns-1 → tie.After-shared_slice_known-9-1
-shared-slice-known9-of-ns p = p.before.before.before.before.before.before.before.before.before
+shared-slice-known9-of-ns p = p
 
 abbrev start-of-shared-slice-known9 : tie.After-shared_slice_known-9-1 → tie.Start
-start-of-shared-slice-known9 p = p.before.before.before.before.before.before.before.before.before
+start-of-shared-slice-known9 p = p
 
 abbrev start-of-ns : tie.After-ns-1 → tie.Start
 start-of-ns p = start-of-shared-slice-known9 (shared-slice-known9-of-ns p)
 
 abbrev slice-known9-of-slice-known12 : tie.After-slice_known-12-1 → tie.After-slice_known-9-1
-slice-known9-of-slice-known12 p = p.before.before.before.before.before.before.before.before.before
+slice-known9-of-slice-known12 p = p
 
 abbrev run-recipe-of-slice-known9 : tie.After-slice_known-9-1 → tie.After-run_recipe
-run-recipe-of-slice-known9 p = p.before.before.before.before.before.before.before.before.before
+run-recipe-of-slice-known9 p = p
 
 abbrev run-recipe-of-slice-known12 : tie.After-slice_known-12-1 → tie.After-run_recipe
 run-recipe-of-slice-known12 p = run-recipe-of-slice-known9 (slice-known9-of-slice-known12 p)
@@ -100,16 +100,16 @@ abbrev start-of-sv3 : tie.After-sv-3-1 → tie.Start
 start-of-sv3 p = start-of-so3 p.before
 
 abbrev bv2-of-slice-known12 : tie.After-slice_known-12-1 → tie.After-bv-2-1
-bv2-of-slice-known12 p = p.before.before.before.before.before.before.before.before
+bv2-of-slice-known12 p = p
 
 abbrev one-rows-of-bv2 : tie.After-bv-2-1 → tie.After-one_rows-1
-one-rows-of-bv2 p = p.before.before.before.before.before.before.before.before
+one-rows-of-bv2 p = p
 
 abbrev bv-of-one-rows : tie.After-one_rows-1 → tie.After-bv-1
-bv-of-one-rows p = p.before.before.before.before.before.before.before.before
+bv-of-one-rows p = p
 
 abbrev la3-of-bv : tie.After-bv-1 → tie.After-la-3-1
-la3-of-bv p = p.before.before.before.before.before.before.before
+la3-of-bv p = p
 
 abbrev get-values-of-slice-known12 : tie.After-slice_known-12-1 → tie.After-get_values
 get-values-of-slice-known12 p = get-values-of-la3 (la3-of-bv (bv-of-one-rows (one-rows-of-bv2 (bv2-of-slice-known12 p))))
@@ -127,10 +127,10 @@ abbrev start-of-av : tie.After-av-1 → tie.Start
 start-of-av p = start-of-run-recipe-arg p.before
 
 abbrev bo-of-run-recipe : tie.After-run_recipe → tie.After-bo-1
-bo-of-run-recipe p = p.before.before.before.before.before.before.before.before
+bo-of-run-recipe p = p
 
 abbrev lv3-of-bo : tie.After-bo-1 → tie.After-lv-3-1
-lv3-of-bo p = p.before.before.before.before.before.before.before.before
+lv3-of-bo p = p
 
 abbrev get-list2-of-slice-known12 : tie.After-slice_known-12-1 → tie.After-get_list-2
 get-list2-of-slice-known12 p = get-list2-of-lv3 (lv3-of-bo (bo-of-run-recipe (run-recipe-of-slice-known9 (slice-known9-of-slice-known12 p))))
@@ -151,13 +151,13 @@ abbrev start-of-run-recipe-arg4 : tie.After-run_recipe-arg-4-1 → tie.Start
 start-of-run-recipe-arg4 p = start-of-bv p.before
 
 abbrev sv3-of-bv : tie.After-bv-1 → tie.After-sv-3-1
-sv3-of-bv p = p.before.before.before.before.before.before.before.before
+sv3-of-bv p = p
 
 abbrev sv2-of-sv3 : tie.After-sv-3-1 → tie.After-sv-2-1
-sv2-of-sv3 p = p.before.before.before.before.before.before.before.before.before
+sv2-of-sv3 p = p
 
 abbrev get-list-of-sv2 : tie.After-sv-2-1 → tie.After-get_list
-get-list-of-sv2 p = p.before.before.before.before.before.before.before
+get-list-of-sv2 p = p
 
 abbrev get-list-of-slice-known12 : tie.After-slice_known-12-1 → tie.After-get_list
 get-list-of-slice-known12 p = get-list-of-sv2 (sv2-of-sv3 (sv3-of-bv (bv-of-one-rows (one-rows-of-bv2 (bv2-of-slice-known12 p)))))
@@ -172,40 +172,40 @@ abbrev start-of-run-recipe-arg7 : tie.After-run_recipe-arg-7-1 → tie.Start
 start-of-run-recipe-arg7 p = start-of-run-recipe-arg6 p.before
 
 abbrev run-recipe-arg2-of-run-recipe : tie.After-run_recipe → tie.After-run_recipe-arg-2-1
-run-recipe-arg2-of-run-recipe p = p.before.before.before.before.before.before.before.before.before
+run-recipe-arg2-of-run-recipe p = p
 
 abbrev lo3-of-run-recipe-arg2 : tie.After-run_recipe-arg-2-1 → tie.After-lo-3-1
-lo3-of-run-recipe-arg2 p = p.before.before.before.before.before.before.before.before
+lo3-of-run-recipe-arg2 p = p
 
 abbrev sv-of-lo3 : tie.After-lo-3-1 → tie.After-sv-1
-sv-of-lo3 p = p.before.before.before.before.before.before.before.before.before
+sv-of-lo3 p = p
 
 abbrev get-numbers-of-sv : tie.After-sv-1 → tie.After-get_numbers
-get-numbers-of-sv p = p.before.before.before.before.before.before.before.before
+get-numbers-of-sv p = p
 
 abbrev get-numbers-of-slice-known12 : tie.After-slice_known-12-1 → tie.After-get_numbers
 get-numbers-of-slice-known12 p = get-numbers-of-sv (sv-of-lo3 (lo3-of-run-recipe-arg2 (run-recipe-arg2-of-run-recipe (run-recipe-of-slice-known9 (slice-known9-of-slice-known12 p)))))
 
 abbrev ns3-of-run-recipe-arg2 : tie.After-run_recipe-arg-2-1 → tie.After-ns-3-1
-ns3-of-run-recipe-arg2 p = p.before.before.before.before.before.before.before.before.before
+ns3-of-run-recipe-arg2 p = p
 
 abbrev lv2-of-ns3 : tie.After-ns-3-1 → tie.After-lv-2-1
-lv2-of-ns3 p = p.before.before.before.before.before.before.before.before.before.before
+lv2-of-ns3 p = p
 
 abbrev slice-known5-of-lv2 : tie.After-lv-2-1 → tie.After-slice_known-5-1
-slice-known5-of-lv2 p = p.before.before.before.before.before.before.before.before.before
+slice-known5-of-lv2 p = p
 
 abbrev shared-slice-known8-of-slice-known5 : tie.After-slice_known-5-1 → tie.After-shared_slice_known-8-1
-shared-slice-known8-of-slice-known5 p = p.before.before.before.before.before.before.before.before
+shared-slice-known8-of-slice-known5 p = p
 
 abbrev start-of-shared-slice-known8 : tie.After-shared_slice_known-8-1 → tie.Start
-start-of-shared-slice-known8 p = p.before.before.before.before.before.before.before.before
+start-of-shared-slice-known8 p = p
 
 abbrev start-of-slice-known12 : tie.After-slice_known-12-1 → tie.Start
 start-of-slice-known12 p = start-of-shared-slice-known8 (shared-slice-known8-of-slice-known5 (slice-known5-of-lv2 (lv2-of-ns3 (ns3-of-run-recipe-arg2 (run-recipe-arg2-of-run-recipe (run-recipe-of-slice-known9 (slice-known9-of-slice-known12 p)))))))
 
 abbrev numbers-taken-of-lo3 : tie.After-lo-3-1 → tie.After-numbers_taken-nn
-numbers-taken-of-lo3 p = p.before.before
+numbers-taken-of-lo3 p = p
 
 abbrev numbers-taken-of-slice-known12 : tie.After-slice_known-12-1 → tie.After-numbers_taken-nn
 numbers-taken-of-slice-known12 p = numbers-taken-of-lo3 (lo3-of-run-recipe-arg2 (run-recipe-arg2-of-run-recipe (run-recipe-of-slice-known9 (slice-known9-of-slice-known12 p))))
@@ -241,40 +241,40 @@ numbers_taken-nn-requires : tie.Need-numbers_taken-nn-requires
 numbers_taken-nn-requires c κs = tt
 
 slice_bounds-ns-end : tie.Need-slice_bounds-ns-end
-slice_bounds-ns-end c = rw ((get-numbers-of-la2 c.before).get-numbers.auto.1.0, c.numbers_taken-nn.ensures) (taken-few _).1
+slice_bounds-ns-end c = rw ((get-numbers-of-la2 c.before).get_numbers.auto.ns, c.numbers_taken-nn.ensures) (taken-few _).1
 
 slice_bounds-run_recipe-end : tie.Need-slice_bounds-run_recipe-end
-slice_bounds-run_recipe-end c = sym (length-take-le _ _ (rw ((get-numbers-of-ns3 c).get-numbers.auto.1.0, c.numbers_taken-nn.ensures) (taken-few _).1))
+slice_bounds-run_recipe-end c = sym (length-take-le _ _ (rw ((get-numbers-of-ns3 c).get_numbers.auto.ns, c.numbers_taken-nn.ensures) (taken-few _).1))
 
 slice_bounds-lo-end : tie.Need-slice_bounds-lo-end
-slice_bounds-lo-end c = rw (get-list-of-ns3 c).get-list.auto.1.1.0 (start-of-ns3 c).requires.0.list.offsets
+slice_bounds-lo-end c = rw (get-list-of-ns3 c).get_list.auto.o (start-of-ns3 c).requires.0.list.offsets
 
 slice_bounds-run_recipe-end-2 : tie.Need-slice_bounds-run_recipe-end-2
-slice_bounds-run_recipe-end-2 c = sym (length-take-le _ _ (rw (get-list-of-lo3 c).get-list.auto.1.1.0 (start-of-lo3 c).requires.0.list.offsets))
+slice_bounds-run_recipe-end-2 c = sym (length-take-le _ _ (rw (get-list-of-lo3 c).get_list.auto.o (start-of-lo3 c).requires.0.list.offsets))
 
 slice_bounds-lv-end : tie.Need-slice_bounds-lv-end
-slice_bounds-lv-end c = rw (get-list-of-lo3 c).get-list.auto.1.1.1.0 (start-of-lo3 c).requires.0.list.values
+slice_bounds-lv-end c = rw (get-list-of-lo3 c).get_list.auto.v (start-of-lo3 c).requires.0.list.values
 
 slice_bounds-run_recipe-end-3 : tie.Need-slice_bounds-run_recipe-end-3
-slice_bounds-run_recipe-end-3 c = sym (length-take-le _ _ (rw (get-list-of-lv3 c).get-list.auto.1.1.1.0 (start-of-lv3 c).requires.0.list.values))
+slice_bounds-run_recipe-end-3 c = sym (length-take-le _ _ (rw (get-list-of-lv3 c).get_list.auto.v (start-of-lv3 c).requires.0.list.values))
 
 slice_bounds-so-end : tie.Need-slice_bounds-so-end
-slice_bounds-so-end c = rw (get-list2-of-lv3 c).get-list2.auto.1.1.0 (start-of-lv3 c).requires.0.second.offsets
+slice_bounds-so-end c = rw (get-list2-of-lv3 c).get_list-2.auto.o (start-of-lv3 c).requires.0.second.offsets
 
 slice_bounds-run_recipe-end-4 : tie.Need-slice_bounds-run_recipe-end-4
-slice_bounds-run_recipe-end-4 c = sym (length-take-le _ _ (rw (get-list2-of-so3 c).get-list2.auto.1.1.0 (start-of-so3 c).requires.0.second.offsets))
+slice_bounds-run_recipe-end-4 c = sym (length-take-le _ _ (rw (get-list2-of-so3 c).get_list-2.auto.o (start-of-so3 c).requires.0.second.offsets))
 
 slice_bounds-sv-end : tie.Need-slice_bounds-sv-end
-slice_bounds-sv-end c = rw (get-list2-of-so3 c).get-list2.auto.1.1.1.0 (start-of-so3 c).requires.0.second.values
+slice_bounds-sv-end c = rw (get-list2-of-so3 c).get_list-2.auto.v (start-of-so3 c).requires.0.second.values
 
 slice_bounds-run_recipe-end-5 : tie.Need-slice_bounds-run_recipe-end-5
-slice_bounds-run_recipe-end-5 c = sym (length-take-le _ _ (rw (get-list2-of-sv3 c).get-list2.auto.1.1.1.0 (start-of-sv3 c).requires.0.second.values))
+slice_bounds-run_recipe-end-5 c = sym (length-take-le _ _ (rw (get-list2-of-sv3 c).get_list-2.auto.v (start-of-sv3 c).requires.0.second.values))
 
 slice_bounds-la-end : tie.Need-slice_bounds-la-end
-slice_bounds-la-end c = rw (get-values-of-sv3 c).get-values.auto.1.0 (start-of-sv3 c).requires.0.arguments
+slice_bounds-la-end c = rw (get-values-of-sv3 c).get_values.auto.v (start-of-sv3 c).requires.0.arguments
 
 slice_bounds-run_recipe-end-6 : tie.Need-slice_bounds-run_recipe-end-6
-slice_bounds-run_recipe-end-6 c = sym (length-take-le _ _ (rw (get-values-of-la3 c).get-values.auto.1.0 (start-of-la3 c).requires.0.arguments))
+slice_bounds-run_recipe-end-6 c = sym (length-take-le _ _ (rw (get-values-of-la3 c).get_values.auto.v (start-of-la3 c).requires.0.arguments))
 
 slice_bounds-ao-end : tie.Need-slice_bounds-ao-end
 slice_bounds-ao-end c = (start-of-la3 c).requires.1.0.one-offsets
@@ -316,49 +316,49 @@ run_recipe-requires : tie.Need-run_recipe-requires
 run_recipe-requires c κs = search rules
 
 shape_of-one_rows : tie.Need-shape_of-one_rows
-shape_of-one_rows c = (run-recipe-of-slice-known12 c).run-recipe.auto.1.1.1.1.1.1.1.1.1.1.1.1.1.1.1.1.1.1.1.1.0
+shape_of-one_rows c = (run-recipe-of-slice-known12 c).run_recipe.auto.one_rows
 
 shape_of-one_elements : tie.Need-shape_of-one_elements
-shape_of-one_elements c = (run-recipe-of-slice-known12 c).run-recipe.auto.1.1.1.1.1.1.1.1.1.1.1.1.1.1.1.1.1.1.1.1.1.1.0
+shape_of-one_elements c = (run-recipe-of-slice-known12 c).run_recipe.auto.one_elements
 
 shape_of-two_rows : tie.Need-shape_of-two_rows
-shape_of-two_rows c = (run-recipe-of-slice-known12 c).run-recipe.auto.1.1.1.1.1.1.1.1.1.1.1.1.1.1.1.1.1.1.1.1.1.1.1.1.0
+shape_of-two_rows c = (run-recipe-of-slice-known12 c).run_recipe.auto.two_rows
 
 shape_of-two_elements : tie.Need-shape_of-two_elements
-shape_of-two_elements c = (run-recipe-of-slice-known12 c).run-recipe.auto.1.1.1.1.1.1.1.1.1.1.1.1.1.1.1.1.1.1.1.1.1.1.1.1.1.1.0
+shape_of-two_elements c = (run-recipe-of-slice-known12 c).run_recipe.auto.two_elements
 
 shape_of-o : tie.Need-shape_of-o
 shape_of-o c =
-    let k = (run-recipe-of-slice-known12 c).run-recipe in
+    let k = (run-recipe-of-slice-known12 c).run_recipe in
     let s = start-of-slice-known12 c in
     whole k.last.1.1.1.1.1.1.1.1.1.1.1.1.1.1.1.1.1.1.1.1.1.1.1.1.1.1.1.0 s.args.o.now s.args.mo s.requires.1.1.0 k.kept.1.1.1.1.1.1.1.1.1.1.1.1.1.1.1.1.1.1.1.1.1.1.1.1.1.1.1.0
 
 shape_of-out_rows : tie.Need-shape_of-out_rows
-shape_of-out_rows c = (run-recipe-of-slice-known12 c).run-recipe.auto.1.1.1.1.1.1.1.1.1.1.1.1.1.1.1.1.1.1.1.1.1.1.1.1.1.1.1.1.0
+shape_of-out_rows c = (run-recipe-of-slice-known12 c).run_recipe.auto.out_rows
 
 shape_of-v : tie.Need-shape_of-v
 shape_of-v c =
-    let k = (run-recipe-of-slice-known12 c).run-recipe in
+    let k = (run-recipe-of-slice-known12 c).run_recipe in
     let s = start-of-slice-known12 c in
     whole k.last.1.1.1.1.1.1.1.1.1.1.1.1.1.1.1.1.1.1.1.1.1.1.1.1.1.1.1.1.1.0 s.args.v.now s.args.mv s.requires.1.1.1 k.kept.1.1.1.1.1.1.1.1.1.1.1.1.1.1.1.1.1.1.1.1.1.1.1.1.1.1.1.1.1.0
 
 shape_of-out_elements : tie.Need-shape_of-out_elements
-shape_of-out_elements c = (run-recipe-of-slice-known12 c).run-recipe.auto.1.1.1.1.1.1.1.1.1.1.1.1.1.1.1.1.1.1.1.1.1.1.1.1.1.1.1.1.1.1.0
+shape_of-out_elements c = (run-recipe-of-slice-known12 c).run_recipe.auto.out_elements
 
 returns : tie.Need-returns
 returns c =
-    let k = (run-recipe-of-slice-known12 c).run-recipe in
+    let k = (run-recipe-of-slice-known12 c).run_recipe in
     let s = start-of-slice-known12 c in
     let p = s.requires.1.0 in
     let q = s.requires.1.1 in
     let m = k.ensures in
-    let d = (get-list-of-slice-known12 c).get-list.ensures in
-    let b = (get-list2-of-slice-known12 c).get-list2.ensures in
+    let d = (get-list-of-slice-known12 c).get_list.ensures in
+    let b = (get-list2-of-slice-known12 c).get_list-2.ensures in
     let one = same_room _ _ (length-take-le _ _ p.one-offsets) (length-take-le _ _ p.one-values) in
     let two = same_room _ _ (length-take-le _ _ p.two-offsets) (length-take-le _ _ p.two-values) in
     let out = same_room _ _ (length-take-le _ _ q.0) (length-take-le _ _ q.1) in
-    let numbers = cut_at (get-numbers-of-slice-known12 c).get-numbers.new.1.0 (numbers-taken-of-slice-known12 c).numbers-taken.ensures (get-numbers-of-slice-known12 c).get-numbers.ensures in
-    let e = recipe_read s.args.station s.args.columns s.args.numbers.now _ _ _ _ _ numbers d.offsets d.values b.offsets b.values (get-values-of-slice-known12 c).get-values.ensures one two out in (
+    let numbers = cut_at (get-numbers-of-slice-known12 c).get_numbers.new.1.0 (numbers-taken-of-slice-known12 c).numbers_taken-nn.ensures (get-numbers-of-slice-known12 c).get_numbers.ensures in
+    let e = recipe_read s.args.station s.args.columns s.args.numbers.now _ _ _ _ _ numbers d.offsets d.values b.offsets b.values (get-values-of-slice-known12 c).get_values.ensures one two out in (
       list_ran s.args.mo s.args.mv s.args.o.now s.args.v.now m.0 k.kept.1.1.1.1.1.1.1.1.1.1.1.1.1.1.1.1.1.1.1.1.1.1.1.1.1.1.1.0 k.kept.1.1.1.1.1.1.1.1.1.1.1.1.1.1.1.1.1.1.1.1.1.1.1.1.1.1.1.1.1.0 q.0 q.1 e,
       ((m.1.0.rows, m.1.0.elements, m.1.1.0.rows, m.1.1.0.elements), tallied_as _ _ e m.1.1.1),
     )

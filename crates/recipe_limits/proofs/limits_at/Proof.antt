@@ -19,16 +19,16 @@ use Rattle.recipe_limits.proofs.limits_at.Tie as tie
 -- ---- places: the start; what the refusal, the first list's rows and the number of rows came after
 
 abbrev S : tie.After-refusal-k → tie.Start
-S c = let k = c.before.before.before in k.before.before.before.before
+S c = c
 
 abbrev counted : tie.After-largest_offset-most → tie.After-row_count-n
-counted c = c.before
+counted c = c
 
 abbrev first : tie.After-row_count-n → tie.After-measure_rows-came
-first c = c.before.before.before
+first c = c
 
 abbrev unrefused : tie.After-row_count-n → tie.Else-k-ne0
-unrefused c = (first c).before
+unrefused c = (first c)
 
 -- ---- columns
 
@@ -71,10 +71,9 @@ measure_rows-came-requires c κs = (reads c).0
 returns-then-steps-eq0 : tie.Need-returns-then-steps-eq0
 unfolding asked_recipe
 returns-then-steps-eq0 c =
-    let m = c.before in
-    let s = S m.before.before in
+    let s = S c.before.before.before in
     let a = s.args in
-    limits_copy (limits_at a.width) a.numbers.now a.columns (C s) (D s) (A s) (none-refused m.before) _ m.measure_rows-came.ensures.0 m.measure_rows-came.ensures.1 c.if-steps-eq0.true
+    limits_copy (limits_at a.width) a.numbers.now a.columns (C s) (D s) (A s) (none-refused c.before.before) _ c.measure_rows-came.ensures.0 c.measure_rows-came.ensures.1 c.if-steps-eq0.true
 
 measure_rows-second-requires : tie.Need-measure_rows-second-requires
 measure_rows-second-requires c κs = (reads c.before.before).1
@@ -89,18 +88,18 @@ steps_limits-t-requires : tie.Need-steps_limits-t-requires
 steps_limits-t-requires c κs =
     let r = counted c in
     let e = unrefused r in
-    let s = S e.before in
+    let s = S e in
     let a = s.args in
-    (all_steps a.numbers.now a.columns r.row_count-n.result (length a.arguments.now) (passes e).formed ((passes e).many ∙ ap (λ (n : ℕ). a.columns * n) (sym r.row_count-n.ensures)) r.if-steps-eq0.false, (rw r.row_count-n.ensures (reads e).0.rows, (covers e, rw c.largest_offset-most.ensures (first r).measure-rows.ensures.1)))
+    (all_steps a.numbers.now a.columns r.row_count-n.result (length a.arguments.now) (passes e).formed ((passes e).many ∙ ap (λ (n : ℕ). a.columns * n) (sym r.row_count-n.ensures)) r.if-steps-eq0.false, (rw r.row_count-n.ensures (reads e).0.rows, (covers e, rw c.largest_offset-most.ensures (first r).measure_rows-came.ensures.1)))
 
 returns : tie.Need-returns
 unfolding asked_recipe
 returns c =
     let r = counted c.before in
     let e = unrefused r in
-    let s = S e.before in
+    let s = S e in
     let a = s.args in
-    let m = (first r).measure-rows in
+    let m = (first r).measure_rows-came in
     limits_steps (limits_at a.width) a.numbers.now a.columns (C s) (D s) (A s) (none-refused e) _ m.ensures.0 m.ensures.1 r.row_count-n.result _ (limits_in c.steps_limits-t.result) r.row_count-n.ensures r.measure_rows-second.ensures.0 r.if-steps-eq0.false (rw c.largest_offset-most.ensures at c.steps_limits-t.ensures)
 
 pub limits_at_spec : {M : Type 1} → statement M

@@ -11,10 +11,9 @@ row_count-n-requires c κs = search rules
 
 overflow_mul-result : tie.Need-overflow_mul-result
 overflow_mul-result c =
-    let s = c.before in
-    let a = s.args in
-    let h : a.columns * c.row_count-n.result ≤ 8 * c.row_count-n.result = mul-le-mul s.requires (omega arith) in
-    omega (arith, used-below 2305843009213693952 a.width a.offsets.now a.large.now (omega (arith, s.well_formed.0)) (omega (arith, s.well_formed.1.1.1.1.0)), c.row_count-n.ensures)
+    let a = c.args in
+    let h : a.columns * c.row_count-n.result ≤ 8 * c.row_count-n.result = mul-le-mul c.requires (omega arith) in
+    omega (arith, used-below 2305843009213693952 a.width a.offsets.now a.large.now (omega (arith, c.well_formed.0)) (omega (arith, c.well_formed.1.1.1.1.0)), c.row_count-n.ensures)
 
 returns : tie.Need-returns
 returns c = rw c.row_count-n.ensures

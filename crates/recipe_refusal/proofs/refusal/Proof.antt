@@ -29,19 +29,19 @@ A s = arguments s.args.args.now (from s.args.start s.args.bits.now)
 -- ---- places: after 10, after 13, after the lists' 1 and 2, after 2 of the arguments, after the row counts were told
 
 abbrev S₁ : tie.Else-is_malformed → tie.Start
-S₁ e = e.before.before.before.before.before.before.before.before
+S₁ e = e
 
 abbrev S : tie.Else-start-gt7 → tie.Start
 S e = S₁ e.before
 
 abbrev two-of-three : tie.Else-k-ne0 → tie.Else-start-gt7
-two-of-three e = e.before.before
+two-of-three e = e
 
 abbrev two-of-four : tie.Else-is_short → tie.Else-start-gt7
 two-of-four e = two-of-three e.before.before
 
 abbrev four-of-five : tie.Else-row_count → tie.Else-is_short
-four-of-five e = e.before.before.before
+four-of-five e = e
 
 -- ---- what does not apply there
 
@@ -70,7 +70,7 @@ by_length w =
     let l = four-of-five w.before in
     let e = two-of-four l in
     let s = S e in
-    refused-length s.args.numbers.now s.args.columns (C s) (D s) (A s) (formed e.before) (in_byteᵇ e) (whole l.before.before) (long l) (equal w.before) w.is_wrong_length.result w.is_wrong_length.ensures
+    refused-length s.args.numbers.now s.args.columns (C s) (D s) (A s) (formed e) (in_byteᵇ e) (whole l) (long l) (equal w.before) w.is_wrong_length.result w.is_wrong_length.ensures
 
 -- ---- needs
 
@@ -79,8 +79,7 @@ is_malformed-requires c κs = search rules
 
 returns-then-is_malformed : tie.Need-returns-then-is_malformed
 returns-then-is_malformed c =
-    let s = c.before.before.before.before.before.before.before.before in
-    refused_ten s.args.numbers.now s.args.columns (C s) (D s) (A s) (sym c.is_malformed.ensures ∙ c.if-is_malformed.true)
+    refused_ten c.args.numbers.now c.args.columns (C c.before.before.before.before.before.before.before.before) (D c.before.before.before.before.before.before.before.before) (A c.before.before.before.before.before.before.before.before) (sym c.is_malformed.ensures ∙ c.if-is_malformed.true)
 
 returns-then-start-gt7 : tie.Need-returns-then-start-gt7
 returns-then-start-gt7 c =
@@ -92,9 +91,8 @@ lists_refusal-k-requires c κs = search rules
 
 returns-then-k-ne0 : tie.Need-returns-then-k-ne0
 returns-then-k-ne0 c =
-    let e = c.before.before in
-    let s = S e in
-    refused-lists s.args.numbers.now s.args.columns (C s) (D s) (A s) (formed e.before) (in_byteᵇ e) _ c.lists_refusal-k.ensures c.if-k-ne0.true
+    let s = S c.before.before in
+    refused-lists s.args.numbers.now s.args.columns (C s) (D s) (A s) (formed c.before.before.before) (in_byteᵇ c.before.before) _ c.lists_refusal-k.ensures c.if-k-ne0.true
 
 is_short-requires : tie.Need-is_short-requires
 is_short-requires c κs = omega (arith, in_byte (two-of-three c))
@@ -102,10 +100,9 @@ is_short-requires c κs = omega (arith, in_byte (two-of-three c))
 returns-then-is_short : tie.Need-returns-then-is_short
 unfolding refusal2ᵃ
 returns-then-is_short c =
-    let l = c.before.before in
-    let e = two-of-three l in
+    let e = two-of-three c.before.before in
     let s = S e in
-    refused-short s.args.numbers.now s.args.columns (C s) (D s) (A s) (formed e.before) (in_byteᵇ e) (whole l) (sym c.is_short.ensures ∙ c.if-is_short.true)
+    refused-short s.args.numbers.now s.args.columns (C s) (D s) (A s) (formed e) (in_byteᵇ e) (whole c.before.before) (sym c.is_short.ensures ∙ c.if-is_short.true)
 
 row_count-requires : tie.Need-row_count-requires
 row_count-requires c κs = search rules
@@ -115,16 +112,15 @@ row_count-requires-2 c κs = search rules
 
 returns-then-row_count : tie.Need-returns-then-row_count
 returns-then-row_count c =
-    let l = c.before.before.before in
-    let e = two-of-four l in
+    let e = two-of-four c.before.before.before in
     let s = S e in
-    refused-rows s.args.numbers.now s.args.columns (C s) (D s) (A s) (formed e.before) (in_byteᵇ e) (whole l.before.before) (long l) (λ z. c.if-row_count.true (c.row_count.ensures ∙ z ∙ sym c.row_count-2.ensures))
+    refused-rows s.args.numbers.now s.args.columns (C s) (D s) (A s) (formed e) (in_byteᵇ e) (whole c.before.before.before.before.before) (long c.before.before.before) (λ z. c.if-row_count.true (c.row_count.ensures ∙ z ∙ sym c.row_count-2.ensures))
 
 is_wrong_length-requires : tie.Need-is_wrong_length-requires
 is_wrong_length-requires c κs =
     let e = two-of-four (four-of-five c) in
     let a = (S e).args in
-    few_lent a.numbers.now a.columns (formed e.before)
+    few_lent a.numbers.now a.columns (formed e)
 
 returns-then-is_wrong_length : tie.Need-returns-then-is_wrong_length
 returns-then-is_wrong_length c = sym (by_length c.before ∙ rw c.if-is_wrong_length.true)

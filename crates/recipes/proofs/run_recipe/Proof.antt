@@ -19,19 +19,19 @@ use Rattle.recipes.proofs.run_recipe.Tie as tie
 -- ---- places: tray two cleared, tray one cleared, the call, the rows counted, the start
 
 abbrev two : tie.After-settle → tie.After-clear-2
-two c = c.before.before.before.before.before.before.before
+two c = c
 
 abbrev one : tie.After-settle → tie.After-clear
-one c = (two c).before.before.before.before.before.before.before.before.before.before.before
+one c = (two c)
 
 abbrev tried : tie.After-settle → tie.After-attempt-answer
-tried c = (one c).before.before.before.before.before.before.before.before.before.before.before.before.before.before.before.before.before.before.before.before.before.before.before.before.before.before
+tried c = (one c)
 
 abbrev counted : tie.After-settle → tie.After-row_count
-counted c = (tried c).before.before.before.before.before.before.before.before.before.before.before.before.before.before.before.before
+counted c = (tried c)
 
 abbrev S : tie.After-settle → tie.Start
-S c = (counted c).before.before.before.before.before.before.before.before.before.before.before.before.before
+S c = (counted c)
 
 -- ---- columns, and the lengths of the trays and the output
 
@@ -84,40 +84,40 @@ settle-requires : tie.Need-settle-requires
 settle-requires c κs = tt
 
 shape_of-one_offsets : tie.Need-shape_of-one_offsets
-shape_of-one_offsets c = (one c).clear.auto.0 ∙ (tried c).attempt.auto.1.1.1.1.1.1.1.1.1.1.1.1.1.1.1.1.1.1.1.1.0
+shape_of-one_offsets c = (one c).clear.auto.offsets ∙ (tried c).attempt-answer.auto.one_offsets
 
 shape_of-one_rows : tie.Need-shape_of-one_rows
-shape_of-one_rows c = (one c).clear.auto.1.0 ∙ (tried c).attempt.auto.1.1.1.1.1.1.1.1.1.1.1.1.1.1.1.1.1.1.1.1.1.0
+shape_of-one_rows c = (one c).clear.auto.rows ∙ (tried c).attempt-answer.auto.one_rows
 
 shape_of-one_values : tie.Need-shape_of-one_values
-shape_of-one_values c = (one c).clear.auto.1.1.0 ∙ (tried c).attempt.auto.1.1.1.1.1.1.1.1.1.1.1.1.1.1.1.1.1.1.1.1.1.1.0
+shape_of-one_values c = (one c).clear.auto.values ∙ (tried c).attempt-answer.auto.one_values
 
 shape_of-one_elements : tie.Need-shape_of-one_elements
-shape_of-one_elements c = (one c).clear.auto.1.1.1.0 ∙ (tried c).attempt.auto.1.1.1.1.1.1.1.1.1.1.1.1.1.1.1.1.1.1.1.1.1.1.1.0
+shape_of-one_elements c = (one c).clear.auto.elements ∙ (tried c).attempt-answer.auto.one_elements
 
 shape_of-two_offsets : tie.Need-shape_of-two_offsets
-shape_of-two_offsets c = (two c).clear2.auto.0 ∙ (tried c).attempt.auto.1.1.1.1.1.1.1.1.1.1.1.1.1.1.1.1.1.1.1.1.1.1.1.1.0
+shape_of-two_offsets c = (two c).clear-2.auto.offsets ∙ (tried c).attempt-answer.auto.two_offsets
 
 shape_of-two_rows : tie.Need-shape_of-two_rows
-shape_of-two_rows c = (two c).clear2.auto.1.0 ∙ (tried c).attempt.auto.1.1.1.1.1.1.1.1.1.1.1.1.1.1.1.1.1.1.1.1.1.1.1.1.1.0
+shape_of-two_rows c = (two c).clear-2.auto.rows ∙ (tried c).attempt-answer.auto.two_rows
 
 shape_of-two_values : tie.Need-shape_of-two_values
-shape_of-two_values c = (two c).clear2.auto.1.1.0 ∙ (tried c).attempt.auto.1.1.1.1.1.1.1.1.1.1.1.1.1.1.1.1.1.1.1.1.1.1.1.1.1.1.0
+shape_of-two_values c = (two c).clear-2.auto.values ∙ (tried c).attempt-answer.auto.two_values
 
 shape_of-two_elements : tie.Need-shape_of-two_elements
-shape_of-two_elements c = (two c).clear2.auto.1.1.1.0 ∙ (tried c).attempt.auto.1.1.1.1.1.1.1.1.1.1.1.1.1.1.1.1.1.1.1.1.1.1.1.1.1.1.1.0
+shape_of-two_elements c = (two c).clear-2.auto.elements ∙ (tried c).attempt-answer.auto.two_elements
 
 shape_of-out_offsets : tie.Need-shape_of-out_offsets
-shape_of-out_offsets c = (tried c).attempt.auto.1.1.1.1.1.1.1.1.1.1.1.1.1.1.1.1.1.1.1.1.1.1.1.1.1.1.1.1.0
+shape_of-out_offsets c = (tried c).attempt-answer.auto.out_offsets
 
 shape_of-out_rows : tie.Need-shape_of-out_rows
-shape_of-out_rows c = (tried c).attempt.auto.1.1.1.1.1.1.1.1.1.1.1.1.1.1.1.1.1.1.1.1.1.1.1.1.1.1.1.1.1.0
+shape_of-out_rows c = (tried c).attempt-answer.auto.out_rows
 
 shape_of-out_values : tie.Need-shape_of-out_values
-shape_of-out_values c = (tried c).attempt.auto.1.1.1.1.1.1.1.1.1.1.1.1.1.1.1.1.1.1.1.1.1.1.1.1.1.1.1.1.1.1.0
+shape_of-out_values c = (tried c).attempt-answer.auto.out_values
 
 shape_of-out_elements : tie.Need-shape_of-out_elements
-shape_of-out_elements c = (tried c).attempt.auto.1.1.1.1.1.1.1.1.1.1.1.1.1.1.1.1.1.1.1.1.1.1.1.1.1.1.1.1.1.1.1.0
+shape_of-out_elements c = (tried c).attempt-answer.auto.out_elements
 
 returns : tie.Need-returns
 returns c =
@@ -125,17 +125,17 @@ returns c =
       rw (c.settle.ensures.0, ← (whole c)) t.attempt-answer.ensures,
       (
         record {
-          offsets = (one c).clear.ensures.0 ∙ ap (λ (n : ℕ). replicate n (pos 0)) (tried c).attempt.auto.1.1.1.1.1.1.1.1.1.1.1.1.1.1.1.1.1.1.1.1.0;
-          rows = (one c).clear.ensures.1.0 ∙ ap (λ (n : ℕ). replicate n 0) (tried c).attempt.auto.1.1.1.1.1.1.1.1.1.1.1.1.1.1.1.1.1.1.1.1.1.0;
-          values = (one c).clear.ensures.1.1.0 ∙ ap (λ (n : ℕ). replicate n (pos 0)) (tried c).attempt.auto.1.1.1.1.1.1.1.1.1.1.1.1.1.1.1.1.1.1.1.1.1.1.0;
-          elements = (one c).clear.ensures.1.1.1 ∙ ap (λ (n : ℕ). replicate n 0) (tried c).attempt.auto.1.1.1.1.1.1.1.1.1.1.1.1.1.1.1.1.1.1.1.1.1.1.1.0;
+          offsets = (one c).clear.ensures.0 ∙ ap (λ (n : ℕ). replicate n (pos 0)) (tried c).attempt-answer.auto.one_offsets;
+          rows = (one c).clear.ensures.1.0 ∙ ap (λ (n : ℕ). replicate n 0) (tried c).attempt-answer.auto.one_rows;
+          values = (one c).clear.ensures.1.1.0 ∙ ap (λ (n : ℕ). replicate n (pos 0)) (tried c).attempt-answer.auto.one_values;
+          elements = (one c).clear.ensures.1.1.1 ∙ ap (λ (n : ℕ). replicate n 0) (tried c).attempt-answer.auto.one_elements;
         },
         (
           record {
-            offsets = (two c).clear2.ensures.0 ∙ ap (λ (n : ℕ). replicate n (pos 0)) (tried c).attempt.auto.1.1.1.1.1.1.1.1.1.1.1.1.1.1.1.1.1.1.1.1.1.1.1.1.0;
-            rows = (two c).clear2.ensures.1.0 ∙ ap (λ (n : ℕ). replicate n 0) (tried c).attempt.auto.1.1.1.1.1.1.1.1.1.1.1.1.1.1.1.1.1.1.1.1.1.1.1.1.1.0;
-            values = (two c).clear2.ensures.1.1.0 ∙ ap (λ (n : ℕ). replicate n (pos 0)) (tried c).attempt.auto.1.1.1.1.1.1.1.1.1.1.1.1.1.1.1.1.1.1.1.1.1.1.1.1.1.1.0;
-            elements = (two c).clear2.ensures.1.1.1 ∙ ap (λ (n : ℕ). replicate n 0) (tried c).attempt.auto.1.1.1.1.1.1.1.1.1.1.1.1.1.1.1.1.1.1.1.1.1.1.1.1.1.1.1.0;
+            offsets = (two c).clear-2.ensures.0 ∙ ap (λ (n : ℕ). replicate n (pos 0)) (tried c).attempt-answer.auto.two_offsets;
+            rows = (two c).clear-2.ensures.1.0 ∙ ap (λ (n : ℕ). replicate n 0) (tried c).attempt-answer.auto.two_rows;
+            values = (two c).clear-2.ensures.1.1.0 ∙ ap (λ (n : ℕ). replicate n (pos 0)) (tried c).attempt-answer.auto.two_values;
+            elements = (two c).clear-2.ensures.1.1.1 ∙ ap (λ (n : ℕ). replicate n 0) (tried c).attempt-answer.auto.two_elements;
           },
           c.settle.ensures.1 ∙ rw (← (whole c)) (tallied_is _ _ _ _ t.attempt-answer.ensures.answer),
         ),

@@ -28,39 +28,30 @@ overflow_add-m c =
 
 slice_bounds-encode_i32-end : tie.Need-slice_bounds-encode_i32-end
 slice_bounds-encode_i32-end c =
-    let a = c in
-    sym (length-take-le _ _ (counted a.answer-in-Counts-1.given.1 a.requires).0)
+    sym (length-take-le _ _ (counted c.in-Counts.is c.requires).0)
 
 encode_i32-requires : tie.Need-encode_i32-requires
 encode_i32-requires c κs =
-    let a = c.before in
-    let s = a.before.before.before.before.before.before in
-    let k = counted a.answer-in-Counts-1.given.1 s.requires in
-    rw (length-take-le _ _ k.0) (counted-bytes a.answer-in-Counts-1.given.1 s.requires).0
+    let k = counted c.in-Counts.is c.requires in
+    rw (length-take-le _ _ k.0) (counted-bytes c.in-Counts.is c.requires).0
 
 slice_bounds-encode_i32-end-in-Counts : tie.Need-slice_bounds-encode_i32-end-in-Counts
 slice_bounds-encode_i32-end-in-Counts c =
-    let a = c.before.before.before.before.before in
-    sym (length-take-le _ _ (counted a.answer-in-Counts-1.given.1 a.requires).1)
+    sym (length-take-le _ _ (counted c.in-Counts.is c.requires).1)
 
 encode_i32-requires-in-Counts : tie.Need-encode_i32-requires-in-Counts
 encode_i32-requires-in-Counts c κs =
-    let a = c.before.before.before.before.before.before in
-    let s = a.before.before.before.before.before.before in
-    let k = counted a.answer-in-Counts-1.given.1 s.requires in
-    rw (length-take-le _ _ k.1) (counted-bytes a.answer-in-Counts-1.given.1 s.requires).1
+    let k = counted c.in-Counts.is c.requires in
+    rw (length-take-le _ _ k.1) (counted-bytes c.in-Counts.is c.requires).1
 
 slice_bounds-encode_i64-end : tie.Need-slice_bounds-encode_i64-end
 slice_bounds-encode_i64-end c =
-    let a = c.before.before.before.before.before.before.before.before.before.before in
-    sym (length-take-le _ _ (counted a.answer-in-Counts-1.given.1 a.requires).2)
+    sym (length-take-le _ _ (counted c.in-Counts.is c.requires).2)
 
 encode_i64-requires : tie.Need-encode_i64-requires
 encode_i64-requires c κs =
-    let a = c.before.before.before.before.before.before.before.before.before.before.before in
-    let s = a.before.before.before.before.before in
-    let k = counted a.answer-in-Counts-1.given.1 s.requires in
-    rw (length-take-le _ _ k.2) (counted-bytes a.answer-in-Counts-1.given.1 s.requires).2
+    let k = counted c.in-Counts.is c.requires in
+    rw (length-take-le _ _ k.2) (counted-bytes c.in-Counts.is c.requires).2
 
 put_repeat_counts-requires : tie.Need-put_repeat_counts-requires
 put_repeat_counts-requires c κs = search rules
@@ -82,12 +73,7 @@ shape_of-counts c = search rules
 
 returns-in-Counts : tie.Need-returns-in-Counts
 returns-in-Counts c =
-    let n = c.before.before in
-    let v = c.before.before.before.before.before.before in
-    let i = c.before.before.before.before.before.before.before.before.before.before.before in
-    let o = c.before.before.before.before.before.before.before.before.before.before.before.before.before.before.before.before in
-    let a = c.before.before.before.before.before.before.before.before.before.before.before.before.before.before.before.before.before.before in
-    sent_made a.answer-in-Counts-1.given.1 o.encode_i32.ensures i.encode_i32-in-Counts.ensures v.encode_i64.ensures n.put_repeat_counts.ensures
+    sent_made c.in-Counts.is c.encode_i32.ensures c.encode_i32-in-Counts.ensures c.encode_i64.ensures c.put_repeat_counts.ensures
 
 pub put_repeat_spec : {M : Type 1} → statement M
 put_repeat_spec =

@@ -13,7 +13,7 @@ overflow_add-next : tie.Need-overflow_add-next
 overflow_add-next c = search rules
 
 put_offset-requires : tie.Need-put_offset-requires
-put_offset-requires c κs = let s = c.before.before.before.before.before.before.before.before.before in (omega (arith, s.requires.1.1.1.0), s.requires.1.1.0)
+put_offset-requires c κs = (omega (arith, c.requires.1.1.1.0), c.requires.1.1.0)
 
 shape_of-out_offsets : tie.Need-shape_of-out_offsets
 shape_of-out_offsets c = search

@@ -11,7 +11,7 @@ is_valid-requires : tie.Need-is_valid-requires
 is_valid-requires c κs = search
 
 returns-then-not-is_valid : tie.Need-returns-then-not-is_valid
-returns-then-not-is_valid c = times_null _ _ _ (sym c.is_valid.ensures ∙ not-true _ c.if-not-is_valid.true)
+returns-then-not-is_valid c = times_null _ _ _ (sym c.is_valid.ensures ∙ not-true _ c.if-not-is_valid.true-raw)
 
 offset_bounds-counts-r : tie.Need-offset_bounds-counts-r
 offset_bounds-counts-r c = search rules
@@ -23,7 +23,7 @@ limit_of-requires : tie.Need-limit_of-requires
 limit_of-requires c κs = search
 
 returns : tie.Need-returns
-returns c = (rw (back w64 _ c.limit_of-arg-1.given) at c.limit_of.ensures) ∙ times_valid _ _ _ (sym c.is_valid.ensures ∙ not-false _ c.if-not-is_valid.false)
+returns c = (rw (back w64 _ c.limit_of-arg-1.given) at c.limit_of.ensures) ∙ times_valid _ _ _ (sym c.is_valid.ensures ∙ not-false _ c.if-not-is_valid.false-raw)
 
 pub repeat_count_spec : {M : Type 1} → statement M
 repeat_count_spec =

@@ -22,10 +22,10 @@ decreases-loop-left offsets rows rstart counts count-bits cstart width large n l
 -- ---- places: the start, from the loop; the loop, from a row's length
 
 abbrev S : tie.At-loop-left invariant-loop-left decreases-loop-left → tie.Start invariant-loop-left decreases-loop-left
-S l = l.before.before.before.before.before.before
+S l = l
 
 abbrev loop-of : tie.After-row_len-len invariant-loop-left decreases-loop-left → tie.At-loop-left invariant-loop-left decreases-loop-left
-loop-of w = w.before.before.before.before.before.before
+loop-of w = w
 
 -- ---- the limits, the rows, and what is summed of each
 
@@ -57,22 +57,20 @@ U l = let a = (S l).args in repeated_at (used a.width a.offsets.now a.large.now)
 abbrev made : tie.After-row_len-len invariant-loop-left decreases-loop-left → ℕ
 made w = w.repeat_count-times.result * w.row_len-len.result
 
-repeats : (w : tie.After-row_len-len invariant-loop-left decreases-loop-left) → made w ≡ U (loop-of w) (loop-of w).loop.r
-repeats w = repeated_is _ _ _ _ (loop-of w).loop.r _ _ _ _ w.repeat_count-times.ensures w.row_len-len.ensures w.offset_at-a.ensures.0 w.offset_at-b.ensures.0
+repeats : (w : tie.After-row_len-len invariant-loop-left decreases-loop-left) → made w ≡ U (loop-of w) (loop-of w).loop-left.r
+repeats w = repeated_is _ _ _ _ (loop-of w).loop-left.r _ _ _ _ w.repeat_count-times.ensures w.row_len-len.ensures w.offset_at-a.ensures.0 w.offset_at-b.ensures.0
 
 -- it is within the room that is left, so that it does not wrap
-within : (e : tie.Else-is_product_over invariant-loop-left decreases-loop-left) → let w = e.before.before in made w ≤ (L (loop-of w)).repeated - (loop-of w).loop.values
+within : (e : tie.Else-is_product_over invariant-loop-left decreases-loop-left) → made e.before.before ≤ (L (loop-of e.before.before)).repeated - (loop-of e.before.before).loop-left.values
 within e =
-    let w = e.before.before in
-    rw (← most-repeated (loop-of w)) (ltb-false _ (made w) (sym e.is_product_over.ensures ∙ e.if-is_product_over.false))
+    rw (← most-repeated (loop-of e.before.before)) (ltb-false _ (made e.before.before) (sym e.is_product_over.ensures ∙ e.if-is_product_over.false))
 
 -- the sums after one more row
-more : (e : tie.Else-is_product_over invariant-loop-left decreases-loop-left) → let w = e.before.before in let l = loop-of w in
-    Summing (L l) (T l) (U l) (count l) (l.loop-left.lists + w.repeat_count-times.result) (l.loop-left.values + made w) (l.loop-left.r + 1) (l.loop-left.left - 1)
+more : (e : tie.Else-is_product_over invariant-loop-left decreases-loop-left) → let l = loop-of e.before.before in
+    Summing (L l) (T l) (U l) (count l) (l.loop-left.lists + e.repeat_count-times.result) (l.loop-left.values + made e.before.before) (l.loop-left.r + 1) (l.loop-left.left - 1)
 more e =
-    let w = e.before.before in
-    let l = loop-of w in
-    sums-more (L l) (T l) (U l) (count l) l.loop-left.invariant _ w.loop-left-test.true w.repeat_count-times.ensures _ (repeats w) (omega (arith, w.if-list_limit-lists.false, most_are l)) (within e)
+    let l = loop-of e.before.before in
+    sums-more (L l) (T l) (U l) (count l) l.loop-left.invariant _ e.loop-left-test.true e.repeat_count-times.ensures _ (repeats e.before.before) (omega (arith, e.if-list_limit-lists.false, most_are l)) (within e)
 
 row_count-n-requires : tie.Need-row_count-n-requires invariant-loop-left decreases-loop-left
 row_count-n-requires c κs = search
@@ -87,26 +85,26 @@ loop-left-init : tie.Need-loop-left-init invariant-loop-left decreases-loop-left
 loop-left-init c = sums_begun _ _ _ _
 
 repeat_count-times-requires : tie.Need-repeat_count-times-requires invariant-loop-left decreases-loop-left
-repeat_count-times-requires c κs = let l = c.before in (by_count (rows_are l) (S l).requires.1.1.0, ((S l).requires.1.1.1 ∙ sym (rows_are l), omega (arith, l.loop-left.invariant.rows)))
+repeat_count-times-requires c κs = (by_count (rows_are c.before) (S c.before).requires.1.1.0, ((S c.before).requires.1.1.1 ∙ sym (rows_are c.before), omega (arith, c.loop-left.invariant.rows)))
 
 overflow_sub-list_limit : tie.Need-overflow_sub-list_limit invariant-loop-left decreases-loop-left
-overflow_sub-list_limit c = let l = c.before.before in omega (arith, l.loop-left.invariant.few, most_are l)
+overflow_sub-list_limit c = omega (arith, c.loop-left.invariant.few, most_are c.before.before)
 
 returns-then-list_limit-lists : tie.Need-returns-then-list_limit-lists invariant-loop-left decreases-loop-left
 unfolding sums_of
-returns-then-list_limit-lists c = let l = c.before.before.before in rw (← rows_are l) (sums-many (L l) (T l) (U l) (count l) l.loop-left.invariant _ c.loop-left-test.true c.repeat_count-times.ensures (rw (← most_are l) c.if-list_limit-lists.true))
+returns-then-list_limit-lists c = rw (← rows_are c.before.before.before) (sums-many (L c.before.before.before) (T c.before.before.before) (U c.before.before.before) (count c.before.before.before) c.loop-left.invariant _ c.loop-left-test.true c.repeat_count-times.ensures (rw (← most_are c.before.before.before) c.if-list_limit-lists.true))
 
 offset_at-a-requires : tie.Need-offset_at-a-requires invariant-loop-left decreases-loop-left
-offset_at-a-requires c κs = let l = c.before.before.before in omega (arith, l.loop-left.invariant.rows, c.loop-left-test.true, rows_are l)
+offset_at-a-requires c κs = omega (arith, c.loop-left.invariant.rows, c.loop-left-test.true, rows_are c.before.before.before)
 
 overflow_add-r : tie.Need-overflow_add-r invariant-loop-left decreases-loop-left
-overflow_add-r c = let l = c.before.before.before.before in omega (arith, l.loop-left.invariant.rows, c.loop-left-test.true)
+overflow_add-r c = omega (arith, c.loop-left.invariant.rows, c.loop-left-test.true)
 
 offset_at-b-requires : tie.Need-offset_at-b-requires invariant-loop-left decreases-loop-left
-offset_at-b-requires c κs = let l = c.before.before.before.before in omega (arith, l.loop-left.invariant.rows, c.loop-left-test.true, rows_are l)
+offset_at-b-requires c κs = omega (arith, c.loop-left.invariant.rows, c.loop-left-test.true, rows_are c.before.before.before.before)
 
 row_len-len-requires : tie.Need-row_len-len-requires invariant-loop-left decreases-loop-left
-row_len-len-requires c κs = let l = c.before.before.before.before.before in (by_count (rows_are l) (S l).requires.1.0, (omega (arith, l.loop-left.invariant.rows, c.loop-left-test.true), rw (c.offset_at-a.ensures.0, c.offset_at-b.ensures.0) ((S l).requires.0.step l.loop-left.r (omega (arith, l.loop-left.invariant.rows, c.loop-left-test.true, rows_are l)))))
+row_len-len-requires c κs = (by_count (rows_are c.before.before.before.before.before) (S c.before.before.before.before.before).requires.1.0, (omega (arith, c.loop-left.invariant.rows, c.loop-left-test.true), rw (c.offset_at-a.ensures.0, c.offset_at-b.ensures.0) ((S c.before.before.before.before.before).requires.0.step c.loop-left.r (omega (arith, c.loop-left.invariant.rows, c.loop-left-test.true, rows_are c.before.before.before.before.before)))))
 
 overflow_sub-room : tie.Need-overflow_sub-room invariant-loop-left decreases-loop-left
 overflow_sub-room c = let l = loop-of c in omega (arith, l.loop-left.invariant.small, most-repeated l)
@@ -117,9 +115,8 @@ is_product_over-requires c κs = search
 returns-then-is_product_over : tie.Need-returns-then-is_product_over invariant-loop-left decreases-loop-left
 unfolding sums_of
 returns-then-is_product_over c =
-    let w = c.before.before in
-    let l = loop-of w in
-    rw (← rows_are l) (sums_large (L l) (T l) (U l) (count l) l.loop-left.invariant _ w.loop-left-test.true w.repeat_count-times.ensures _ (repeats w) (rw (← most-repeated l) (ltb-true _ (made w) (sym c.is_product_over.ensures ∙ c.if-is_product_over.true))))
+    let l = loop-of c.before.before in
+    rw (← rows_are l) (sums_large (L l) (T l) (U l) (count l) l.loop-left.invariant _ c.loop-left-test.true c.repeat_count-times.ensures _ (repeats c.before.before) (rw (← most-repeated l) (ltb-true _ (made c.before.before) (sym c.is_product_over.ensures ∙ c.if-is_product_over.true))))
 
 overflow_mul-repeated : tie.Need-overflow_mul-repeated invariant-loop-left decreases-loop-left
 overflow_mul-repeated c = let l = loop-of c.before.before in record { fits = omega (arith, within c, (fit l).offset, (fit l).repeated) }
@@ -130,8 +127,8 @@ overflow_add-lists c = let l = loop-of c.before.before in omega (arith, (more c)
 overflow_add-values : tie.Need-overflow_add-values invariant-loop-left decreases-loop-left
 overflow_add-values c = let l = loop-of c.before.before in omega (arith, (more c).small, (fit l).offset, (fit l).repeated)
 
-overflow_add-r : tie.Need-overflow_add-r invariant-loop-left decreases-loop-left
-overflow_add-r c = omega (arith, (more c).rows, (loop-of c.before.before).loop.inv.rows)
+overflow_add-r-in-loop-left : tie.Need-overflow_add-r-in-loop-left invariant-loop-left decreases-loop-left
+overflow_add-r-in-loop-left c = omega (arith, (more c).rows, (loop-of c.before.before).loop-left.invariant.rows)
 
 overflow_sub-left : tie.Need-overflow_sub-left invariant-loop-left decreases-loop-left
 overflow_sub-left c = omega (arith, c.loop-left-test.true)
@@ -144,10 +141,7 @@ loop-left-preserved c = more c
 
 returns : tie.Need-returns invariant-loop-left decreases-loop-left
 unfolding sums_of
-returns c = let l = c.before in rw (← rows_are l) (sums_done (L l) (T l) (U l) (count l) l.loop-left.invariant c.loop-left-test.false)
-
-overflow_add-r-in-loop-left : tie.Need-overflow_add-r-in-loop-left invariant-loop-left decreases-loop-left
-overflow_add-r-in-loop-left c = search rules
+returns c = rw (← rows_are c.before) (sums_done (L c.before) (T c.before) (U c.before) (count c.before) c.loop-left.invariant c.loop-left-test.false)
 
 pub sum_repeats_spec : {M : Type 1} → statement M
 sum_repeats_spec =

@@ -24,14 +24,14 @@ A s = let a = s.args in arguments a.counts.now (from a.cstart a.count_bits.now)
 -- ---- places: the list tested, the counts' bits tested; and the start
 
 abbrev S : tie.After-list_refusal-k → tie.Start
-S f = f.before.before.before.before.before
+S f = f
 
 abbrev list_of : tie.Else-is_short → tie.After-list_refusal-k
-list_of e = e.before.before.before
+list_of e = e
 
 -- the counts' starting bit is not over 7
 in_byte : (f : tie.After-list_refusal-k) → (S f).args.cstart ≤ 7
-in_byte f = omega (arith, f.before)
+in_byte f = omega (arith, f)
 
 in_byteᵇ : (f : tie.After-list_refusal-k) → ltb 7 (S f).args.cstart ≡ false
 in_byteᵇ f = le-ltb 7 (S f).args.cstart (in_byte f)
@@ -48,26 +48,23 @@ counted e = e.if-counts-row_count.false ∙ e.row_count.ensures
 
 returns-then-cstart-gt7 : tie.Need-returns-then-cstart-gt7
 returns-then-cstart-gt7 c =
-    let s = c.before.before.before.before in
-    (early_starts (C s) (A s) (lt-ltb 7 s.args.cstart (omega arith)), λ h. let n : ⊥ = omega (arith, h) in absurd n)
+    (early_starts (C c.before.before.before.before) (A c.before.before.before.before) (lt-ltb 7 c.args.cstart (omega arith)), λ h. let n : ⊥ = omega (arith, h) in absurd n)
 
 list_refusal-k-requires : tie.Need-list_refusal-k-requires
 list_refusal-k-requires c κs = search
 
 returns-then-k-ne0 : tie.Need-returns-then-k-ne0
 returns-then-k-ne0 c =
-    let f = c.before in
-    let s = S f in
-    (early_list (C s) (A s) (in_byteᵇ f) _ f.list_refusal-k.ensures c.if-k-ne0.true, λ h. absurd (c.if-k-ne0.true h))
+    let s = S c.before in
+    (early_list (C s) (A s) (in_byteᵇ c.before) _ c.list_refusal-k.ensures c.if-k-ne0.true, λ h. absurd (c.if-k-ne0.true h))
 
 is_short-requires : tie.Need-is_short-requires
 is_short-requires c κs = omega (arith, in_byte c.before)
 
 returns-then-is_short : tie.Need-returns-then-is_short
 returns-then-is_short c =
-    let f = c.before.before.before in
-    let s = S f in (
-      early_two (C s) (A s) (in_byteᵇ f) _ f.list_refusal-k.ensures c.if-k-ne0.false (sym c.is_short.ensures ∙ c.if-is_short.true),
+    let s = S c.before.before.before in (
+      early_two (C s) (A s) (in_byteᵇ c.before.before.before) _ c.list_refusal-k.ensures c.if-k-ne0.false (sym c.is_short.ensures ∙ c.if-is_short.true),
       λ h. let n : ⊥ = omega (arith, h) in absurd n,
     )
 
@@ -76,22 +73,20 @@ row_count-requires c κs = search
 
 returns-then-counts-row_count : tie.Need-returns-then-counts-row_count
 returns-then-counts-row_count c =
-    let e = c.before.before in
-    let f = list_of e in
+    let f = list_of c.before.before in
     let s = S f in (
-      early_three (C s) (A s) (in_byteᵇ f) _ f.list_refusal-k.ensures e.if-k-ne0.false (long e) (λ z. c.if-counts-row_count.true (z ∙ sym c.row_count.ensures)),
+      early_three (C s) (A s) (in_byteᵇ f) _ f.list_refusal-k.ensures c.if-k-ne0.false (long c.before.before) (λ z. c.if-counts-row_count.true (z ∙ sym c.row_count.ensures)),
       λ h. let n : ⊥ = omega (arith, h) in absurd n,
     )
 
 returns : tie.Need-returns
 returns c =
-    let e = c.before.before in
-    let f = list_of e in
+    let f = list_of c.before.before in
     let s = S f in (
-      early_none (C s) (A s) (in_byteᵇ f) _ f.list_refusal-k.ensures e.if-k-ne0.false (long e) (counted c),
+      early_none (C s) (A s) (in_byteᵇ f) _ f.list_refusal-k.ensures c.if-k-ne0.false (long c.before.before) (counted c),
       λ h. record {
-        list = readable (C s) (sym f.list_refusal-k.ensures ∙ e.if-k-ne0.false);
-        bits = by_count (sym (counted c)) (record { small = omega (arith, in_byte f); long = long e });
+        list = readable (C s) (sym f.list_refusal-k.ensures ∙ c.if-k-ne0.false);
+        bits = by_count (sym (counted c)) (record { small = omega (arith, in_byte f); long = long c.before.before });
         equal = counted c;
       },
     )

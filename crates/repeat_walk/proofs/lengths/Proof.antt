@@ -24,7 +24,7 @@ abbrev A : tie.Start → Arguments
 A s = let a = s.args in arguments a.counts.now (from a.cstart a.count_bits.now)
 
 abbrev S : tie.After-early-k → tie.Start
-S e = e.before.before.before.before
+S e = e
 
 -- the early refusals have passed
 begun : (e : tie.Else-k-ne0) → let s = S e.before in Begun (C s) (A s)
@@ -51,9 +51,8 @@ row_count-requires c κs = search
 
 lengths_for-requires : tie.Need-lengths_for-requires
 lengths_for-requires c κs =
-    let f = c.before in
-    let s = S f.before.before.before in
-    let m = sums_are (M s) (C s) (A s) _ _ (sym f.in-Of.is ∙ f.sum_repeats.ensures) in
+    let s = S c.before.before.before.before in
+    let m = sums_are (M s) (C s) (A s) _ _ (sym c.in-Of.is ∙ c.sum_repeats.ensures) in
     let a = s.args in
     let n = used-below 18446744073709551616 a.width a.offsets.now a.large.now (omega (arith, s.good.0)) (omega (arith, s.good.1.1.1.1.1.1.1.1.1.1.0)) in
     (omega (arith, n, c.row_count.ensures), omega (arith, m.2, (limits-fit s.args.width).outer, (limits-fit s.args.width).offset))
@@ -61,17 +60,14 @@ lengths_for-requires c κs =
 returns-in-TooMany : tie.Need-returns-in-TooMany
 unfolding asked_repeat
 returns-in-TooMany c =
-    let e = c.before.before in
-    let s = S e.before in
-    lengths_eight (M s) (C s) (A s) _ e.early-k.ensures.0 e.if-k-ne0.false (begun e).equal (sym c.in-TooMany.is ∙ c.sum_repeats.ensures)
+    let s = S c.before.before.before in
+    lengths_eight (M s) (C s) (A s) _ c.early-k.ensures.0 c.if-k-ne0.false (begun c.before.before).equal (sym c.in-TooMany.is ∙ c.sum_repeats.ensures)
 
 returns-in-Of : tie.Need-returns-in-Of
 returns-in-Of c =
-    let f = c.before.before in
-    let e = f.before.before in
-    let s = S e.before in
+    let s = S c.before.before.before.before.before in
     c.lengths_for.ensures
-    ∙ lengths-made (M s) (C s) (A s) _ e.early-k.ensures.0 e.if-k-ne0.false (begun e).equal _ _ (sym f.in-Of.is ∙ f.sum_repeats.ensures) _ c.row_count.ensures
+    ∙ lengths-made (M s) (C s) (A s) _ c.early-k.ensures.0 c.if-k-ne0.false (begun c.before.before.before.before).equal _ _ (sym c.in-Of.is ∙ c.sum_repeats.ensures) _ c.row_count.ensures
 
 pub lengths_spec : {M : Type 1} → statement M
 lengths_spec =

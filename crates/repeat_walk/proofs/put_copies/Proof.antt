@@ -42,25 +42,25 @@ W s = row_from (B s) (E s) s.args.r s.args.a s.args.b
 
 -- the places that are used below
 abbrev start-of-is-valid : tie.After-is_valid-valid invariant-loop-left decreases-loop-left → tie.Start invariant-loop-left decreases-loop-left
-start-of-is-valid p = p.before.before.before.before.before
+start-of-is-valid p = p
 
 abbrev push-bit-of-inner-large : tie.After-inner_large-1 invariant-loop-left decreases-loop-left → tie.After-push_bit invariant-loop-left decreases-loop-left
-push-bit-of-inner-large p = p.before.before.before.before.before.before.before
+push-bit-of-inner-large p = p
 
 abbrev start-of-row-len : tie.After-row_len-len invariant-loop-left decreases-loop-left → tie.Start invariant-loop-left decreases-loop-left
-start-of-row-len p = p.before.before.before.before.before.before
+start-of-row-len p = p
 
 abbrev start-of-loop : tie.At-loop-left invariant-loop-left decreases-loop-left → tie.Start invariant-loop-left decreases-loop-left
-start-of-loop p = p.before.before.before.before.before.before.before
+start-of-loop p = p
 
 abbrev in-loop-of-push-bit-arg : tie.After-push_bit-arg-1 invariant-loop-left decreases-loop-left → tie.In-loop-left invariant-loop-left decreases-loop-left
-in-loop-of-push-bit-arg p = p.before.before.before.before.before.before.before
+in-loop-of-push-bit-arg p = p
 
 abbrev loop-of-push-bit-arg : tie.After-push_bit-arg-1 invariant-loop-left decreases-loop-left → tie.At-loop-left invariant-loop-left decreases-loop-left
-loop-of-push-bit-arg p = p.before.before.before.before.before.before.before.before
+loop-of-push-bit-arg p = p
 
 abbrev write-forward-of-put-offset-arg2 : tie.After-put_offset-arg-in-loop-left-1 invariant-loop-left decreases-loop-left → tie.After-write_forward-at invariant-loop-left decreases-loop-left
-write-forward-of-put-offset-arg2 p = p.before.before.before.before.before.before.before.before.before
+write-forward-of-put-offset-arg2 p = p
 
 abbrev write-forward-of-inner-large : tie.After-inner_large-1 invariant-loop-left decreases-loop-left → tie.After-write_forward-at invariant-loop-left decreases-loop-left
 write-forward-of-inner-large p = write-forward-of-put-offset-arg2 p.before.before.before
@@ -91,7 +91,7 @@ on : (l : tie.At-loop-left invariant-loop-left decreases-loop-left) → is_row (
 on l = let s = S l in is_row-from (B s) s.args.r s.args.a s.args.b (E s) ∙ sym l.is_valid-valid.ensures
 
 is_valid-valid-requires : tie.Need-is_valid-valid-requires invariant-loop-left decreases-loop-left
-is_valid-valid-requires c κs = let s = c.before.before.before.before in (s.requires.0.rows, s.requires.0.there)
+is_valid-valid-requires c κs = (c.requires.0.rows, c.requires.0.there)
 
 row_len-len-requires : tie.Need-row_len-len-requires invariant-loop-left decreases-loop-left
 row_len-len-requires c κs = let s = start-of-is-valid c in (s.requires.0.rows, (s.requires.0.there, s.requires.0.rises))
@@ -101,34 +101,33 @@ loop-left-init c = let s = start-of-row-len c in (copy_begun _ _ _ _ _ s.require
 
 write_forward-at-requires : tie.Need-write_forward-at-requires invariant-loop-left decreases-loop-left
 write_forward-at-requires c κs =
-    let l = c.before.before.before in
-    let s = S l in
+    let s = S c.before.before.before in
     let n = len_from_le (B s) s.args.r s.args.a s.args.b s.requires.0.rises in
-    (record { inside = omega (arith, s.requires.0.inside, l.row_len-len.ensures); bits = s.requires.0.elements }, copy_place (M (S l)) (W (S l)) (S l).args.first (S l).args.place (S l).args.times (made l) c.loop-left-test.true (elems l) l.loop-left.invariant.0)
+    (record { inside = omega (arith, s.requires.0.inside, c.row_len-len.ensures); bits = s.requires.0.elements }, copy_place (M (S c.before.before.before)) (W (S c.before.before.before)) (S c.before.before.before).args.first (S c.before.before.before).args.place (S c.before.before.before).args.times (made c.before.before.before) c.loop-left-test.true (elems c.before.before.before) c.loop-left.invariant.0)
 
 push_bit-requires : tie.Need-push_bit-requires invariant-loop-left decreases-loop-left
-push_bit-requires c κs = let l = loop-of-push-bit-arg c in copy_bit (M (S l)) (W (S l)) (S l).args.first (S l).args.place (S l).args.times (made l) (in-loop-of-push-bit-arg c).loop-test.true (elems l) l.loop-left.invariant.0
+push_bit-requires c κs = let l = loop-of-push-bit-arg c in copy_bit (M (S l)) (W (S l)) (S l).args.first (S l).args.place (S l).args.times (made l) (in-loop-of-push-bit-arg c).loop-left-test.true (elems l) l.loop-left.invariant.0
 
 overflow_add-i : tie.Need-overflow_add-i invariant-loop-left decreases-loop-left
-overflow_add-i c = let l = loop-of-put-offset-arg2 c in omega (arith, (in-loop-of-put-offset-arg2 c).loop-test.true, copy_few (M (S l)) (W (S l)) (S l).args.first (S l).args.place (S l).args.times (made l) (in-loop-of-put-offset-arg2 c).loop-test.true (elems l) l.loop-left.invariant.0, (fit (S l)).outer, (fit (S l)).offset)
+overflow_add-i c = let l = loop-of-put-offset-arg2 c in omega (arith, (in-loop-of-put-offset-arg2 c).loop-left-test.true, copy_few (M (S l)) (W (S l)) (S l).args.first (S l).args.place (S l).args.times (made l) (in-loop-of-put-offset-arg2 c).loop-left-test.true (elems l) l.loop-left.invariant.0, (fit (S l)).outer, (fit (S l)).offset)
 
 put_offset-requires : tie.Need-put_offset-requires invariant-loop-left decreases-loop-left
-put_offset-requires c κs = let l = loop-of-put-offset-arg2 c in (copy_slot (M (S l)) (W (S l)) (S l).args.first (S l).args.place (S l).args.times (made l) (in-loop-of-put-offset-arg2 c).loop-test.true (elems l) l.loop-left.invariant.0, copy_small (M (S l)) (W (S l)) (S l).args.first (S l).args.place (S l).args.times (made l) (in-loop-of-put-offset-arg2 c).loop-test.true (elems l) l.loop-left.invariant.0 (write-forward-of-put-offset-arg2 c).write-forward.ensures)
+put_offset-requires c κs = let l = loop-of-put-offset-arg2 c in (copy_slot (M (S l)) (W (S l)) (S l).args.first (S l).args.place (S l).args.times (made l) (in-loop-of-put-offset-arg2 c).loop-left-test.true (elems l) l.loop-left.invariant.0, copy_small (M (S l)) (W (S l)) (S l).args.first (S l).args.place (S l).args.times (made l) (in-loop-of-put-offset-arg2 c).loop-left-test.true (elems l) l.loop-left.invariant.0 (write-forward-of-put-offset-arg2 c).write_forward-at.ensures)
 
-overflow_add-i : tie.Need-overflow_add-i invariant-loop-left decreases-loop-left
-overflow_add-i c = let l = loop-of-inner-large c in omega (arith, (in-loop-of-inner-large c).loop-test.true, copy_few (M (S l)) (W (S l)) (S l).args.first (S l).args.place (S l).args.times (made l) (in-loop-of-inner-large c).loop-test.true (elems l) l.loop-left.invariant.0, (fit (S l)).outer, (fit (S l)).offset)
+overflow_add-i-in-loop-left : tie.Need-overflow_add-i-in-loop-left invariant-loop-left decreases-loop-left
+overflow_add-i-in-loop-left c = let l = loop-of-inner-large c in omega (arith, (in-loop-of-inner-large c).loop-left-test.true, copy_few (M (S l)) (W (S l)) (S l).args.first (S l).args.place (S l).args.times (made l) (in-loop-of-inner-large c).loop-left-test.true (elems l) l.loop-left.invariant.0, (fit (S l)).outer, (fit (S l)).offset)
 
 overflow_sub-left : tie.Need-overflow_sub-left invariant-loop-left decreases-loop-left
-overflow_sub-left c = omega (arith, (in-loop-of-inner-large c).loop-test.true)
+overflow_sub-left c = omega (arith, (in-loop-of-inner-large c).loop-left-test.true)
 
 loop-left-smaller : tie.Need-loop-left-smaller invariant-loop-left decreases-loop-left
-loop-left-smaller c = omega (arith, (in-loop-of-inner-large c).loop-test.true)
+loop-left-smaller c = omega (arith, (in-loop-of-inner-large c).loop-left-test.true)
 
 loop-left-preserved : tie.Need-loop-left-preserved invariant-loop-left decreases-loop-left
 loop-left-preserved c =
     let l = loop-of-inner-large c in
     let w = c.put_offset in
-    (copy_more (M (S l)) (W (S l)) (S l).args.first (S l).args.place (S l).args.times (made l) (in-loop-of-inner-large c).loop-test.true (elems l) l.loop-left.invariant.0 (write-forward-of-inner-large c).write-forward.ensures _ (on l) (push-bit-of-inner-large c).push-bit.ensures w.ensures, w.auto.narrow ∙ l.loop-left.invariant.1, w.auto.wide ∙ l.loop-left.invariant.2)
+    (copy_more (M (S l)) (W (S l)) (S l).args.first (S l).args.place (S l).args.times (made l) (in-loop-of-inner-large c).loop-left-test.true (elems l) l.loop-left.invariant.0 (write-forward-of-inner-large c).write_forward-at.ensures _ (on l) (push-bit-of-inner-large c).push_bit.ensures w.ensures, w.auto.narrow ∙ l.loop-left.invariant.1, w.auto.wide ∙ l.loop-left.invariant.2)
 
 shape_of-inner_offsets : tie.Need-shape_of-inner_offsets invariant-loop-left decreases-loop-left
 shape_of-inner_offsets c = c.loop-left.invariant.1
@@ -146,10 +145,7 @@ shape_of-inner_large : tie.Need-shape_of-inner_large invariant-loop-left decreas
 shape_of-inner_large c = c.loop-left.invariant.2
 
 returns : tie.Need-returns invariant-loop-left decreases-loop-left
-returns c = let l = c.before in copy_done (M (S l)) (W (S l)) (S l).args.first (S l).args.place (S l).args.times l.loop-left.invariant.0 c.loop-left-test.false
-
-overflow_add-i-in-loop-left : tie.Need-overflow_add-i-in-loop-left invariant-loop-left decreases-loop-left
-overflow_add-i-in-loop-left c = search rules
+returns c = copy_done (M (S c.before)) (W (S c.before)) (S c.before).args.first (S c.before).args.place (S c.before).args.times c.loop-left.invariant.0 c.loop-left-test.false
 
 pub put_copies_spec : {M : Type 1} → statement M
 put_copies_spec =

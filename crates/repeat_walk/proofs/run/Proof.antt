@@ -29,16 +29,16 @@ R s = let a = s.args in repeat_room (length (used a.width a.out_offsets.now a.ou
 -- ---- places: what is filled, the sums told and taken, the early refusals passed and found; and the start
 
 abbrev filled : tie.After-inner_large-1 → tie.After-fill
-filled c = c.before.before.before.before.before.before.before.before.before.before.before
+filled c = c
 
 abbrev told : tie.After-fill-arg-in-Of-7-1 → tie.In-Of-2
-told c = c.before.before.before.before.before.before.before.before
+told c = c
 
 abbrev summed : tie.In-Of-2 → tie.After-sum_repeats
-summed f = f.before
+summed f = f
 
 abbrev S : tie.After-early-k → tie.Start
-S e = e.before.before.before.before.before.before.before
+S e = e
 
 -- the early refusals have passed
 begun : (e : tie.Else-k-ne0) → let s = S e.before in Begun (C s) (A s)
@@ -64,48 +64,47 @@ enum_known-lists c = search
 fill-requires : tie.Need-fill-requires
 fill-requires c κs =
     let f = told c in
-    let e = (summed f).before in
-    let s = S e.before in
+    let e = (summed f) in
+    let s = S e in
     let b = begun e in
-    let m = sums_are (M s) (C s) (A s) _ _ (sym f.in-Of.is ∙ (summed f).sum-repeats.ensures) in
+    let m = sums_are (M s) (C s) (A s) _ _ (sym f.in-Of.is ∙ (summed f).sum_repeats.ensures) in
     (b.list, (b.bits, (b.equal, (m.0, (m.1, (m.2, m.3))))))
 
 returns-in-TooMany : tie.Need-returns-in-TooMany
 returns-in-TooMany c =
-    let e = c.before.before in
-    let s = S e.before in
-    repeat_refused 8 (run_eight (M s) (C s) (A s) _ e.early-k.ensures.0 e.if-k-ne0.false (begun e).equal (sym c.in-TooMany.is ∙ c.sum_repeats.ensures) (R s))
+    let s = S c.before.before.before in
+    repeat_refused 8 (run_eight (M s) (C s) (A s) _ c.early-k.ensures.0 c.if-k-ne0.false (begun c.before.before).equal (sym c.in-TooMany.is ∙ c.sum_repeats.ensures) (R s))
 
 shape_of-out_offsets : tie.Need-shape_of-out_offsets
-shape_of-out_offsets c = (filled c).fill.auto.1.1.1.1.1.1.1.1.1.1.1.0
+shape_of-out_offsets c = (filled c).fill.auto.out_offsets
 
 shape_of-out_rows : tie.Need-shape_of-out_rows
-shape_of-out_rows c = (filled c).fill.auto.1.1.1.1.1.1.1.1.1.1.1.1.0
+shape_of-out_rows c = (filled c).fill.auto.out_rows
 
 shape_of-inner_offsets : tie.Need-shape_of-inner_offsets
-shape_of-inner_offsets c = (filled c).fill.auto.1.1.1.1.1.1.1.1.1.1.1.1.1.0
+shape_of-inner_offsets c = (filled c).fill.auto.inner_offsets
 
 shape_of-inner_rows : tie.Need-shape_of-inner_rows
-shape_of-inner_rows c = (filled c).fill.auto.1.1.1.1.1.1.1.1.1.1.1.1.1.1.0
+shape_of-inner_rows c = (filled c).fill.auto.inner_rows
 
 shape_of-out_values : tie.Need-shape_of-out_values
-shape_of-out_values c = (filled c).fill.auto.1.1.1.1.1.1.1.1.1.1.1.1.1.1.1.0
+shape_of-out_values c = (filled c).fill.auto.out_values
 
 shape_of-out_elements : tie.Need-shape_of-out_elements
-shape_of-out_elements c = (filled c).fill.auto.1.1.1.1.1.1.1.1.1.1.1.1.1.1.1.1.0
+shape_of-out_elements c = (filled c).fill.auto.out_elements
 
 shape_of-out_large : tie.Need-shape_of-out_large
-shape_of-out_large c = (filled c).fill.auto.1.1.1.1.1.1.1.1.1.1.1.1.1.1.1.1.1.1.1.0
+shape_of-out_large c = (filled c).fill.auto.out_large
 
 shape_of-inner_large : tie.Need-shape_of-inner_large
-shape_of-inner_large c = (filled c).fill.auto.1.1.1.1.1.1.1.1.1.1.1.1.1.1.1.1.1.1.1.1.0
+shape_of-inner_large c = (filled c).fill.auto.inner_large
 
 returns-in-Of : tie.Need-returns-in-Of
 returns-in-Of c =
-    let f = told (filled c).before in
-    let e = (summed f).before in
-    let s = S e.before in
-    rw (run_fits (M s) (C s) (A s) _ e.early-k.ensures.0 e.if-k-ne0.false (begun e).equal _ _ (sym f.in-Of.is ∙ (summed f).sum-repeats.ensures) (R s)) (filled c).fill.ensures
+    let f = told (filled c) in
+    let e = (summed f) in
+    let s = S e in
+    rw (run_fits (M s) (C s) (A s) _ e.early-k.ensures.0 e.if-k-ne0.false (begun e).equal _ _ (sym f.in-Of.is ∙ (summed f).sum_repeats.ensures) (R s)) (filled c).fill.ensures
 
 pub run_spec : {M : Type 1} → statement M
 run_spec =

@@ -52,47 +52,47 @@ IO s = let a = s.args in used a.width a.inner_offsets.now a.inner_large.now
 -- ---- places: the first inner offset put, the first outer one, and the start, from the loop
 
 abbrev inner₀ : tie.At-loop-left invariant-loop-left decreases-loop-left → tie.After-put_offset-2 invariant-loop-left decreases-loop-left
-inner₀ l = l.before.before.before
+inner₀ l = l
 
 abbrev outer₀ : tie.At-loop-left invariant-loop-left decreases-loop-left → tie.After-put_offset invariant-loop-left decreases-loop-left
-outer₀ l = (inner₀ l).before.before.before.before.before
+outer₀ l = (inner₀ l)
 
 abbrev start-of-row-count : tie.After-row_count-n invariant-loop-left decreases-loop-left → tie.Start invariant-loop-left decreases-loop-left
-start-of-row-count p = p.before.before.before.before.before.before.before
+start-of-row-count p = p
 
 abbrev S : tie.At-loop-left invariant-loop-left decreases-loop-left → tie.Start invariant-loop-left decreases-loop-left
-S l = start-of-row-count (outer₀ l).before.before.before
+S l = start-of-row-count (outer₀ l)
 
 -- ---- places: the copies put, and the row read, from the outer row put
 
 abbrev copied : tie.After-inner_large-in-loop-left-1 invariant-loop-left decreases-loop-left → tie.After-put_copies-at invariant-loop-left decreases-loop-left
-copied p = p.before.before.before.before.before.before.before
+copied p = p
 
 abbrev read : tie.After-put_copies-at invariant-loop-left decreases-loop-left → tie.After-offset_at-b invariant-loop-left decreases-loop-left
-read p = p.before.before.before.before.before.before
+read p = p
 
 abbrev put : tie.After-out_large-in-loop-left-1 invariant-loop-left decreases-loop-left → tie.After-put_outer invariant-loop-left decreases-loop-left
-put c = c.before.before.before.before
+put c = c
 
 abbrev copied-before : tie.After-put_outer invariant-loop-left decreases-loop-left → tie.After-put_copies-at invariant-loop-left decreases-loop-left
 copied-before u = copied u.before.before.before.before
 
 abbrev turn : tie.After-out_large-in-loop-left-1 invariant-loop-left decreases-loop-left → tie.In-loop-left invariant-loop-left decreases-loop-left
-turn c = (read (copied-before (put c))).before.before.before
+turn c = (read (copied-before (put c)))
 
 -- ---- the rows, and the outer rows that they become
 
 abbrev count : tie.At-loop-left invariant-loop-left decreases-loop-left → ℕ
-count l = (outer₀ l).before.before.before.row_count.result
+count l = (outer₀ l).row_count-n.result
 
 rows_are : (l : tie.At-loop-left invariant-loop-left decreases-loop-left) → count l ≡ row_count (C (S l)).offsets
-rows_are l = (outer₀ l).before.before.before.row_count.ensures
+rows_are l = (outer₀ l).row_count-n.ensures
 
 abbrev O : tie.At-loop-left invariant-loop-left decreases-loop-left → ℕ → Outer
 O l = repeat_at (C (S l)) (A (S l))
 
 abbrev L : tie.After-offset_at-b invariant-loop-left decreases-loop-left → tie.At-loop-left invariant-loop-left decreases-loop-left
-L q = q.before.before.before.before
+L q = q
 
 -- the copies that a turn writes are those of outer row r
 abbrev row : tie.After-offset_at-b invariant-loop-left decreases-loop-left → Row
@@ -101,46 +101,42 @@ row q = let l = L q in row_from (C (S l)).rows (elem_at (C (S l)).values (C (S l
 abbrev copies : tie.After-offset_at-b invariant-loop-left decreases-loop-left → List Row
 copies q = replicate q.repeat_count-times.result (row q)
 
-same : (q : tie.After-offset_at-b invariant-loop-left decreases-loop-left) → inner_of (O (L q) (L q).loop.r) ≡ copies q
+same : (q : tie.After-offset_at-b invariant-loop-left decreases-loop-left) → inner_of (O (L q) (L q).loop-left.r) ≡ copies q
 same q = let l = L q in copies_are (C (S l)) (A (S l)) l.loop-left.r q.repeat_count-times.result q.offset_at-a.result q.offset_at-b.result q.repeat_count-times.ensures q.offset_at-a.ensures.0 q.offset_at-b.ensures.0
 
-few : (q : tie.After-offset_at-b invariant-loop-left decreases-loop-left) → (L q).loop.i + q.repeat_count-times.result ≤ (M (S (L q))).outer
+few : (q : tie.After-offset_at-b invariant-loop-left decreases-loop-left) → (L q).loop-left.i + q.repeat_count-times.result ≤ (M (S (L q))).outer
 few q = let l = L q in omega (arith, outer-few (M (S l)) (O l) (count l) (copies q) q.loop-left-test.true (same q) l.loop-left.invariant.0, length-replicate q.repeat_count-times.result (row q))
 
 row_count-n-requires : tie.Need-row_count-n-requires invariant-loop-left decreases-loop-left
 row_count-n-requires c κs = search
 
 put_offset-requires : tie.Need-put_offset-requires invariant-loop-left decreases-loop-left
-put_offset-requires c κs = (omega (arith, (start-of-row-count c.before.before).pre.1.1.1.offsets), omega arith)
+put_offset-requires c κs = (omega (arith, (start-of-row-count c.before.before).requires.1.1.1.offsets), omega arith)
 
 put_offset-requires-2 : tie.Need-put_offset-requires-2 invariant-loop-left decreases-loop-left
-put_offset-requires-2 c κs = (omega (arith, (start-of-row-count c.before.before.before.before.before.before.before).pre.1.1.1.lists.room.offsets), omega arith)
+put_offset-requires-2 c κs = (omega (arith, (start-of-row-count c.before.before.before.before.before.before.before).requires.1.1.1.lists.room.offsets), omega arith)
 
 loop-left-init : tie.Need-loop-left-init invariant-loop-left decreases-loop-left
 loop-left-init c =
-    let i = c.before.before in
-    let o = i.before.before.before.before.before in
-    let t = o.before.before.before in
-    let s = start-of-row-count t in
-    (outer_begun _ _ _ (room_at (C s) (A s) t.row_count-n.result t.row_count-n.ensures s.requires.1.1.1 (put_keeps (OO s) 0 0 o.put_offset.ensures) (put_keeps (IO s) 0 0 i.put_offset-2.ensures)).lists, refl, refl, refl, refl)
+    let s = start-of-row-count c.before.before.before.before.before.before.before.before.before.before in
+    (outer_begun _ _ _ (room_at (C s) (A s) c.row_count-n.result c.row_count-n.ensures s.requires.1.1.1 (put_keeps (OO s) 0 0 c.put_offset.ensures) (put_keeps (IO s) 0 0 c.put_offset-2.ensures)).lists, refl, refl, refl, refl)
 
 repeat_count-times-requires : tie.Need-repeat_count-times-requires invariant-loop-left decreases-loop-left
-repeat_count-times-requires c κs = let l = c.before in (by_count (rows_are l) (S l).requires.1.0, ((S l).requires.1.1.0 ∙ sym (rows_are l), omega (arith, l.loop-left.invariant.0.rows, c.loop-left-test.true)))
+repeat_count-times-requires c κs = (by_count (rows_are c.before) (S c.before).requires.1.0, ((S c.before).requires.1.1.0 ∙ sym (rows_are c.before), omega (arith, c.loop-left.invariant.0.rows, c.loop-left-test.true)))
 
 offset_at-a-requires : tie.Need-offset_at-a-requires invariant-loop-left decreases-loop-left
-offset_at-a-requires c κs = let l = c.before.before in omega (arith, l.loop-left.invariant.0.rows, c.loop-left-test.true, rows_are l)
+offset_at-a-requires c κs = omega (arith, c.loop-left.invariant.0.rows, c.loop-left-test.true, rows_are c.before.before)
 
 overflow_add-r : tie.Need-overflow_add-r invariant-loop-left decreases-loop-left
-overflow_add-r c = let l = c.before.before.before in omega (arith, l.loop-left.invariant.0.rows, c.loop-left-test.true)
+overflow_add-r c = omega (arith, c.loop-left.invariant.0.rows, c.loop-left-test.true)
 
 offset_at-b-requires : tie.Need-offset_at-b-requires invariant-loop-left decreases-loop-left
-offset_at-b-requires c κs = let l = c.before.before.before in omega (arith, l.loop-left.invariant.0.rows, c.loop-left-test.true, rows_are l)
+offset_at-b-requires c κs = omega (arith, c.loop-left.invariant.0.rows, c.loop-left-test.true, rows_are c.before.before.before)
 
 put_copies-at-requires : tie.Need-put_copies-at-requires invariant-loop-left decreases-loop-left
 put_copies-at-requires c κs =
-    let q = c.before.before.before.before.before in
-    let l = L q in
-    (between (C (S l)) (count l) l.loop-left.r q.offset_at-a.result q.offset_at-b.result (S l).pre.0 (rows_are l) (omega (arith, l.loop-left.invariant.0.rows, q.loop-left-test.true)) q.offset_at-a.ensures.0 q.offset_at-b.ensures.0, outer-fits (M (S l)) (O l) (count l) (copies q) q.loop-left-test.true (same q) l.loop-left.invariant.0)
+    let l = L c.before.before.before.before.before in
+    (between (C (S l)) (count l) l.loop-left.r c.offset_at-a.result c.offset_at-b.result (S l).requires.0 (rows_are l) (omega (arith, l.loop-left.invariant.0.rows, c.loop-left-test.true)) c.offset_at-a.ensures.0 c.offset_at-b.ensures.0, outer-fits (M (S l)) (O l) (count l) (copies c.before.before.before.before.before) c.loop-left-test.true (same c.before.before.before.before.before) l.loop-left.invariant.0)
 
 overflow_add-i : tie.Need-overflow_add-i invariant-loop-left decreases-loop-left
 overflow_add-i c = let q = read (copied c) in omega (arith, few q, (fit (S (L q))).outer, (fit (S (L q))).offset)
@@ -149,17 +145,17 @@ put_outer-requires : tie.Need-put_outer-requires invariant-loop-left decreases-l
 put_outer-requires c κs =
     let q = read (copied c.before.before.before) in
     let l = L q in
-    let m = room_at (C (S l)) (A (S l)) (count l) (rows_are l) (S l).pre.1.1.1 (put_keeps (OO (S l)) 0 0 (outer₀ l).put-offset.ensures) (put_keeps (IO (S l)) 0 0 (inner₀ l).put-offset2.ensures) in
-    (by_count (rows_are l) (S l).pre.1.0, (omega (arith, l.loop-left.invariant.0.rows, q.loop-left-test.true), (omega (arith, few q, (fit (S l)).outer), (outer_slot (M (S l)) (O l) (count l) (copies q) q.loop-left-test.true (same q) l.loop-left.invariant.0 m, outer-bit (M (S l)) (O l) (count l) (copies q) q.loop-left-test.true (same q) l.loop-left.invariant.0 m))))
+    let m = room_at (C (S l)) (A (S l)) (count l) (rows_are l) (S l).requires.1.1.1 (put_keeps (OO (S l)) 0 0 (outer₀ l).put_offset.ensures) (put_keeps (IO (S l)) 0 0 (inner₀ l).put_offset-2.ensures) in
+    (by_count (rows_are l) (S l).requires.1.0, (omega (arith, l.loop-left.invariant.0.rows, q.loop-left-test.true), (omega (arith, few q, (fit (S l)).outer), (outer_slot (M (S l)) (O l) (count l) (copies q) q.loop-left-test.true (same q) l.loop-left.invariant.0 m, outer-bit (M (S l)) (O l) (count l) (copies q) q.loop-left-test.true (same q) l.loop-left.invariant.0 m))))
 
-overflow_add-r : tie.Need-overflow_add-r invariant-loop-left decreases-loop-left
-overflow_add-r c = let t = turn c in omega (arith, t.loop-left.invariant.0.rows, t.loop-left-test.true)
+overflow_add-r-in-loop-left : tie.Need-overflow_add-r-in-loop-left invariant-loop-left decreases-loop-left
+overflow_add-r-in-loop-left c = let t = turn c in omega (arith, t.loop-left.invariant.0.rows, t.loop-left-test.true)
 
 overflow_sub-left : tie.Need-overflow_sub-left invariant-loop-left decreases-loop-left
-overflow_sub-left c = omega (arith, (turn c).loop-test.true)
+overflow_sub-left c = omega (arith, (turn c).loop-left-test.true)
 
 loop-left-smaller : tie.Need-loop-left-smaller invariant-loop-left decreases-loop-left
-loop-left-smaller c = omega (arith, (turn c).loop-test.true)
+loop-left-smaller c = omega (arith, (turn c).loop-left-test.true)
 
 loop-left-preserved : tie.Need-loop-left-preserved invariant-loop-left decreases-loop-left
 loop-left-preserved c =
@@ -177,13 +173,13 @@ loop-left-preserved c =
     )
 
 shape_of-out_offsets : tie.Need-shape_of-out_offsets invariant-loop-left decreases-loop-left
-shape_of-out_offsets c = c.loop-left.invariant.1 ∙ (outer₀ c.before).put-offset.kept.1.0
+shape_of-out_offsets c = c.loop-left.invariant.1 ∙ (outer₀ c.before).put_offset.kept.1.0
 
 shape_of-out_rows : tie.Need-shape_of-out_rows invariant-loop-left decreases-loop-left
 shape_of-out_rows c = c.loop-left.invariant.0.lr
 
 shape_of-inner_offsets : tie.Need-shape_of-inner_offsets invariant-loop-left decreases-loop-left
-shape_of-inner_offsets c = c.loop-left.invariant.3 ∙ (inner₀ c.before).put-offset2.kept.1.0
+shape_of-inner_offsets c = c.loop-left.invariant.3 ∙ (inner₀ c.before).put_offset-2.kept.1.0
 
 shape_of-inner_rows : tie.Need-shape_of-inner_rows invariant-loop-left decreases-loop-left
 shape_of-inner_rows c = c.loop-left.invariant.0.lj
@@ -195,20 +191,16 @@ shape_of-out_elements : tie.Need-shape_of-out_elements invariant-loop-left decre
 shape_of-out_elements c = c.loop-left.invariant.0.le
 
 shape_of-out_large : tie.Need-shape_of-out_large invariant-loop-left decreases-loop-left
-shape_of-out_large c = c.loop-left.invariant.2 ∙ (outer₀ c.before).put-offset.kept.1.1.0
+shape_of-out_large c = c.loop-left.invariant.2 ∙ (outer₀ c.before).put_offset.kept.1.1.0
 
 shape_of-inner_large : tie.Need-shape_of-inner_large invariant-loop-left decreases-loop-left
-shape_of-inner_large c = c.loop-left.invariant.4 ∙ (inner₀ c.before).put-offset2.kept.1.1.0
+shape_of-inner_large c = c.loop-left.invariant.4 ∙ (inner₀ c.before).put_offset-2.kept.1.1.0
 
 returns : tie.Need-returns invariant-loop-left decreases-loop-left
 returns c =
-    let l = c.before in
-    let s = S l in
-    rw (← rows_at (C s) (A s) (count l) (rows_are l))
-    (outer_done (M (S l)) (O l) (count l) (OO s) (IO s) l.loop-left.invariant.0 c.loop-left-test.false (outer₀ l).put-offset.ensures (inner₀ l).put-offset2.ensures (room_at (C s) (A s) (count l) (rows_are l) s.requires.1.1.1 refl refl))
-
-overflow_add-r-in-loop-left : tie.Need-overflow_add-r-in-loop-left invariant-loop-left decreases-loop-left
-overflow_add-r-in-loop-left c = search rules
+    let s = S c.before in
+    rw (← rows_at (C s) (A s) (count c.before) (rows_are c.before))
+    (outer_done (M (S c.before)) (O c.before) (count c.before) (OO s) (IO s) c.loop-left.invariant.0 c.loop-left-test.false (outer₀ c.before).put_offset.ensures (inner₀ c.before).put_offset-2.ensures (room_at (C s) (A s) (count c.before) (rows_are c.before) s.requires.1.1.1 refl refl))
 
 pub write_repeats_spec : {M : Type 1} → statement M
 write_repeats_spec =

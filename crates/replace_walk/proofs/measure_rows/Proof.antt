@@ -44,39 +44,37 @@ Z s = arguments s.args.zs.now (from s.args.zstart s.args.zbits.now)
 -- ---- places: the start and the rows counted, from the loop; a turn's offset, from its row measured
 
 abbrev S : tie.At-loop-left invariant-loop-left decreases-loop-left → tie.Start invariant-loop-left decreases-loop-left
-S l = l.before.before.before.before.before.before.before.before
+S l = l
 
 abbrev counted : tie.At-loop-left invariant-loop-left decreases-loop-left → tie.After-row_count-n invariant-loop-left decreases-loop-left
-counted l = l.before.before
+counted l = l
 
 abbrev count : tie.At-loop-left invariant-loop-left decreases-loop-left → ℕ
-count l = (counted l).row_count.result
+count l = (counted l).row_count-n.result
 
 abbrev W : tie.At-loop-left invariant-loop-left decreases-loop-left → ℕ → Row
 W l = let s = S l in row_made_at (N s) L.Replace (C s) (X s) (Y s) (Z s)
 
 abbrev turn : tie.After-replaced_length-found invariant-loop-left decreases-loop-left → tie.After-offset_at-b invariant-loop-left decreases-loop-left
-turn m = m.before.before
+turn m = m
 
 -- row r of a turn can be read
-reads : (q : tie.After-offset_at-b invariant-loop-left decreases-loop-left) → let l = q.before.before in ReadableRowˡ (C (S l)).rows (count l) (C (S l)).values (C (S l)).elements l.loop-left.r l.loop-left.a q.offset_at-b.result
+reads : (q : tie.After-offset_at-b invariant-loop-left decreases-loop-left) → ReadableRowˡ (C (S q.before.before)).rows (count q.before.before) (C (S q.before.before)).values (C (S q.before.before)).elements q.loop-left.r q.loop-left.a q.offset_at-b.result
 reads q =
-    let l = q.before.before in
     let t = q.loop-left-test.true in
-    between (C (S l)) (count l) l.loop-left.r l.loop-left.a q.offset_at-b.result (S l).requires.0 (counted l).row_count.ensures (omega (arith, l.loop-left.invariant.0.rows, t)) (l.loop-left.invariant.1 t) q.offset_at-b.ensures.0
+    between (C (S q.before.before)) (count q.before.before) q.loop-left.r q.loop-left.a q.offset_at-b.result (S q.before.before).requires.0 (counted q.before.before).row_count-n.ensures (omega (arith, q.loop-left.invariant.0.rows, t)) (q.loop-left.invariant.1 t) q.offset_at-b.ensures.0
 
 -- the walk after it
-more : (m : tie.After-replaced_length-found invariant-loop-left decreases-loop-left) → let q = turn m in let l = q.before.before in Summing (W l) (count l) q.offset_at-b.result (N (S l)).offset (l.loop-left.found + m.replaced_length-found.result) (l.loop-left.r + 1) (l.loop-left.left - 1)
+more : (m : tie.After-replaced_length-found invariant-loop-left decreases-loop-left) → let q = turn m in Summing (W q) (count q) q.offset_at-b.result (N (S q)).offset (q.loop-left.found + m.replaced_length-found.result) (q.loop-left.r + 1) (q.loop-left.left - 1)
 more m =
     let q = turn m in
-    let l = q.before.before in
-    let s = S l in
+    let s = S q in
     let b = q.offset_at-b in
     let t = q.loop-left-test.true in
     let k = m.limit_at-limit in
-    sum_more (W l) (count l) (N s).offset m.replaced_length-found.result l.loop-left.a b.result l.loop-left.invariant.0 t
-    (replaced-long (N s) (C s) (X s) (Y s) (Z s) l.loop-left.r l.loop-left.a b.result (l.loop-left.invariant.1 t) b.ensures.0 k.result m.replaced_length-found.result m.replaced_length-found.ensures k.ensures)
-    (replaced_le (N s) (C s) (X s) (Y s) (Z s) l.loop-left.r l.loop-left.a b.result (l.loop-left.invariant.1 t) b.ensures.0 k.result m.replaced_length-found.result m.replaced_length-found.ensures)
+    sum_more (W q) (count q) (N s).offset m.replaced_length-found.result q.loop-left.a b.result q.loop-left.invariant.0 t
+    (replaced-long (N s) (C s) (X s) (Y s) (Z s) q.loop-left.r q.loop-left.a b.result (q.loop-left.invariant.1 t) b.ensures.0 k.result m.replaced_length-found.result m.replaced_length-found.ensures k.ensures)
+    (replaced_le (N s) (C s) (X s) (Y s) (Z s) q.loop-left.r q.loop-left.a b.result (q.loop-left.invariant.1 t) b.ensures.0 k.result m.replaced_length-found.result m.replaced_length-found.ensures)
     (reads q).rises refl b.ensures.1
 
 row_count-n-requires : tie.Need-row_count-n-requires invariant-loop-left decreases-loop-left
@@ -92,40 +90,36 @@ overflow_add-r : tie.Need-overflow_add-r invariant-loop-left decreases-loop-left
 overflow_add-r c = omega (arith, c.loop-left.invariant.0.rows, c.loop-left-test.true)
 
 offset_at-b-requires : tie.Need-offset_at-b-requires invariant-loop-left decreases-loop-left
-offset_at-b-requires c κs = omega (arith, (counted c.before).row_count.ensures, c.loop-left.invariant.0.rows, c.loop-left-test.true)
+offset_at-b-requires c κs = omega (arith, (counted c.before).row_count-n.ensures, c.loop-left.invariant.0.rows, c.loop-left-test.true)
 
 overflow_sub-len : tie.Need-overflow_sub-len invariant-loop-left decreases-loop-left
 overflow_sub-len c = (reads c).rises
 
 limit_at-limit-requires : tie.Need-limit_at-limit-requires invariant-loop-left decreases-loop-left
-limit_at-limit-requires c κs = let l = c.before.before in ((reads c).rows, (rw (counted l).row_count.ensures (replace-served (S l).requires.1).2, (reads c).there))
+limit_at-limit-requires c κs = ((reads c).rows, (rw (counted c.before.before).row_count-n.ensures (replace-served (S c.before.before).requires.1).2, (reads c).there))
 
 replaced_length-found-requires : tie.Need-replaced_length-found-requires invariant-loop-left decreases-loop-left
 replaced_length-found-requires c κs = search
 
 overflow_add-found : tie.Need-overflow_add-found invariant-loop-left decreases-loop-left
-overflow_add-found c = omega (arith, (more c).small, (limits-fit (S (turn c).before.before).args.width).offset)
+overflow_add-found c = omega (arith, (more c).small, (limits-fit (S (turn c)).args.width).offset)
 
-overflow_add-r : tie.Need-overflow_add-r invariant-loop-left decreases-loop-left
-overflow_add-r c = let q = turn c in omega (arith, q.loop-left.invariant.0.rows, q.loop-left-test.true)
+overflow_add-r-in-loop-left : tie.Need-overflow_add-r-in-loop-left invariant-loop-left decreases-loop-left
+overflow_add-r-in-loop-left c = let q = turn c in omega (arith, q.loop-left.invariant.0.rows, q.loop-left-test.true)
 
 overflow_sub-left : tie.Need-overflow_sub-left invariant-loop-left decreases-loop-left
-overflow_sub-left c = omega (arith, (turn c).before.loop-test.true)
+overflow_sub-left c = omega (arith, (turn c).loop-left-test.true)
 
 loop-left-smaller : tie.Need-loop-left-smaller invariant-loop-left decreases-loop-left
-loop-left-smaller c = omega (arith, (turn c).before.loop-test.true)
+loop-left-smaller c = omega (arith, (turn c).loop-left-test.true)
 
 loop-left-preserved : tie.Need-loop-left-preserved invariant-loop-left decreases-loop-left
-loop-left-preserved c = (more c, λ h. (turn c).offset_at.ensures.0)
+loop-left-preserved c = (more c, λ h. (turn c).offset_at-b.ensures.0)
 
 returns : tie.Need-returns invariant-loop-left decreases-loop-left
 returns c =
-    let l = c.before in
-    let s = S l in
-    (rw (← rows_at (N s) L.Replace (C s) (X s) (Y s) (Z s) (count l) (counted l).row_count.ensures) (sum_done (W l) (count l) (N s).offset l.loop-left.invariant.0 (omega (arith, c.loop-left-test.false))), l.loop-left.invariant.0.small)
-
-overflow_add-r-in-loop-left : tie.Need-overflow_add-r-in-loop-left invariant-loop-left decreases-loop-left
-overflow_add-r-in-loop-left c = search rules
+    let s = S c.before in
+    (rw (← rows_at (N s) L.Replace (C s) (X s) (Y s) (Z s) (count c.before) (counted c.before).row_count-n.ensures) (sum_done (W c.before) (count c.before) (N s).offset c.loop-left.invariant.0 (omega (arith, c.loop-left-test.false))), c.loop-left.invariant.0.small)
 
 pub measure_rows_spec : {M : Type 1} → statement M
 measure_rows_spec =

@@ -56,34 +56,34 @@ Z s = arguments s.args.zs.now (from s.args.zstart s.args.zbits.now)
 -- ---- places: the start and the first offset put, from the loop; a turn's row written, its arguments and its offset, from what comes after
 
 abbrev put : tie.At-loop-left invariant-loop-left decreases-loop-left → tie.After-put_offset invariant-loop-left decreases-loop-left
-put l = l.before.before.before.before
+put l = l
 
 abbrev begun : tie.After-put_offset-arg-2-1 invariant-loop-left decreases-loop-left → tie.Start invariant-loop-left decreases-loop-left
-begun p = p.before.before.before.before.before.before.before.before.before.before
+begun p = p
 
 abbrev S : tie.At-loop-left invariant-loop-left decreases-loop-left → tie.Start invariant-loop-left decreases-loop-left
-S l = begun (put l).before
+S l = begun (put l)
 
 abbrev written : tie.After-put_offset-arg-in-loop-left-2-1 invariant-loop-left decreases-loop-left → tie.After-put_row-at invariant-loop-left decreases-loop-left
-written p = p.before.before.before.before.before.before.before
+written p = p
 
 abbrev turned : tie.After-out_large-in-loop-left-1 invariant-loop-left decreases-loop-left → tie.After-put_row-at invariant-loop-left decreases-loop-left
 turned p = written p.before.before.before
 
 abbrev taken : tie.After-put_row-at invariant-loop-left decreases-loop-left → tie.After-taken_at-to invariant-loop-left decreases-loop-left
-taken w = w.before.before.before.before
+taken w = w
 
 abbrev between-offsets : tie.After-taken_at-to invariant-loop-left decreases-loop-left → tie.After-offset_at-b invariant-loop-left decreases-loop-left
-between-offsets o = o.before.before.before
+between-offsets o = o
 
 abbrev inside : tie.After-put_row-at invariant-loop-left decreases-loop-left → tie.In-loop-left invariant-loop-left decreases-loop-left
-inside w = (between-offsets (taken w)).before
+inside w = (between-offsets (taken w))
 
 abbrev count : tie.At-loop-left invariant-loop-left decreases-loop-left → ℕ
-count l = (put l).before.before.before.row_count.result
+count l = (put l).row_count-n.result
 
 rows_are : (l : tie.At-loop-left invariant-loop-left decreases-loop-left) → count l ≡ row_count (C (S l)).offsets
-rows_are l = (put l).before.before.before.row_count.ensures
+rows_are l = (put l).row_count-n.ensures
 
 abbrev W : tie.At-loop-left invariant-loop-left decreases-loop-left → ℕ → Row
 W l = let s = S l in row_made_at (N s) L.Replace (C s) (X s) (Y s) (Z s)
@@ -93,26 +93,23 @@ roomy : (l : tie.At-loop-left invariant-loop-left decreases-loop-left) (lo : ℕ
 roomy l lo e = let s = S l in room_at (N s) L.Replace (C s) (X s) (Y s) (Z s) (count l) (rows_are l) s.requires.1.1.1 e
 
 -- row r of a turn can be read
-reads : (q : tie.After-offset_at-b invariant-loop-left decreases-loop-left) → let l = q.before.before in ReadableRowˡ (C (S l)).rows (count l) (C (S l)).values (C (S l)).elements l.loop-left.r l.loop-left.a q.offset_at-b.result
+reads : (q : tie.After-offset_at-b invariant-loop-left decreases-loop-left) → ReadableRowˡ (C (S q.before.before)).rows (count q.before.before) (C (S q.before.before)).values (C (S q.before.before)).elements q.loop-left.r q.loop-left.a q.offset_at-b.result
 reads q =
-    let l = q.before.before in
     let t = q.loop-left-test.true in
-    between (C (S l)) (count l) l.loop-left.r l.loop-left.a q.offset_at-b.result (S l).requires.0 (rows_are l) (omega (arith, l.loop-left.invariant.0.rows, t)) (l.loop-left.invariant.3 t) q.offset_at-b.ensures.0
+    between (C (S q.before.before)) (count q.before.before) q.loop-left.r q.loop-left.a q.offset_at-b.result (S q.before.before).requires.0 (rows_are q.before.before) (omega (arith, q.loop-left.invariant.0.rows, t)) (q.loop-left.invariant.3 t) q.offset_at-b.ensures.0
 
 -- the row that a turn makes is row r's
 abbrev made : (o : tie.After-taken_at-to invariant-loop-left decreases-loop-left) → Row
 made o =
     let q = between-offsets o in
-    let l = q.before.before in
-    let s = S l in
-    row_made (op_made (replace_op o.taken_at-needle.result o.taken_at-to.result o.limit_at-limit.result) (tab (elem_at (C s).values (C s).elements) l.loop-left.a (q.offset_at-b.result - l.loop-left.a)))
+    let s = S q in
+    row_made (op_made (replace_op o.taken_at-needle.result o.taken_at-to.result o.limit_at-limit.result) (tab (elem_at (C s).values (C s).elements) q.loop-left.a (q.offset_at-b.result - q.loop-left.a)))
 
-same_row : (o : tie.After-taken_at-to invariant-loop-left decreases-loop-left) → let l = (between-offsets o).before.before in made o ≡ W l l.loop-left.r
+same_row : (o : tie.After-taken_at-to invariant-loop-left decreases-loop-left) → let l = (between-offsets o) in made o ≡ W l l.loop-left.r
 same_row o =
     let q = between-offsets o in
-    let l = q.before.before in
-    let s = S l in
-    replaced_row (N s) (C s) (X s) (Y s) (Z s) l.loop-left.r l.loop-left.a q.offset_at-b.result (l.loop-left.invariant.3 q.loop-left-test.true) q.offset_at-b.ensures.0 o.taken_at-needle.result o.taken_at-to.result o.limit_at-limit.result o.taken_at-needle.ensures o.taken_at-to.ensures o.limit_at-limit.ensures
+    let s = S q in
+    replaced_row (N s) (C s) (X s) (Y s) (Z s) q.loop-left.r q.loop-left.a q.offset_at-b.result (q.loop-left.invariant.3 q.loop-left-test.true) q.offset_at-b.ensures.0 o.taken_at-needle.result o.taken_at-to.result o.limit_at-limit.result o.taken_at-needle.ensures o.taken_at-to.ensures o.limit_at-limit.ensures
 
 row_count-n-requires : tie.Need-row_count-n-requires invariant-loop-left decreases-loop-left
 row_count-n-requires c κs = search
@@ -136,20 +133,18 @@ overflow_sub-len : tie.Need-overflow_sub-len invariant-loop-left decreases-loop-
 overflow_sub-len c = (reads c).rises
 
 limit_at-limit-requires : tie.Need-limit_at-limit-requires invariant-loop-left decreases-loop-left
-limit_at-limit-requires c κs = let l = c.before.before in ((reads c).rows, (rw (rows_are l) (replace-served (S l).requires.1.0).2, (reads c).there))
+limit_at-limit-requires c κs = ((reads c).rows, (rw (rows_are c.before.before) (replace-served (S c.before.before).requires.1.0).2, (reads c).there))
 
 taken_at-needle-requires : tie.Need-taken_at-needle-requires invariant-loop-left decreases-loop-left
-taken_at-needle-requires c κs = let l = c.before.before.before in (λ e. rw (rows_are l) (replace-served (S l).requires.1.0).0, (reads c.before).there)
+taken_at-needle-requires c κs = (λ e. rw (rows_are c.before.before.before) (replace-served (S c.before.before.before).requires.1.0).0, (reads c.before).there)
 
 taken_at-to-requires : tie.Need-taken_at-to-requires invariant-loop-left decreases-loop-left
-taken_at-to-requires c κs = let l = c.before.before.before.before in (λ e. rw (rows_are l) (replace-served (S l).requires.1.0).1, (reads c.before.before).there)
+taken_at-to-requires c κs = (λ e. rw (rows_are c.before.before.before.before) (replace-served (S c.before.before.before.before).requires.1.0).1, (reads c.before.before).there)
 
 put_row-at-requires : tie.Need-put_row-at-requires invariant-loop-left decreases-loop-left
 put_row-at-requires c κs =
-    let o = c.before.before.before in
-    let q = between-offsets o in
-    let l = q.before.before in
-    (record { inside = omega (arith, (reads q).rises, (reads q).inside); bits = (reads q).elements }, walk_room (W l) (count l) (made o) q.loop-left-test.true (same_row o) l.loop-left.invariant.0 (roomy l _ (put_keeps (O (S l)) 0 0 (put l).put-offset.ensures)))
+    let q = between-offsets c.before.before.before in
+    (record { inside = omega (arith, (reads q).rises, (reads q).inside); bits = (reads q).elements }, walk_room (W q) (count q) (made c.before.before.before) q.loop-left-test.true (same_row c.before.before.before) q.loop-left.invariant.0 (roomy q _ (put_keeps (O (S q)) 0 0 (put q).put_offset.ensures)))
 
 overflow_add-r-in-loop-left : tie.Need-overflow_add-r-in-loop-left invariant-loop-left decreases-loop-left
 overflow_add-r-in-loop-left c = let i = inside (written c) in omega (arith, i.loop-left.invariant.0.rows, i.loop-left-test.true)
@@ -159,13 +154,12 @@ put_offset-requires-in-loop-left c κs =
     let w = written c in
     let o = taken w in
     let i = inside w in
-    let l = i.before in
-    let s = S l in
-    let k = walk_small (W l) (count l) (made o) i.loop-left-test.true (same_row o) l.loop-left.invariant.0 w.put_row-at.ensures in
-    (walk_slot (W l) (count l) (made o) i.loop-left-test.true (same_row o) l.loop-left.invariant.0 (roomy l _ (put_keeps (O (S l)) 0 0 (put l).put-offset.ensures)), omega (arith, s.requires.1.1.0, rw (rows_at (N s) L.Replace (C s) (X s) (Y s) (Z s) (count l) (rows_are l)) at k))
+    let s = S i in
+    let k = walk_small (W i) (count i) (made o) i.loop-left-test.true (same_row o) i.loop-left.invariant.0 w.put_row-at.ensures in
+    (walk_slot (W i) (count i) (made o) i.loop-left-test.true (same_row o) i.loop-left.invariant.0 (roomy i _ (put_keeps (O (S i)) 0 0 (put i).put_offset.ensures)), omega (arith, s.requires.1.1.0, rw (rows_at (N s) L.Replace (C s) (X s) (Y s) (Z s) (count i) (rows_are i)) at k))
 
-overflow_add-r : tie.Need-overflow_add-r invariant-loop-left decreases-loop-left
-overflow_add-r c = let i = inside (turned c) in omega (arith, i.loop-left.invariant.0.rows, i.loop-left-test.true)
+overflow_add-r-in-loop-left-2 : tie.Need-overflow_add-r-in-loop-left-2 invariant-loop-left decreases-loop-left
+overflow_add-r-in-loop-left-2 c = let i = inside (turned c) in omega (arith, i.loop-left.invariant.0.rows, i.loop-left-test.true)
 
 overflow_sub-left : tie.Need-overflow_sub-left invariant-loop-left decreases-loop-left
 overflow_sub-left c = omega (arith, (inside (turned c)).loop-left-test.true)
@@ -177,15 +171,15 @@ loop-left-preserved : tie.Need-loop-left-preserved invariant-loop-left decreases
 loop-left-preserved c =
     let w = turned c in
     let o = taken w in
-    let l = (inside w).before in (
-      walk_more (W l) (count l) (made o) (inside w).loop-test.taken (same_row o) l.loop-left.invariant.0 w.put_row-at.ensures c.put_offset-in-loop-left.ensures,
+    let l = (inside w) in (
+      walk_more (W l) (count l) (made o) (inside w).loop-left-test.true (same_row o) l.loop-left.invariant.0 w.put_row-at.ensures c.put_offset-in-loop-left.ensures,
       c.put_offset-in-loop-left.auto.narrow ∙ l.loop-left.invariant.1,
       c.put_offset-in-loop-left.auto.wide ∙ l.loop-left.invariant.2,
-      λ h. (between-offsets o).offset_at.ensures.0,
+      λ h. (between-offsets o).offset_at-b.ensures.0,
     )
 
 shape_of-out_offsets : tie.Need-shape_of-out_offsets invariant-loop-left decreases-loop-left
-shape_of-out_offsets c = c.loop-left.invariant.1 ∙ (put c.before).put-offset.kept.1.0
+shape_of-out_offsets c = c.loop-left.invariant.1 ∙ (put c.before).put_offset.kept.1.0
 
 shape_of-out_rows : tie.Need-shape_of-out_rows invariant-loop-left decreases-loop-left
 shape_of-out_rows c = c.loop-left.invariant.0.lr
@@ -197,17 +191,13 @@ shape_of-out_elements : tie.Need-shape_of-out_elements invariant-loop-left decre
 shape_of-out_elements c = c.loop-left.invariant.0.le
 
 shape_of-out_large : tie.Need-shape_of-out_large invariant-loop-left decreases-loop-left
-shape_of-out_large c = c.loop-left.invariant.2 ∙ (put c.before).put-offset.kept.1.1.0
+shape_of-out_large c = c.loop-left.invariant.2 ∙ (put c.before).put_offset.kept.1.1.0
 
 returns : tie.Need-returns invariant-loop-left decreases-loop-left
 returns c =
-    let l = c.before in
-    let s = S l in
-    rw (← rows_at (N s) L.Replace (C s) (X s) (Y s) (Z s) (count l) (rows_are l))
-    (walk_done (W l) (count l) (O s) l.loop-left.invariant.0 (omega (arith, c.loop-left-test.false)) (put l).put-offset.ensures (roomy l _ refl))
-
-overflow_add-r-in-loop-left-2 : tie.Need-overflow_add-r-in-loop-left-2 invariant-loop-left decreases-loop-left
-overflow_add-r-in-loop-left-2 c = search rules
+    let s = S c.before in
+    rw (← rows_at (N s) L.Replace (C s) (X s) (Y s) (Z s) (count c.before) (rows_are c.before))
+    (walk_done (W c.before) (count c.before) (O s) c.loop-left.invariant.0 (omega (arith, c.loop-left-test.false)) (put c.before).put_offset.ensures (roomy c.before _ refl))
 
 pub write_rows_spec : {M : Type 1} → statement M
 write_rows_spec =

@@ -9,14 +9,14 @@ is_valid-requires c κs = (c.requires.0, c.requires.1.1)
 
 returns-then-not-is_valid : tie.Need-returns-then-not-is_valid
 unfolding count_for
-returns-then-not-is_valid c = let v = c.is_valid in rw (sym v.ensures ∙ not-true v.result c.if-not-is_valid.true)
+returns-then-not-is_valid c = let v = c.is_valid in rw (sym v.ensures ∙ not-true v.result c.if-not-is_valid.true-raw)
 
 taken_at-requires : tie.Need-taken_at-requires
-taken_at-requires c κs = let s = c.before.before.before.before in ((λ t. s.requires.1.0), s.requires.1.1)
+taken_at-requires c κs = ((λ t. c.requires.1.0), c.requires.1.1)
 
 returns : tie.Need-returns
 unfolding count_for
-returns c = let v = c.is_valid in rw (sym v.ensures ∙ not-false v.result c.if-not-is_valid.false) c.taken_at.ensures
+returns c = let v = c.is_valid in rw (sym v.ensures ∙ not-false v.result c.if-not-is_valid.false-raw) c.taken_at.ensures
 
 pub count_at_spec : {M : Type 1} → statement M
 count_at_spec =

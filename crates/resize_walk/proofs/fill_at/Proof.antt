@@ -8,14 +8,14 @@ use Rattle.resize_walk.proofs.fill_at.Tie as tie
 
 returns-then-not-filled : tie.Need-returns-then-not-filled
 unfolding fill_for
-returns-then-not-filled c = rw (not-true c.args.filled c.if-not-filled.true)
+returns-then-not-filled c = rw (not-true c.args.filled c.if-not-filled.true-raw)
 
 taken_at-requires : tie.Need-taken_at-requires
-taken_at-requires c κs = let s = c.before.before in ((λ t. s.requires.0 (not-false s.args.filled c.if-not-filled.false)), omega (arith, s.requires.1))
+taken_at-requires c κs = ((λ t. c.requires.0 (not-false c.args.filled c.if-not-filled.false-raw)), omega (arith, c.requires.1))
 
 returns : tie.Need-returns
 unfolding fill_for
-returns c = rw (not-false c.args.filled c.if-not-filled.false) (ap F.Own c.taken_at.ensures)
+returns c = rw (not-false c.args.filled c.if-not-filled.false-raw) (ap F.Own c.taken_at.ensures)
 
 pub fill_at_spec : {M : Type 1} → statement M
 fill_at_spec =

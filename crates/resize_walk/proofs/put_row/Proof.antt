@@ -24,19 +24,19 @@ made s = row_made (op_made (resize_op s.args.count s.args.fill) (es s))
 
 -- the places that are used below: a null count, a count read, the elements written, and the ends
 abbrev start-of-null : tie.In-Null → tie.Start
-start-of-null p = p.before.before.before.before
+start-of-null p = p
 
 abbrev null_of : tie.After-slice_known-in-Null-1 → tie.In-Null
-null_of p = p.before.before.before.before
+null_of p = p
 
 abbrev start-of-count : tie.After-limit_of → tie.Start
-start-of-count p = p.before.before.before.before.before
+start-of-count p = p
 
 abbrev count_of : tie.After-write_resized-next → tie.After-limit_of
-count_of p = p.before.before.before
+count_of p = p
 
 abbrev written_of : tie.After-slice_known-in-Value-2-1 → tie.After-write_resized-next
-written_of p = p.before.before.before.before.before.before.before
+written_of p = p
 
 row_is : (p : tie.After-limit_of) → let s = start-of-count p in made s ≡ list_row (resized p.limit_of.result (fill_elem s.args.fill) (es s))
 row_is p =
@@ -58,9 +58,8 @@ limit_of-requires c κs = search
 write_resized-next-requires : tie.Need-write_resized-next-requires
 unfolding elems_of
 write_resized-next-requires c κs =
-    let p = c.before.before in
-    let s = start-of-count p in
-    (s.requires.0, record { values = rw (row_is p) at s.requires.1.values; elements = rw (row_is p) at s.requires.1.elements })
+    let s = start-of-count c.before.before in
+    (s.requires.0, record { values = rw (row_is c.before.before) at s.requires.1.values; elements = rw (row_is c.before.before) at s.requires.1.elements })
 
 push_bit-requires-in-Value : tie.Need-push_bit-requires-in-Value
 push_bit-requires-in-Value c κs = omega (arith, (start-of-count (count_of c.before.before.before.before)).requires.1.rows)
@@ -79,15 +78,15 @@ shape_of-out_rows-in-Value : tie.Need-shape_of-out_rows-in-Value
 shape_of-out_rows-in-Value c = c.push_bit-in-Value.auto.bitmap
 
 shape_of-out_values : tie.Need-shape_of-out_values
-shape_of-out_values c = (written_of c).write-resized.auto.1.1.1.1.1.1.1.0
+shape_of-out_values c = (written_of c).write_resized-next.auto.out_values
 
 shape_of-out_elements : tie.Need-shape_of-out_elements
-shape_of-out_elements c = (written_of c).write-resized.auto.1.1.1.1.1.1.1.1.0
+shape_of-out_elements c = (written_of c).write_resized-next.auto.out_elements
 
 returns-in-Value : tie.Need-returns-in-Value
 unfolding is_row elems_of
 returns-in-Value c =
-    let w = (written_of c).write-resized.ensures in
+    let w = (written_of c).write_resized-next.ensures in
     rw (row_is (count_of (written_of c))) (record { rows = c.push_bit-in-Value.ensures; values = w.values; elements = w.elements; place = w.next })
 
 pub put_row_spec : {M : Type 1} → statement M

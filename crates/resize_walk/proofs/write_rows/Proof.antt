@@ -54,65 +54,62 @@ Z s = arguments s.args.zs.now (from s.args.zstart s.args.zbits.now)
 -- read, from what comes after
 
 abbrev put : tie.At-loop-left invariant-loop-left decreases-loop-left → tie.After-put_offset invariant-loop-left decreases-loop-left
-put l = l.before.before.before
+put l = l
 
 abbrev kind : tie.At-loop-left invariant-loop-left decreases-loop-left → tie.After-is_filled-filled invariant-loop-left decreases-loop-left
-kind l = (put l).before.before.before
+kind l = (put l)
 
 abbrev begun : tie.After-put_offset-arg-2-1 invariant-loop-left decreases-loop-left → tie.Start invariant-loop-left decreases-loop-left
-begun p = p.before.before.before.before.before.before.before.before.before.before.before
+begun p = p
 
 abbrev S : tie.At-loop-left invariant-loop-left decreases-loop-left → tie.Start invariant-loop-left decreases-loop-left
-S l = begun (put l).before
+S l = begun (put l)
 
 abbrev written : tie.After-put_offset-arg-in-loop-left-2-1 invariant-loop-left decreases-loop-left → tie.After-put_row-at invariant-loop-left decreases-loop-left
-written p = p.before.before.before.before.before.before.before
+written p = p
 
 abbrev turned : tie.After-out_large-in-loop-left-1 invariant-loop-left decreases-loop-left → tie.After-put_row-at invariant-loop-left decreases-loop-left
 turned p = written p.before.before.before
 
 abbrev read : tie.After-put_row-at invariant-loop-left decreases-loop-left → tie.After-fill_at-fill invariant-loop-left decreases-loop-left
-read w = w.before.before.before.before
+read w = w
 
 abbrev inside : tie.After-fill_at-fill invariant-loop-left decreases-loop-left → tie.In-loop-left invariant-loop-left decreases-loop-left
-inside f = f.before.before.before.before
+inside f = f
 
 abbrev count : tie.At-loop-left invariant-loop-left decreases-loop-left → ℕ
-count l = (kind l).before.row_count.result
+count l = (kind l).row_count-n.result
 
 rows_are : (l : tie.At-loop-left invariant-loop-left decreases-loop-left) → count l ≡ row_count (C (S l)).offsets
-rows_are l = (kind l).before.row_count.ensures
+rows_are l = (kind l).row_count-n.ensures
 
 abbrev W : tie.At-loop-left invariant-loop-left decreases-loop-left → ℕ → Row
-W l = let s = S l in resized_at (C s) (X s) (kind l).is-filled.result (Y s)
+W l = let s = S l in resized_at (C s) (X s) (kind l).is_filled-filled.result (Y s)
 
 -- the rows of the walk are the call's
 all_rows : (l : tie.At-loop-left invariant-loop-left decreases-loop-left) → let s = S l in tab (W l) 0 (count l) ≡ call_rows (N s) s.args.op (C s) (X s) (Y s) (Z s)
-all_rows l = let s = S l in resized-rows (N s) s.args.op (C s) (X s) (Y s) (Z s) s.requires.1.1.0 (kind l).is-filled.result (kind l).is-filled.ensures (count l) (rows_are l)
+all_rows l = let s = S l in resized-rows (N s) s.args.op (C s) (X s) (Y s) (Z s) s.requires.1.1.0 (kind l).is_filled-filled.result (kind l).is_filled-filled.ensures (count l) (rows_are l)
 
 -- room for all rows, from the code's count
 roomy : (l : tie.At-loop-left invariant-loop-left decreases-loop-left) (lo : ℕ) → lo ≡ length (O (S l)) → let a = (S l).args in RoomInˡ (count l) (length (flat (tab (W l) 0 (count l)))) lo (length a.out_rows-1.now) (length a.out_values-1.now) (length a.out_elements-1.now)
-roomy l lo e = let s = S l in resized-room (N s) s.args.op (C s) (X s) (Y s) (Z s) s.requires.1.1.0 (kind l).is-filled.result (kind l).is-filled.ensures (count l) (rows_are l) s.requires.1.1.1.1 e
+roomy l lo e = let s = S l in resized-room (N s) s.args.op (C s) (X s) (Y s) (Z s) s.requires.1.1.0 (kind l).is_filled-filled.result (kind l).is_filled-filled.ensures (count l) (rows_are l) s.requires.1.1.1.1 e
 
 -- row r of a turn can be read
-reads : (q : tie.After-offset_at-b invariant-loop-left decreases-loop-left) → let l = q.before.before.before in ReadableRowˡ (C (S l)).rows (count l) (C (S l)).values (C (S l)).elements l.loop-left.r q.offset_at-a.result q.offset_at-b.result
+reads : (q : tie.After-offset_at-b invariant-loop-left decreases-loop-left) → ReadableRowˡ (C (S q.before.before.before)).rows (count q.before.before.before) (C (S q.before.before.before)).values (C (S q.before.before.before)).elements q.loop-left.r q.offset_at-a.result q.offset_at-b.result
 reads q =
-    let l = q.before.before.before in
-    between (C (S l)) (count l) l.loop-left.r q.offset_at-a.result q.offset_at-b.result (S l).requires.0 (rows_are l) (omega (arith, l.loop-left.invariant.0.rows, q.loop-left-test.true)) q.offset_at-a.ensures.0 q.offset_at-b.ensures.0
+    between (C (S q.before.before.before)) (count q.before.before.before) q.loop-left.r q.offset_at-a.result q.offset_at-b.result (S q.before.before.before).requires.0 (rows_are q.before.before.before) (omega (arith, q.loop-left.invariant.0.rows, q.loop-left-test.true)) q.offset_at-a.ensures.0 q.offset_at-b.ensures.0
 
 -- the row that a turn makes is row r's
 abbrev made : tie.After-fill_at-fill invariant-loop-left decreases-loop-left → Row
 made f =
-    let q = f.before.before in
-    let s = S (inside f).before in
-    row_made (op_made (resize_op f.count_at-count.result f.fill_at-fill.result) (tab (elem_at (C s).values (C s).elements) q.offset_at-a.result (q.offset_at-b.result - q.offset_at-a.result)))
+    let s = S (inside f) in
+    row_made (op_made (resize_op f.count_at-count.result f.fill_at-fill.result) (tab (elem_at (C s).values (C s).elements) f.offset_at-a.result (f.offset_at-b.result - f.offset_at-a.result)))
 
-same_row : (f : tie.After-fill_at-fill invariant-loop-left decreases-loop-left) → let l = (inside f).before in made f ≡ W l l.loop-left.r
+same_row : (f : tie.After-fill_at-fill invariant-loop-left decreases-loop-left) → let l = (inside f) in made f ≡ W l l.loop-left.r
 same_row f =
-    let q = f.before.before in
-    let l = (inside f).before in
+    let l = (inside f) in
     let s = S l in
-    resized_row (C s) (X s) (kind l).is-filled.result (Y s) l.loop-left.r q.offset_at-a.result q.offset_at-b.result f.count_at-count.result f.fill_at-fill.result q.offset_at-a.ensures.0 q.offset_at-b.ensures.0 f.count_at-count.ensures f.fill_at-fill.ensures
+    resized_row (C s) (X s) (kind l).is_filled-filled.result (Y s) l.loop-left.r f.offset_at-a.result f.offset_at-b.result f.count_at-count.result f.fill_at-fill.result f.offset_at-a.ensures.0 f.offset_at-b.ensures.0 f.count_at-count.ensures f.fill_at-fill.ensures
 
 row_count-n-requires : tie.Need-row_count-n-requires invariant-loop-left decreases-loop-left
 row_count-n-requires c κs = search
@@ -140,22 +137,18 @@ overflow_sub-len c = (reads c).rises
 
 count_at-count-requires : tie.Need-count_at-count-requires invariant-loop-left decreases-loop-left
 count_at-count-requires c κs =
-    let l = c.before.before.before in
-    let s = S l in
-    ((reads c).rows, (rw (rows_are l) (counts-served s.args.op s.requires.1.1.0 s.requires.1.0), (reads c).there))
+    let s = S c.before.before.before in
+    ((reads c).rows, (rw (rows_are c.before.before.before) (counts-served s.args.op s.requires.1.1.0 s.requires.1.0), (reads c).there))
 
 fill_at-fill-requires : tie.Need-fill_at-fill-requires invariant-loop-left decreases-loop-left
 fill_at-fill-requires c κs =
-    let l = c.before.before.before.before in
-    let s = S l in
-    ((λ t. rw (rows_are l) (fills_served s.args.op s.requires.1.1.0 s.requires.1.0 (sym (kind l).is-filled.ensures ∙ t))), (reads c.before).there)
+    let s = S c.before.before.before.before in
+    ((λ t. rw (rows_are c.before.before.before.before) (fills_served s.args.op s.requires.1.1.0 s.requires.1.0 (sym (kind c.before.before.before.before).is_filled-filled.ensures ∙ t))), (reads c.before).there)
 
 put_row-at-requires : tie.Need-put_row-at-requires invariant-loop-left decreases-loop-left
 put_row-at-requires c κs =
-    let f = c.before.before.before in
-    let q = f.before.before in
-    let l = (inside f).before in
-    (record { inside = omega (arith, (reads q).rises, (reads q).inside); bits = (reads q).elements }, walk_room (W l) (count l) (made f) (inside f).loop-test.true (same_row f) l.loop-left.invariant.0 (roomy l _ (put_keeps (O (S l)) 0 0 (put l).put-offset.ensures)))
+    let l = (inside c.before.before.before) in
+    (record { inside = omega (arith, (reads c.before.before.before.before.before).rises, (reads c.before.before.before.before.before).inside); bits = (reads c.before.before.before.before.before).elements }, walk_room (W l) (count l) (made c.before.before.before) (inside c.before.before.before).loop-left-test.true (same_row c.before.before.before) l.loop-left.invariant.0 (roomy l _ (put_keeps (O (S l)) 0 0 (put l).put_offset.ensures)))
 
 overflow_add-r-in-loop-left : tie.Need-overflow_add-r-in-loop-left invariant-loop-left decreases-loop-left
 overflow_add-r-in-loop-left c = let i = inside (read (written c)) in omega (arith, i, i.loop-left.invariant.0.rows, i.loop-left-test.true)
@@ -164,12 +157,12 @@ put_offset-requires-in-loop-left : tie.Need-put_offset-requires-in-loop-left inv
 put_offset-requires-in-loop-left c κs =
     let w = written c in
     let f = read (written c) in
-    let l = (inside f).before in
-    let k = walk_small (W l) (count l) (made f) (inside f).loop-test.taken (same_row f) l.loop-left.invariant.0 w.put_row-at.ensures in
-    (walk_slot (W l) (count l) (made f) (inside f).loop-test.taken (same_row f) l.loop-left.invariant.0 (roomy l _ (put_keeps (O (S l)) 0 0 (put l).put-offset.ensures)), omega (arith, (S l).pre.1.1.1.0, rw (all_rows l) at k))
+    let l = (inside f) in
+    let k = walk_small (W l) (count l) (made f) (inside f).loop-left-test.true (same_row f) l.loop-left.invariant.0 w.put_row-at.ensures in
+    (walk_slot (W l) (count l) (made f) (inside f).loop-left-test.true (same_row f) l.loop-left.invariant.0 (roomy l _ (put_keeps (O (S l)) 0 0 (put l).put_offset.ensures)), omega (arith, (S l).requires.1.1.1.0, rw (all_rows l) at k))
 
-overflow_add-r : tie.Need-overflow_add-r invariant-loop-left decreases-loop-left
-overflow_add-r c = let i = inside (read (turned c)) in omega (arith, i, i.loop-left.invariant.0.rows, i.loop-left-test.true)
+overflow_add-r-in-loop-left-2 : tie.Need-overflow_add-r-in-loop-left-2 invariant-loop-left decreases-loop-left
+overflow_add-r-in-loop-left-2 c = let i = inside (read (turned c)) in omega (arith, i, i.loop-left.invariant.0.rows, i.loop-left-test.true)
 
 overflow_sub-left : tie.Need-overflow_sub-left invariant-loop-left decreases-loop-left
 overflow_sub-left c = omega (arith, (inside (read (turned c))).loop-left-test.true)
@@ -181,11 +174,11 @@ loop-left-preserved : tie.Need-loop-left-preserved invariant-loop-left decreases
 loop-left-preserved c =
     let w = turned c in
     let f = read (turned c) in
-    let l = (inside f).before in
-    (walk_more (W l) (count l) (made f) (inside f).loop-test.taken (same_row f) l.loop-left.invariant.0 w.put_row-at.ensures c.put_offset-in-loop-left.ensures, c.put_offset-in-loop-left.auto.narrow ∙ l.loop-left.invariant.1, c.put_offset-in-loop-left.auto.wide ∙ l.loop-left.invariant.2)
+    let l = (inside f) in
+    (walk_more (W l) (count l) (made f) (inside f).loop-left-test.true (same_row f) l.loop-left.invariant.0 w.put_row-at.ensures c.put_offset-in-loop-left.ensures, c.put_offset-in-loop-left.auto.narrow ∙ l.loop-left.invariant.1, c.put_offset-in-loop-left.auto.wide ∙ l.loop-left.invariant.2)
 
 shape_of-out_offsets : tie.Need-shape_of-out_offsets invariant-loop-left decreases-loop-left
-shape_of-out_offsets c = c.loop-left.invariant.1 ∙ (put c.before).put-offset.kept.1.0
+shape_of-out_offsets c = c.loop-left.invariant.1 ∙ (put c.before).put_offset.kept.1.0
 
 shape_of-out_rows : tie.Need-shape_of-out_rows invariant-loop-left decreases-loop-left
 shape_of-out_rows c = c.loop-left.invariant.0.lr
@@ -197,15 +190,11 @@ shape_of-out_elements : tie.Need-shape_of-out_elements invariant-loop-left decre
 shape_of-out_elements c = c.loop-left.invariant.0.le
 
 shape_of-out_large : tie.Need-shape_of-out_large invariant-loop-left decreases-loop-left
-shape_of-out_large c = c.loop-left.invariant.2 ∙ (put c.before).put-offset.kept.1.1.0
+shape_of-out_large c = c.loop-left.invariant.2 ∙ (put c.before).put_offset.kept.1.1.0
 
 returns : tie.Need-returns invariant-loop-left decreases-loop-left
 returns c =
-    let l = c.before in
-    rw (← all_rows l) (walk_done (W l) (count l) (O (S l)) l.loop-left.invariant.0 (omega (arith, c.loop-left-test.false)) (put l).put-offset.ensures (roomy l _ refl))
-
-overflow_add-r-in-loop-left-2 : tie.Need-overflow_add-r-in-loop-left-2 invariant-loop-left decreases-loop-left
-overflow_add-r-in-loop-left-2 c = search rules
+    rw (← all_rows c.before) (walk_done (W c.before) (count c.before) (O (S c.before)) c.loop-left.invariant.0 (omega (arith, c.loop-left-test.false)) (put c.before).put_offset.ensures (roomy c.before _ refl))
 
 pub write_rows_spec : {M : Type 1} → statement M
 write_rows_spec =

@@ -14,14 +14,14 @@ enum_told-1 c = search
 
 write_backward-requires : tie.Need-write_backward-requires
 unfolding unary_elems
-write_backward-requires c κs = let s = c.before.before.before.before.before.before in (s.requires.0, rw c.in-Reverse.is at s.requires.1)
+write_backward-requires c κs = (c.requires.0, rw c.in-Reverse.is at c.requires.1)
 
 enum_told-in-Distinct : tie.Need-enum_told-in-Distinct
 enum_told-in-Distinct c = search
 
 write_distinct-requires : tie.Need-write_distinct-requires
 unfolding unary_elems
-write_distinct-requires c κs = let s = c.before.before.before.before.before.before in (s.requires.0, rw c.in-Distinct.is at s.requires.1)
+write_distinct-requires c κs = (c.requires.0, rw c.in-Distinct.is at c.requires.1)
 
 enum_told-in-PopFront : tie.Need-enum_told-in-PopFront
 enum_told-in-PopFront c = search
@@ -34,20 +34,18 @@ overflow_add-a c = omega (arith, c.requires.0.inside, c.one_less-k.ensures)
 
 write_forward-requires : tie.Need-write_forward-requires
 write_forward-requires c κs =
-    let s = c.before.before.before.before.before.before in
-    let a = s.args in
-    let p = rw (c.in-PopFront.is, pop_front (elem_at a.values.now (from a.estart a.elements.now)) a.a a.n, ← c.one_less-k.ensures) at s.requires.1 in
-    (record { inside = omega (arith, s.requires.0.inside, c.one_less-k.ensures); bits = s.requires.0.bits }, p)
+    let a = c.args in
+    let p = rw (c.in-PopFront.is, pop_front (elem_at a.values.now (from a.estart a.elements.now)) a.a a.n, ← c.one_less-k.ensures) at c.requires.1 in
+    (record { inside = omega (arith, c.requires.0.inside, c.one_less-k.ensures); bits = c.requires.0.bits }, p)
 
 enum_told-in-PopBack : tie.Need-enum_told-in-PopBack
 enum_told-in-PopBack c = search
 
 write_forward-requires-in-PopBack : tie.Need-write_forward-requires-in-PopBack
 write_forward-requires-in-PopBack c κs =
-    let s = c.before.before.before.before.before.before in
-    let a = s.args in
-    let p = rw (c.in-PopBack.is, pop_back (elem_at a.values.now (from a.estart a.elements.now)) a.a a.n, ← c.one_less-k.ensures) at s.requires.1 in
-    (record { inside = omega (arith, s.requires.0.inside, c.one_less-k.ensures); bits = s.requires.0.bits }, p)
+    let a = c.args in
+    let p = rw (c.in-PopBack.is, pop_back (elem_at a.values.now (from a.estart a.elements.now)) a.a a.n, ← c.one_less-k.ensures) at c.requires.1 in
+    (record { inside = omega (arith, c.requires.0.inside, c.one_less-k.ensures); bits = c.requires.0.bits }, p)
 
 shape_of-out_values-in-Reverse : tie.Need-shape_of-out_values-in-Reverse
 shape_of-out_values-in-Reverse c = search

@@ -15,8 +15,7 @@ shape_of-bitmap-then-last-eq0 c = search
 
 returns-then-last-eq0 : tie.Need-returns-then-last-eq0
 returns-then-last-eq0 c =
-    let s = c.before.before.before.before.before.before.before in
-    rw (c.put_bytes.ensures, c.byte_of.ensures) (bytes_only s.args.on s.args.n _ s.args.k (omega (arith, s.requires)) c.if-last-eq0.true)
+    rw (c.put_bytes.ensures, c.byte_of.ensures) (bytes_only c.args.on c.args.n _ c.args.k (omega (arith, c.requires)) c.if-last-eq0.true)
 
 low_bits-byte-requires : tie.Need-low_bits-byte-requires
 low_bits-byte-requires c κs = search rules
@@ -32,8 +31,7 @@ shape_of-bitmap c = search rules
 
 returns : tie.Need-returns
 returns c =
-    let s = c.before.before.before.before.before.before.before.before in
-    rw (c.put_bytes.ensures, c.byte_of.ensures, c.low_bits-byte.ensures) (bytes_then s.args.on s.args.n _ s.args.k (omega (arith, s.requires, c.if-last-eq0.false)) c.if-last-eq0.false)
+    rw (c.put_bytes.ensures, c.byte_of.ensures, c.low_bits-byte.ensures) (bytes_then c.args.on c.args.n _ c.args.k (omega (arith, c.requires, c.if-last-eq0.false)) c.if-last-eq0.false)
 
 pub push_bytes_spec : {M : Type 1} → statement M
 push_bytes_spec =

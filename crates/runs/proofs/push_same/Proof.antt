@@ -16,9 +16,8 @@ shape_of-bitmap-then-at-eq0 c = search
 
 returns-then-at-eq0 : tie.Need-returns-then-at-eq0
 returns-then-at-eq0 c =
-    let s = c.before.before.before.before.before.before in
-    let e : 8 * (s.args.at / 8) ≡ s.args.at = omega (arith, c.if-at-eq0.true) in
-    c.push_bytes.ensures ∙ ap (λ (r : ℕ). push_bits s.args.bitmap.now r (replicate s.args.n s.args.on)) e
+    let e : 8 * (c.args.at / 8) ≡ c.args.at = omega (arith, c.if-at-eq0.true) in
+    c.push_bytes.ensures ∙ ap (λ (r : ℕ). push_bits c.args.bitmap.now r (replicate c.args.n c.args.on)) e
 
 overflow_sub-gap : tie.Need-overflow_sub-gap
 overflow_sub-gap c = search rules
@@ -49,9 +48,8 @@ shape_of-bitmap c = search
 
 returns : tie.Need-returns
 returns c =
-    let s = c.before.before.before.before.before.before.before.before.before.before.before in
-    let e : 8 * (s.args.at / 8 + 1) ≡ s.args.at + (8 - s.args.at % 8) = omega (arith, c.if-at-eq0.false) in
-    rw (c.push_bytes-2.ensures, c.push_within-2.ensures) (push_then s.args.on _ s.args.at s.args.n (8 - s.args.at % 8) (s.args.at / 8 + 1) e (omega (arith, c.before.before.before.before.before.before.before.before)))
+    let e : 8 * (c.args.at / 8 + 1) ≡ c.args.at + (8 - c.args.at % 8) = omega (arith, c.if-at-eq0.false) in
+    rw (c.push_bytes-2.ensures, c.push_within-2.ensures) (push_then c.args.on _ c.args.at c.args.n (8 - c.args.at % 8) (c.args.at / 8 + 1) e (omega (arith, c)))
 
 pub push_same_spec : {M : Type 1} → statement M
 push_same_spec =

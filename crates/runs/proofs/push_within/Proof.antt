@@ -31,11 +31,10 @@ shape_of-bitmap c = search rules
 
 returns-then-on : tie.Need-returns-then-on
 returns-then-on c =
-    let s = c.before.before.before.before in
-    rw (c.if-on.true, c.low_ones-ones.ensures, shifted s) (sym (ones_within s.args.m _ s.args.i s.requires.1.1 s.requires.0 s.requires.1.0))
+    rw (c.if-on.true, c.low_ones-ones.ensures, shifted c.before.before.before.before) (sym (ones_within c.args.m _ c.args.i c.requires.1.1 c.requires.0 c.requires.1.0))
 
 returns-else-on : tie.Need-returns-else-on
-returns-else-on c = let s = c.before.before in rw c.if-on.false (sym (zeros_within s.args.m _ s.args.i s.requires.0 s.requires.1.0))
+returns-else-on c = rw c.if-on.false (sym (zeros_within c.args.m _ c.args.i c.requires.0 c.requires.1.0))
 
 pub push_within_spec : {M : Type 1} → statement M
 push_within_spec =

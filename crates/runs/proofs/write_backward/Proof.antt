@@ -21,7 +21,7 @@ push_same-requires : tie.Need-push_same-requires
 push_same-requires c κs = (many c.before.before.before.before.before.before).1
 
 overflow_add-result : tie.Need-overflow_add-result
-overflow_add-result c = let m = many c.before.before.before.before.before.before.before.before.before in omega (arith, c.before.before.before.before.before.before.before.before.before)
+overflow_add-result c = let m = many c.before.before.before.before.before.before.before.before.before in omega (arith, c)
 
 shape_of-out_values : tie.Need-shape_of-out_values
 shape_of-out_values c = search
@@ -30,7 +30,7 @@ shape_of-out_elements : tie.Need-shape_of-out_elements
 shape_of-out_elements c = search
 
 returns : tie.Need-returns
-returns c = let s = c.before.before.before.before.before.before.before.before.before in backward_written s.args.values.now (from s.args.estart s.args.elements.now) s.requires.1.1 s.args.a s.args.n s.args.at c.copy_backward.ensures c.push_same.ensures
+returns c = backward_written c.args.values.now (from c.args.estart c.args.elements.now) c.requires.1.1 c.args.a c.args.n c.args.at c.copy_backward.ensures c.push_same.ensures
 
 pub write_backward_spec : {M : Type 1} → statement M
 write_backward_spec =

@@ -21,7 +21,7 @@ push_same-requires : tie.Need-push_same-requires
 push_same-requires c κs = (many c.before.before.before.before.before).1
 
 overflow_add-result : tie.Need-overflow_add-result
-overflow_add-result c = let m = many c.before.before.before.before.before.before.before.before in omega (arith, c.before.before.before.before.before.before.before.before)
+overflow_add-result c = let m = many c.before.before.before.before.before.before.before.before in omega (arith, c)
 
 shape_of-out_values : tie.Need-shape_of-out_values
 shape_of-out_values c = search
@@ -31,7 +31,7 @@ shape_of-out_elements c = search
 
 returns : tie.Need-returns
 unfolding is_val value_of
-returns c = let s = c.before.before.before.before.before.before.before.before in same_written nul s.args.n s.args.at c.fill_values.ensures c.push_same.ensures
+returns c = same_written nul c.args.n c.args.at c.fill_values.ensures c.push_same.ensures
 
 pub write_null_spec : {M : Type 1} → statement M
 write_null_spec =

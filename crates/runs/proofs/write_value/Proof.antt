@@ -22,7 +22,7 @@ push_same-requires : tie.Need-push_same-requires
 push_same-requires c κs = (many c.before.before.before.before.before).1
 
 overflow_add-result : tie.Need-overflow_add-result
-overflow_add-result c = let m = many c.before.before.before.before.before.before.before.before in omega (arith, c.before.before.before.before.before.before.before.before)
+overflow_add-result c = let m = many c.before.before.before.before.before.before.before.before in omega (arith, c)
 
 shape_of-out_values : tie.Need-shape_of-out_values
 shape_of-out_values c = search
@@ -32,7 +32,7 @@ shape_of-out_elements c = search
 
 returns : tie.Need-returns
 unfolding is_val value_of
-returns c = let s = c.before.before.before.before.before.before.before.before in same_written (val s.args.v) s.args.n s.args.at (rw (back64 _ s.ranges.v.sfits) at c.fill_values.ensures) c.push_same.ensures
+returns c = same_written (val c.args.v) c.args.n c.args.at (rw (back64 _ c.ranges.v.sfits) at c.fill_values.ensures) c.push_same.ensures
 
 pub write_value_spec : {M : Type 1} → statement M
 write_value_spec =

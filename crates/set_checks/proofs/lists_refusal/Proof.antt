@@ -22,9 +22,7 @@ earlier-requires c κs = search
 
 returns : tie.Need-returns
 returns c =
-    let f = c.before.before in
-    let s = f.before.before.before.before.before in
-    rw (← of_both (C s) (D s), ← f.list_refusal-left.ensures, ← c.list_refusal-right.ensures) c.earlier.ensures
+    rw (← of_both (C c.before.before.before.before.before.before.before) (D c.before.before.before.before.before.before.before), ← c.list_refusal-left.ensures, ← c.list_refusal-right.ensures) c.earlier.ensures
 
 pub lists_refusal_spec : {M : Type 1} → statement M
 lists_refusal_spec =

@@ -38,33 +38,29 @@ same_value-requires c κs = tt
 
 returns-then-same_value : tie.Need-returns-then-same_value invariant-loop-r decreases-loop-r
 returns-then-same_value c =
-    let i = c.before.before.before in
-    let l = i.loop-r in
-    let s = i.before.before.before in
-    let a = s.args in
+    let l = c.loop-r in
+    let a = c.args in
     let e = rw (back64 (get_or a.values.now (a.a + l.r) (pos 0)) c.same_value-arg-1.given) at c.same_value.ensures in
-    rw (back64 _ s.ranges.v.sfits) at (before_found (to_z w64 (of_z w64 a.v)) a.values.now a.a a.k l.r i.loop-r-test.true l.invariant.0 (sym e ∙ c.if-same_value.true))
+    rw (back64 _ c.ranges.v.sfits) at (before_found (to_z w64 (of_z w64 a.v)) a.values.now a.a a.k l.r c.loop-r-test.true l.invariant.0 (sym e ∙ c.if-same_value.true))
 
 overflow_add-r : tie.Need-overflow_add-r invariant-loop-r decreases-loop-r
-overflow_add-r c = omega (arith, c.before.before.before)
+overflow_add-r c = omega (arith, c)
 
 loop-r-smaller : tie.Need-loop-r-smaller invariant-loop-r decreases-loop-r
-loop-r-smaller c = omega (arith, c.before.before.before)
+loop-r-smaller c = omega (arith, c)
 
 loop-r-preserved : tie.Need-loop-r-preserved invariant-loop-r decreases-loop-r
 loop-r-preserved c =
-    let i = c.before.before.before in
-    let l = i.loop-r in
-    let a = i.args in
+    let l = c.loop-r in
+    let a = c.args in
     let e = rw (back64 (get_or a.values.now (a.a + l.r) (pos 0)) c.same_value-arg-1.given) at c.same_value.ensures in
-    (one-more_value (to_z w64 (of_z w64 a.v)) a.values.now a.a l.r l.invariant.0 (sym e ∙ c.if-same_value.false), omega (arith, i))
+    (one-more_value (to_z w64 (of_z w64 a.v)) a.values.now a.a l.r l.invariant.0 (sym e ∙ c.if-same_value.false), omega (arith, c))
 
 returns : tie.Need-returns invariant-loop-r decreases-loop-r
 returns c =
     let l = c.loop-r in
-    let s = c.before.before.before in
-    let a = s.args in
-    rw (back64 _ s.ranges.v.sfits) at (before_none (to_z w64 (of_z w64 a.v)) a.values.now a.a a.k l.r l.invariant.1 c.loop-r-test.false l.invariant.0)
+    let a = c.args in
+    rw (back64 _ c.ranges.v.sfits) at (before_none (to_z w64 (of_z w64 a.v)) a.values.now a.a a.k l.r l.invariant.1 c.loop-r-test.false l.invariant.0)
 
 pub before_value_spec : {M : Type 1} → statement M
 before_value_spec =

@@ -34,16 +34,16 @@ returns-then-is_one_of_four c =
     (l.invariant.1, rw (back64 _ c.ranges.v.sfits) at l.invariant.0)
 
 overflow_add-r : tie.Need-overflow_add-r invariant-loop-r decreases-loop-r
-overflow_add-r c = omega (arith, c.before.before)
+overflow_add-r c = omega (arith, c)
 
 loop-r-smaller : tie.Need-loop-r-smaller invariant-loop-r decreases-loop-r
-loop-r-smaller c = omega (arith, c.before.before)
+loop-r-smaller c = omega (arith, c)
 
 loop-r-preserved : tie.Need-loop-r-preserved invariant-loop-r decreases-loop-r
 loop-r-preserved c =
     let l = c.loop-r in
     let a = c.args in
-    (more-values (to_z w64 (of_z w64 a.v)) a.values.now a.a l.r 4 l.invariant.0 (rw (← c.is_one_of_four.ensures) c.if-is_one_of_four.false), omega (arith, c.before.before))
+    (more-values (to_z w64 (of_z w64 a.v)) a.values.now a.a l.r 4 l.invariant.0 (rw (← c.is_one_of_four.ensures) c.if-is_one_of_four.false), omega (arith, c))
 
 returns : tie.Need-returns invariant-loop-r decreases-loop-r
 returns c =

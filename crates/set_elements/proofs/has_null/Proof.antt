@@ -28,30 +28,28 @@ loop-left-init : tie.Need-loop-left-init invariant-loop-left decreases-loop-left
 loop-left-init c = (refl, refl)
 
 is_valid-requires : tie.Need-is_valid-requires invariant-loop-left decreases-loop-left
-is_valid-requires c κs = let s = c.before.before.before.before in (s.requires.1, omega (arith, s.requires.0))
+is_valid-requires c κs = (c.requires.1, omega (arith, c.requires.0))
 
 returns-then-not-is_valid : tie.Need-returns-then-not-is_valid invariant-loop-left decreases-loop-left
 returns-then-not-is_valid c =
-    let i = c.before.before in
-    let l = i.loop-left in
-    let a = i.args in
-    sym (null_first a.others.now (from a.ostart a.oelements.now) l.p l.left i.loop-left-test.true (sym c.is_valid.ensures ∙ not-true _ c.if-not-is_valid.true)) ∙ l.invariant.0
+    let l = c.loop-left in
+    let a = c.args in
+    sym (null_first a.others.now (from a.ostart a.oelements.now) l.p l.left c.loop-left-test.true (sym c.is_valid.ensures ∙ not-true _ c.if-not-is_valid.true-raw)) ∙ l.invariant.0
 
 overflow_add-p : tie.Need-overflow_add-p invariant-loop-left decreases-loop-left
-overflow_add-p c = omega (arith, c.before.before, c.requires.0)
+overflow_add-p c = omega (arith, c, c.requires.0)
 
 overflow_sub-left : tie.Need-overflow_sub-left invariant-loop-left decreases-loop-left
-overflow_sub-left c = omega (arith, c.before.before)
+overflow_sub-left c = omega (arith, c)
 
 loop-left-smaller : tie.Need-loop-left-smaller invariant-loop-left decreases-loop-left
-loop-left-smaller c = omega (arith, c.before.before)
+loop-left-smaller c = omega (arith, c)
 
 loop-left-preserved : tie.Need-loop-left-preserved invariant-loop-left decreases-loop-left
 loop-left-preserved c =
-    let i = c.before.before in
-    let l = i.loop-left in
-    let a = i.args in
-    (sym (valid_first a.others.now (from a.ostart a.oelements.now) l.p l.left i.loop-left-test.true (sym c.is_valid.ensures ∙ not-false _ c.if-not-is_valid.false)) ∙ l.invariant.0, omega (arith, i))
+    let l = c.loop-left in
+    let a = c.args in
+    (sym (valid_first a.others.now (from a.ostart a.oelements.now) l.p l.left c.loop-left-test.true (sym c.is_valid.ensures ∙ not-false _ c.if-not-is_valid.false-raw)) ∙ l.invariant.0, omega (arith, c))
 
 returns : tie.Need-returns invariant-loop-left decreases-loop-left
 returns c =

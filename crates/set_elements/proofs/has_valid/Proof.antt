@@ -30,66 +30,58 @@ before_value-run-requires c κs = omega (arith, c.requires.0)
 returns-then-left-run : tie.Need-returns-then-left-run invariant-loop-left decreases-loop-left
 returns-then-left-run c =
     let l = c.loop-left in
-    let s = c.before.before.before.before.before in
-    let a = s.args in
-    rw (back64 _ s.ranges.v.sfits) at
+    let a = c.args in
+    rw (back64 _ c.ranges.v.sfits) at
     (sym (not_found (to_z w64 (of_z w64 a.v)) a.others.now (from a.ostart a.oelements.now) l.p l.left _ c.before_value-run.ensures c.if-left-run.true) ∙ l.invariant.0)
 
 overflow_add-p : tie.Need-overflow_add-p invariant-loop-left decreases-loop-left
-overflow_add-p c = omega (arith, c, c.before.before, c.requires.0)
+overflow_add-p c = omega (arith, c, c, c.requires.0)
 
 is_valid-requires : tie.Need-is_valid-requires invariant-loop-left decreases-loop-left
-is_valid-requires c κs = let s = c.before.before.before.before.before in (s.requires.1, omega (arith, c, c.before.before, s.requires.0))
+is_valid-requires c κs = (c.requires.1, omega (arith, c, c, c.requires.0))
 
 returns-then-is_valid : tie.Need-returns-then-is_valid invariant-loop-left decreases-loop-left
 returns-then-is_valid c =
-    let t = c.before.before in
-    let l = t.loop-left in
-    let s = t.before.before.before.before.before in
-    let a = s.args in
-    rw (back64 _ s.ranges.v.sfits) at
+    let l = c.loop-left in
+    let a = c.args in
+    rw (back64 _ c.ranges.v.sfits) at
     (sym
-    (found_valid (to_z w64 (of_z w64 a.v)) a.others.now (from a.ostart a.oelements.now) l.p l.left _ t.before_value-run.ensures t.if-left-run.false
+    (found_valid (to_z w64 (of_z w64 a.v)) a.others.now (from a.ostart a.oelements.now) l.p l.left _ c.before_value-run.ensures c.if-left-run.false
     (sym c.is_valid.ensures ∙ c.if-is_valid.true))
     ∙ l.invariant.0)
 
-overflow_add-p : tie.Need-overflow_add-p invariant-loop-left decreases-loop-left
-overflow_add-p c = omega (arith, c.before.before, c.before.before.before.before)
+overflow_add-p-in-loop-left : tie.Need-overflow_add-p-in-loop-left invariant-loop-left decreases-loop-left
+overflow_add-p-in-loop-left c = omega (arith, c, c)
 
 overflow_add-p-in-loop-left-2 : tie.Need-overflow_add-p-in-loop-left-2 invariant-loop-left decreases-loop-left
-overflow_add-p-in-loop-left-2 c = let t = c.before.before in omega (arith, t, t.before.before, t.requires.0)
+overflow_add-p-in-loop-left-2 c = omega (arith, c, c, c.requires.0)
 
 overflow_add-left : tie.Need-overflow_add-left invariant-loop-left decreases-loop-left
-overflow_add-left c = omega (arith, c.before.before, c.before.before.before.before)
+overflow_add-left c = omega (arith, c, c)
 
 overflow_sub-left : tie.Need-overflow_sub-left invariant-loop-left decreases-loop-left
-overflow_sub-left c = omega (arith, c.before.before, c.before.before.before.before)
+overflow_sub-left c = omega (arith, c, c)
 
 loop-left-smaller : tie.Need-loop-left-smaller invariant-loop-left decreases-loop-left
-loop-left-smaller c = omega (arith, c.before.before, c.before.before.before.before)
+loop-left-smaller c = omega (arith, c, c)
 
 loop-left-preserved : tie.Need-loop-left-preserved invariant-loop-left decreases-loop-left
 loop-left-preserved c =
-    let t = c.before.before in
-    let l = t.loop-left in
-    let a = t.args in (
+    let l = c.loop-left in
+    let a = c.args in (
       sym
-          (found_null (to_z w64 (of_z w64 a.v)) a.others.now (from a.ostart a.oelements.now) l.p l.left _ t.before_value-run.ensures t.if-left-run.false
+          (found_null (to_z w64 (of_z w64 a.v)) a.others.now (from a.ostart a.oelements.now) l.p l.left _ c.before_value-run.ensures c.if-left-run.false
           (sym c.is_valid.ensures ∙ c.if-is_valid.false))
           ∙ l.invariant.0,
-      omega (arith, t, t.before.before),
+      omega (arith, c, c),
     )
 
 returns : tie.Need-returns invariant-loop-left decreases-loop-left
 returns c =
     let l = c.loop-left in
-    let s = c.before.before.before in
-    let a = s.args in
-    rw (back64 _ s.ranges.v.sfits) at
+    let a = c.args in
+    rw (back64 _ c.ranges.v.sfits) at
     (sym (is_in-none (val (to_z w64 (of_z w64 a.v))) (elem_at a.others.now (from a.ostart a.oelements.now)) l.p l.left c.loop-left-test.false) ∙ l.invariant.0)
-
-overflow_add-p-in-loop-left : tie.Need-overflow_add-p-in-loop-left invariant-loop-left decreases-loop-left
-overflow_add-p-in-loop-left c = search rules
 
 pub has_valid_spec : {M : Type 1} → statement M
 has_valid_spec =

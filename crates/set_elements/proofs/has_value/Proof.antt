@@ -24,26 +24,24 @@ is_one_of_four-requires c κs = omega (arith, c.requires)
 
 returns-then-is_one_of_four : tie.Need-returns-then-is_one_of_four invariant-loop-left decreases-loop-left
 returns-then-is_one_of_four c =
-    let i = c.before.before in
-    let l = i.loop-left in
-    let a = i.args in
-    rw (back64 _ i.ranges.v.sfits) at (sym (rw (← c.is_one_of_four.ensures, c.if-is_one_of_four.true) at (is_in_split (val (to_z w64 (of_z w64 a.v))) (plain a.values.now) l.p 4 l.left i.loop-left-test.true)) ∙ l.invariant.0)
+    let l = c.loop-left in
+    let a = c.args in
+    rw (back64 _ c.ranges.v.sfits) at (sym (rw (← c.is_one_of_four.ensures, c.if-is_one_of_four.true) at (is_in_split (val (to_z w64 (of_z w64 a.v))) (plain a.values.now) l.p 4 l.left c.loop-left-test.true)) ∙ l.invariant.0)
 
 overflow_add-p : tie.Need-overflow_add-p invariant-loop-left decreases-loop-left
-overflow_add-p c = omega (arith, c.before.before, c.requires)
+overflow_add-p c = omega (arith, c, c.requires)
 
 overflow_sub-left : tie.Need-overflow_sub-left invariant-loop-left decreases-loop-left
-overflow_sub-left c = omega (arith, c.before.before)
+overflow_sub-left c = omega (arith, c)
 
 loop-left-smaller : tie.Need-loop-left-smaller invariant-loop-left decreases-loop-left
-loop-left-smaller c = omega (arith, c.before.before)
+loop-left-smaller c = omega (arith, c)
 
 loop-left-preserved : tie.Need-loop-left-preserved invariant-loop-left decreases-loop-left
 loop-left-preserved c =
-    let i = c.before.before in
-    let l = i.loop-left in
-    let a = i.args in
-    (sym (rw (← c.is_one_of_four.ensures, c.if-is_one_of_four.false) at (is_in_split (val (to_z w64 (of_z w64 a.v))) (plain a.values.now) l.p 4 l.left i.loop-left-test.true)) ∙ l.invariant.0, omega (arith, i))
+    let l = c.loop-left in
+    let a = c.args in
+    (sym (rw (← c.is_one_of_four.ensures, c.if-is_one_of_four.false) at (is_in_split (val (to_z w64 (of_z w64 a.v))) (plain a.values.now) l.p 4 l.left c.loop-left-test.true)) ∙ l.invariant.0, omega (arith, c))
 
 has_value_singly-requires : tie.Need-has_value_singly-requires invariant-loop-left decreases-loop-left
 has_value_singly-requires c κs = omega (arith, c.requires)

@@ -34,29 +34,27 @@ same_value-requires c κs = tt
 returns-then-same_value : tie.Need-returns-then-same_value invariant-loop-left decreases-loop-left
 unfolding same_elem
 returns-then-same_value c =
-    let i = c.before.before.before in
-    let l = i.loop-left in
-    let a = i.args in
+    let l = c.loop-left in
+    let a = c.args in
     let e = rw (back64 (get_or a.values.now l.p (pos 0)) c.same_value-arg-1.given) at c.same_value.ensures in
-    rw (back64 _ i.ranges.v.sfits) at (sym (rw (← e, c.if-same_value.true) at (is_in-step (val (to_z w64 (of_z w64 a.v))) (plain a.values.now) l.p l.left i.loop-left-test.true)) ∙ l.invariant.0)
+    rw (back64 _ c.ranges.v.sfits) at (sym (rw (← e, c.if-same_value.true) at (is_in-step (val (to_z w64 (of_z w64 a.v))) (plain a.values.now) l.p l.left c.loop-left-test.true)) ∙ l.invariant.0)
 
 overflow_add-p : tie.Need-overflow_add-p invariant-loop-left decreases-loop-left
-overflow_add-p c = omega (arith, c.before.before.before, c.requires)
+overflow_add-p c = omega (arith, c, c.requires)
 
 overflow_sub-left : tie.Need-overflow_sub-left invariant-loop-left decreases-loop-left
-overflow_sub-left c = omega (arith, c.before.before.before)
+overflow_sub-left c = omega (arith, c)
 
 loop-left-smaller : tie.Need-loop-left-smaller invariant-loop-left decreases-loop-left
-loop-left-smaller c = omega (arith, c.before.before.before)
+loop-left-smaller c = omega (arith, c)
 
 loop-left-preserved : tie.Need-loop-left-preserved invariant-loop-left decreases-loop-left
 unfolding same_elem
 loop-left-preserved c =
-    let i = c.before.before.before in
-    let l = i.loop-left in
-    let a = i.args in
+    let l = c.loop-left in
+    let a = c.args in
     let e = rw (back64 (get_or a.values.now l.p (pos 0)) c.same_value-arg-1.given) at c.same_value.ensures in
-    (sym (rw (← e, c.if-same_value.false) at (is_in-step (val (to_z w64 (of_z w64 a.v))) (plain a.values.now) l.p l.left i.loop-left-test.true)) ∙ l.invariant.0, omega (arith, i))
+    (sym (rw (← e, c.if-same_value.false) at (is_in-step (val (to_z w64 (of_z w64 a.v))) (plain a.values.now) l.p l.left c.loop-left-test.true)) ∙ l.invariant.0, omega (arith, c))
 
 returns : tie.Need-returns invariant-loop-left decreases-loop-left
 returns c =

@@ -50,10 +50,9 @@ bounds-values-p-4 c = search rules
 returns : tie.Need-returns
 unfolding same_elem
 returns c =
-    let s = c.before.before.before.before in
-    let same : (x : ℤ) → mag x < 2 ^ 63 → eqb (of_z w64 s.args.v) (of_z w64 x) ≡ eq_z s.args.v x = λ x g. eq_bits s.args.v x s.ranges.v (record { sfits = g }) in
+    let same : (x : ℤ) → mag x < 2 ^ 63 → eqb (of_z w64 c.args.v) (of_z w64 x) ≡ eq_z c.args.v x = λ x g. eq_bits c.args.v x c.ranges.v (record { sfits = g }) in
     rw (same _ c.result-1.given, same _ c.result-2-1.given, same _ c.result-3-1.given, same _ c.result-4-1.given)
-    (is_in_four (val s.args.v) (plain s.args.values.now) s.args.p)
+    (is_in_four (val c.args.v) (plain c.args.values.now) c.args.p)
 
 pub is_one_of_four_spec : {M : Type 1} → statement M
 is_one_of_four_spec =

@@ -30,16 +30,13 @@ same_value-requires c κs = search
 returns-then-is_valid-2 : tie.Need-returns-then-is_valid-2
 unfolding same_elem
 returns-then-is_valid-2 c =
-    let t = c.before.before.before in
-    let f = t.before.before in
-    rw (elem_valid _ _ _ (sym f.is_valid.ensures ∙ f.if-is_valid.true), elem_valid _ _ _ (sym t.is_valid-then-is_valid.ensures ∙ t.if-is_valid-2.true))
+    rw (elem_valid _ _ _ (sym c.is_valid.ensures ∙ c.if-is_valid.true), elem_valid _ _ _ (sym c.is_valid-then-is_valid.ensures ∙ c.if-is_valid-2.true))
     (rw (back64 _ c.same_value-arg-1.given, back64 _ c.same_value-arg-then-is_valid-2-1.given) at c.same_value.ensures)
 
 returns-then-is_valid : tie.Need-returns-then-is_valid
 unfolding same_elem
 returns-then-is_valid c =
-    let f = c.before.before in
-    rw (elem_valid _ _ _ (sym f.is_valid.ensures ∙ f.if-is_valid.true), elem_null _ _ _ (sym c.is_valid-then-is_valid.ensures ∙ c.if-is_valid-2.false))
+    rw (elem_valid _ _ _ (sym c.is_valid.ensures ∙ c.if-is_valid.true), elem_null _ _ _ (sym c.is_valid-then-is_valid.ensures ∙ c.if-is_valid-2.false))
 
 is_valid-requires-2 : tie.Need-is_valid-requires-2
 is_valid-requires-2 c κs = search
@@ -47,14 +44,12 @@ is_valid-requires-2 c κs = search
 returns-then-is_valid-3 : tie.Need-returns-then-is_valid-3
 unfolding same_elem
 returns-then-is_valid-3 c =
-    let f = c.before.before in
-    rw (elem_null _ _ _ (sym f.is_valid.ensures ∙ f.if-is_valid.false), elem_valid _ _ _ (sym c.is_valid-2.ensures ∙ c.if-is_valid-3.true))
+    rw (elem_null _ _ _ (sym c.is_valid.ensures ∙ c.if-is_valid.false), elem_valid _ _ _ (sym c.is_valid-2.ensures ∙ c.if-is_valid-3.true))
 
 returns : tie.Need-returns
 unfolding same_elem
 returns c =
-    let f = c.before.before in
-    rw (elem_null _ _ _ (sym f.is_valid.ensures ∙ f.if-is_valid.false), elem_null _ _ _ (sym c.is_valid-2.ensures ∙ c.if-is_valid-3.false))
+    rw (elem_null _ _ _ (sym c.is_valid.ensures ∙ c.if-is_valid.false), elem_null _ _ _ (sym c.is_valid-2.ensures ∙ c.if-is_valid-3.false))
 
 pub same_elem_spec : {M : Type 1} → statement M
 same_elem_spec =

@@ -34,7 +34,7 @@ abbrev W : tie.Start → List Row
 W s = pair_rows s.args.op (C s) (D s)
 
 abbrev S : tie.After-union_refusal-long → tie.Start
-S u = u.before.before.before.before.before.before.before.before.before
+S u = u
 
 -- what the test for 8 found
 eight : (u : tie.After-union_refusal-long) → let s = S u in u.union_refusal-long.result ≡ union_refusal (limits_at s.args.width) s.args.op (length (flat (W s)))
@@ -63,7 +63,7 @@ room_is h =
     ∙ ap (λ (x : ℕ). fits_in (length (W s)) (length (flat (W s))) (room x (length a.out_rows.now) (length a.out_values.now) (length a.out_elements.now))) (slots h.before)
 
 roomy : (e : tie.Else-not-has_room) → let s = S e.before.before.before.before in RoomInˡ (length (W s)) (length (flat (W s))) (length (used s.args.width s.args.out_offsets.now s.args.out_large.now)) (length s.args.out_rows.now) (length s.args.out_values.now) (length s.args.out_elements.now)
-roomy e = has_room _ _ _ _ _ _ (sym (room_is e.before) ∙ not-false _ e.if-not-has_room.false)
+roomy e = has_room _ _ _ _ _ _ (sym (room_is e.before) ∙ not-false _ e.if-not-has_room.false-raw)
 
 row_count-n-requires : tie.Need-row_count-n-requires
 row_count-n-requires c κs = search
@@ -84,7 +84,7 @@ has_room-requires : tie.Need-has_room-requires
 has_room-requires c κs = search
 
 returns-then-not-has_room : tie.Need-returns-then-not-has_room
-returns-then-not-has_room c = let s = S c.before.before.before.before in list-refused 9 (goes c.before.before.before ∙ fitted_short (W s) (L s) (sym (room_is c.before) ∙ not-true _ c.if-not-has_room.true))
+returns-then-not-has_room c = let s = S c.before.before.before.before in list-refused 9 (goes c.before.before.before ∙ fitted_short (W s) (L s) (sym (room_is c.before) ∙ not-true _ c.if-not-has_room.true-raw))
 
 write_pairs-requires : tie.Need-write_pairs-requires
 write_pairs-requires c κs =
@@ -94,9 +94,8 @@ write_pairs-requires c κs =
 
 list_answer-requires : tie.Need-list_answer-requires
 list_answer-requires c κs =
-    let e = c.before.before.before.before.before.before.before.before.before.before.before.before.before.before.before in
-    let r = roomy e in
-    (omega (arith, r.rows, rows_are e.before, c.write_pairs.auto.out_rows), omega (arith, r.elements, c.measure_pairs-m.ensures.0, c.write_pairs.auto.out_elements))
+    let r = roomy c.before.before.before.before.before.before.before.before.before.before.before.before.before in
+    (omega (arith, r.rows, rows_are c.before.before.before.before.before.before.before.before.before.before.before.before.before.before, c.write_pairs.auto.out_rows), omega (arith, r.elements, c.measure_pairs-m.ensures.0, c.write_pairs.auto.out_elements))
 
 shape_of-out_offsets : tie.Need-shape_of-out_offsets
 shape_of-out_offsets c = search
@@ -115,10 +114,8 @@ shape_of-out_large c = search
 
 returns : tie.Need-returns
 returns c =
-    let e = c.before.before.before.before.before.before.before.before.before.before.before.before.before.before.before.before in
-    let h = e.before in
-    let s = S e.before.before.before.before in
-    list-made (W s) _ _ (goes c.before.before.before.before.before.before.before.before.before.before.before.before.before.before.before.before.before.before.before ∙ fitted-made (W s) (L s) (sym (room_is h) ∙ not-false _ e.if-not-has_room.false)) (rows_are h) c.measure_pairs-m.ensures.0 c.write_pairs.ensures c.list_answer.ensures
+    let s = S c.before.before.before.before.before.before.before.before.before.before.before.before.before.before.before.before.before.before in
+    list-made (W s) _ _ (goes c.before.before.before.before.before.before.before.before.before.before.before.before.before.before.before.before.before ∙ fitted-made (W s) (L s) (sym (room_is c.before.before.before.before.before.before.before.before.before.before.before.before.before.before.before) ∙ not-false _ c.if-not-has_room.false-raw)) (rows_are c.before.before.before.before.before.before.before.before.before.before.before.before.before.before.before) c.measure_pairs-m.ensures.0 c.write_pairs.ensures c.list_answer.ensures
 
 pub after_three_spec : {M : Type 1} → statement M
 after_three_spec =

@@ -20,7 +20,7 @@ abbrev D : tie.Start → Column
 D s = let a = s.args in column (used a.width a.roffsets.now a.rlarge.now) (from a.r_rstart a.rrows.now) a.rvalues.now (from a.r_estart a.relements.now)
 
 abbrev S : tie.After-lists_refusal-k → tie.Start
-S f = f.before.before.before.before.before
+S f = f
 
 -- 13, 1 and 2 do not apply
 formed : (e : tie.Else-k-ne0) → let s = S e.before in columns_refusal (C s ∷ D s ∷ []) [] ≡ 0
@@ -28,7 +28,7 @@ formed e = sym e.lists_refusal-k.ensures ∙ e.if-k-ne0.false
 
 -- 3 does not
 equal : (e : tie.Else-not-same_row_count) → let s = S e.before.before.before in row_count (D s).offsets ≡ row_count (C s).offsets
-equal e = eqb-true _ _ (sym e.same_row_count.ensures ∙ not-false _ e.if-not-same_row_count.false)
+equal e = eqb-true _ _ (sym e.same_row_count.ensures ∙ not-false _ e.if-not-same_row_count.false-raw)
 
 lists_refusal-k-requires : tie.Need-lists_refusal-k-requires
 lists_refusal-k-requires c κs = search
@@ -44,7 +44,7 @@ same_row_count-requires c κs = search
 returns-then-not-same_row_count : tie.Need-returns-then-not-same_row_count
 returns-then-not-same_row_count c =
     let s = S c.before.before.before in (
-      λ op. early_three op (C s) (D s) (formed c.before.before) (eqb-false _ _ (sym c.same_row_count.ensures ∙ not-true _ c.if-not-same_row_count.true)),
+      λ op. early_three op (C s) (D s) (formed c.before.before) (eqb-false _ _ (sym c.same_row_count.ensures ∙ not-true _ c.if-not-same_row_count.true-raw)),
       λ h. let n : ⊥ = omega (arith, h) in absurd n,
     )
 

@@ -30,7 +30,7 @@ abbrev M : tie.Start → ℕ
 M s = length (flat (pair_rows s.args.op (C s) (D s)))
 
 abbrev S : tie.After-early-k → tie.Start
-S e = e.before.before.before.before.before
+S e = e
 
 -- the early refusals have passed
 begun : (e : tie.Else-k-ne0) → let s = S e.before in Begun (C s) (D s)
@@ -71,13 +71,11 @@ lengths_for-requires c κs =
 
 returns : tie.Need-returns
 returns c =
-    let e = c.before.before in
-    let m = e.before.before in
-    let s = S m.before.before in
+    let s = S c.before.before.before.before.before.before in
     c.lengths_for.ensures
-    ∙ ap (λ (n : ℕ). made (room_for n m.measure_pairs-m.result)) c.row_count.ensures
-    ∙ ap (λ (n : ℕ). made (room_for (row_count (C s).offsets) n)) m.measure_pairs-m.ensures.0
-    ∙ sym (goes m.before ∙ gate_open _ _ (sym (eight e.before) ∙ e.if-long-ne0.false))
+    ∙ ap (λ (n : ℕ). made (room_for n c.measure_pairs-m.result)) c.row_count.ensures
+    ∙ ap (λ (n : ℕ). made (room_for (row_count (C s).offsets) n)) c.measure_pairs-m.ensures.0
+    ∙ sym (goes c.before.before.before.before.before ∙ gate_open _ _ (sym (eight c.before.before.before) ∙ c.if-long-ne0.false))
 
 pub lengths_spec : {M : Type 1} → statement M
 lengths_spec =

@@ -13,7 +13,7 @@ are_valid-requires c κs = search
 returns-then-not-are_valid : tie.Need-returns-then-not-are_valid
 returns-then-not-are_valid c =
     let a = c.args in
-    rw (elems_pair (set_elems a.op) (from a.l_rstart a.lrows.now) (from a.r_rstart a.rrows.now) (elem_at a.lvalues.now (from a.l_estart a.lelements.now)) (elem_at a.rvalues.now (from a.r_estart a.relements.now)) a.r a.a a.b a.c a.d c.are_valid.result c.are_valid.ensures, not-true c.are_valid.result c.if-not-are_valid.true)
+    rw (elems_pair (set_elems a.op) (from a.l_rstart a.lrows.now) (from a.r_rstart a.rrows.now) (elem_at a.lvalues.now (from a.l_estart a.lelements.now)) (elem_at a.rvalues.now (from a.r_estart a.relements.now)) a.r a.a a.b a.c a.d c.are_valid.result c.are_valid.ensures, not-true c.are_valid.result c.if-not-are_valid.true-raw)
 
 overflow_sub-b : tie.Need-overflow_sub-b
 overflow_sub-b c = search
@@ -23,13 +23,12 @@ overflow_sub-d c = search
 
 measure_set-requires : tie.Need-measure_set-requires
 measure_set-requires c κs =
-    let s = c.before.before.before.before.before.before in
-    (record { inside = omega (arith, s.requires.0.rises, s.requires.0.inside); bits = s.requires.0.elements }, (record { inside = omega (arith, s.requires.1.0.rises, s.requires.1.0.inside); bits = s.requires.1.0.elements }, omega (arith, s.requires.1.1.0, s.requires.1.1.1)))
+    (record { inside = omega (arith, c.requires.0.rises, c.requires.0.inside); bits = c.requires.0.elements }, (record { inside = omega (arith, c.requires.1.0.rises, c.requires.1.0.inside); bits = c.requires.1.0.elements }, omega (arith, c.requires.1.1.0, c.requires.1.1.1)))
 
 returns : tie.Need-returns
 returns c =
     let a = c.args in
-    rw (elems_pair (set_elems a.op) (from a.l_rstart a.lrows.now) (from a.r_rstart a.rrows.now) (elem_at a.lvalues.now (from a.l_estart a.lelements.now)) (elem_at a.rvalues.now (from a.r_estart a.relements.now)) a.r a.a a.b a.c a.d c.are_valid.result c.are_valid.ensures, not-false c.are_valid.result c.if-not-are_valid.false) c.measure_set.ensures
+    rw (elems_pair (set_elems a.op) (from a.l_rstart a.lrows.now) (from a.r_rstart a.rrows.now) (elem_at a.lvalues.now (from a.l_estart a.lelements.now)) (elem_at a.rvalues.now (from a.r_estart a.relements.now)) a.r a.a a.b a.c a.d c.are_valid.result c.are_valid.ensures, not-false c.are_valid.result c.if-not-are_valid.false-raw) c.measure_set.ensures
 
 pub measure_pair_spec : {M : Type 1} → statement M
 measure_pair_spec =

@@ -29,21 +29,21 @@ abbrev D : tie.Start invariant-loop-left decreases-loop-left → Column
 D s = let a = s.args in column (used a.width a.roffsets.now a.rlarge.now) (from a.r_rstart a.rrows.now) a.rvalues.now (from a.r_estart a.relements.now)
 
 abbrev S : tie.At-loop-left invariant-loop-left decreases-loop-left → tie.Start invariant-loop-left decreases-loop-left
-S l = l.before.before.before.before.before.before
+S l = l
 
 -- the pairs of rows of a turn can be read
 abbrev L : tie.After-offset_at-d invariant-loop-left decreases-loop-left → tie.At-loop-left invariant-loop-left decreases-loop-left
-L q = q.before.before.before.before.before
+L q = q
 
 lefts : (q : tie.After-offset_at-d invariant-loop-left decreases-loop-left) → let l = L q in ReadableRowˡ (C (S l)).rows l.row_count-n.result (C (S l)).values (C (S l)).elements l.loop-left.r q.offset_at-a.result q.offset_at-b.result
 lefts q =
     let l = L q in
-    between (C (S l)) l.row_count-n.result l.loop-left.r q.offset_at-a.result q.offset_at-b.result (S l).pre.0 l.row_count-n.ensures (omega (arith, q.before.before.before.before)) q.offset_at-a.ensures.0 q.offset_at-b.ensures.0
+    between (C (S l)) l.row_count-n.result l.loop-left.r q.offset_at-a.result q.offset_at-b.result (S l).requires.0 l.row_count-n.ensures (omega (arith, q)) q.offset_at-a.ensures.0 q.offset_at-b.ensures.0
 
 rights : (q : tie.After-offset_at-d invariant-loop-left decreases-loop-left) → let l = L q in ReadableRowˡ (D (S l)).rows l.row_count-n.result (D (S l)).values (D (S l)).elements l.loop-left.r q.offset_at-c.result q.offset_at-d.result
 rights q =
     let l = L q in
-    between (D (S l)) l.row_count-n.result l.loop-left.r q.offset_at-c.result q.offset_at-d.result (S l).pre.1.0 (l.row_count-n.ensures ∙ sym (S l).pre.1.1) (omega (arith, q.before.before.before.before)) q.offset_at-c.ensures.0 q.offset_at-d.ensures.0
+    between (D (S l)) l.row_count-n.result l.loop-left.r q.offset_at-c.result q.offset_at-d.result (S l).requires.1.0 (l.row_count-n.ensures ∙ sym (S l).requires.1.1) (omega (arith, q)) q.offset_at-c.ensures.0 q.offset_at-d.ensures.0
 
 row_count-n-requires : tie.Need-row_count-n-requires invariant-loop-left decreases-loop-left
 row_count-n-requires c κs = search
@@ -58,16 +58,16 @@ overflow_add-r : tie.Need-overflow_add-r invariant-loop-left decreases-loop-left
 overflow_add-r c = omega arith
 
 offset_at-b-requires : tie.Need-offset_at-b-requires invariant-loop-left decreases-loop-left
-offset_at-b-requires c κs = omega (arith, c.before)
+offset_at-b-requires c κs = omega (arith, c)
 
 offset_at-c-requires : tie.Need-offset_at-c-requires invariant-loop-left decreases-loop-left
-offset_at-c-requires c κs = omega (arith, c.before.before, (S c.before.before.before).pre.1.1)
+offset_at-c-requires c κs = omega (arith, c, (S c.before.before.before).requires.1.1)
 
 overflow_add-r-in-loop-left : tie.Need-overflow_add-r-in-loop-left invariant-loop-left decreases-loop-left
-overflow_add-r-in-loop-left c = omega (arith, c.before.before.before)
+overflow_add-r-in-loop-left c = omega (arith, c)
 
 offset_at-d-requires : tie.Need-offset_at-d-requires invariant-loop-left decreases-loop-left
-offset_at-d-requires c κs = omega (arith, c.before.before.before, (S c.before.before.before.before).pre.1.1)
+offset_at-d-requires c κs = omega (arith, c, (S c.before.before.before.before).requires.1.1)
 
 measure_pair-len-requires : tie.Need-measure_pair-len-requires invariant-loop-left decreases-loop-left
 measure_pair-len-requires c κs =
@@ -75,33 +75,32 @@ measure_pair-len-requires c κs =
     (lefts c, (rights c, (omega (arith, c.offset_at-b.ensures.1, fit), omega (arith, c.offset_at-d.ensures.1, fit))))
 
 -- the walk after one more row
-more : (m : tie.After-measure_pair-len invariant-loop-left decreases-loop-left) → let q = m.before in let l = L q in
-    Summing (pair_at (S l).args.op (C (S l)) (D (S l))) l.row_count-n.result (bound_of (S l).args.op q.offset_at-b.result q.offset_at-d.result) (bound_of (S l).args.op (limits_at (S l).args.width).offset (limits_at (S l).args.width).offset) (l.loop-left.found + m.measure_pair-len.result) (l.loop-left.r + 1) (l.loop-left.left - 1)
+more : (m : tie.After-measure_pair-len invariant-loop-left decreases-loop-left) → let l = L m.before in
+    Summing (pair_at (S l).args.op (C (S l)) (D (S l))) l.row_count-n.result (bound_of (S l).args.op m.offset_at-b.result m.offset_at-d.result) (bound_of (S l).args.op (limits_at (S l).args.width).offset (limits_at (S l).args.width).offset) (l.loop-left.found + m.measure_pair-len.result) (l.loop-left.r + 1) (l.loop-left.left - 1)
 more m =
-    let q = m.before in
-    let l = L q in
+    let l = L m.before in
     let o = (S l).args.op in
-    let a = q.offset_at-a in
-    let b = q.offset_at-b in
-    let c = q.offset_at-c in
-    let d = q.offset_at-d in
+    let a = m.offset_at-a in
+    let b = m.offset_at-b in
+    let c = m.offset_at-c in
+    let d = m.offset_at-d in
     let e = m.measure_pair-len.ensures in
-    sum_more (pair_at o (C (S l)) (D (S l))) l.row_count-n.result (bound_of o (limits_at (S l).args.width).offset (limits_at (S l).args.width).offset) m.measure_pair-len.result (bound_of o a.result c.result) (bound_of o b.result d.result) l.loop-left.invariant q.loop-left-test.true
+    sum_more (pair_at o (C (S l)) (D (S l))) l.row_count-n.result (bound_of o (limits_at (S l).args.width).offset (limits_at (S l).args.width).offset) m.measure_pair-len.result (bound_of o a.result c.result) (bound_of o b.result d.result) l.loop-left.invariant m.loop-left-test.true
     (e ∙ ap (λ (x : Row). length (elems_of x)) (same_pair (set_elems o) (C (S l)) (D (S l)) l.loop-left.r a.result b.result c.result d.result a.ensures.0 b.ensures.0 c.ensures.0 d.ensures.0))
-    (rw e (pair_le (set_elems o) (C (S l)).rows (D (S l)).rows (elem_at (C (S l)).values (C (S l)).elements) (elem_at (D (S l)).values (D (S l)).elements) l.loop-left.r a.result b.result c.result d.result _ (made_le o (elem_at (C (S l)).values (C (S l)).elements) (elem_at (D (S l)).values (D (S l)).elements) a.result b.result c.result d.result (lefts q).rises (rights q).rises)))
-    (bound_grows o (lefts q).rises (rights q).rises) (bound_same o a.ensures.0 c.ensures.0) (bound_grows o b.ensures.1 d.ensures.1)
+    (rw e (pair_le (set_elems o) (C (S l)).rows (D (S l)).rows (elem_at (C (S l)).values (C (S l)).elements) (elem_at (D (S l)).values (D (S l)).elements) l.loop-left.r a.result b.result c.result d.result _ (made_le o (elem_at (C (S l)).values (C (S l)).elements) (elem_at (D (S l)).values (D (S l)).elements) a.result b.result c.result d.result (lefts m.before).rises (rights m.before).rises)))
+    (bound_grows o (lefts m.before).rises (rights m.before).rises) (bound_same o a.ensures.0 c.ensures.0) (bound_grows o b.ensures.1 d.ensures.1)
 
 overflow_add-found : tie.Need-overflow_add-found invariant-loop-left decreases-loop-left
 overflow_add-found c = omega (arith, (more c).small, bound_small (S (L c.before)).args.op (limits-fit (S (L c.before)).args.width).offset)
 
-overflow_add-r : tie.Need-overflow_add-r invariant-loop-left decreases-loop-left
-overflow_add-r c = omega (arith, c.before.before.before.before.before)
+overflow_add-r-in-loop-left-2 : tie.Need-overflow_add-r-in-loop-left-2 invariant-loop-left decreases-loop-left
+overflow_add-r-in-loop-left-2 c = omega (arith, c)
 
 overflow_sub-left : tie.Need-overflow_sub-left invariant-loop-left decreases-loop-left
-overflow_sub-left c = omega (arith, c.before.before.before.before.before)
+overflow_sub-left c = omega (arith, c)
 
 loop-left-smaller : tie.Need-loop-left-smaller invariant-loop-left decreases-loop-left
-loop-left-smaller c = omega (arith, c.before.before.before.before.before)
+loop-left-smaller c = omega (arith, c)
 
 loop-left-preserved : tie.Need-loop-left-preserved invariant-loop-left decreases-loop-left
 loop-left-preserved c = rw (← c.offset_at-b.ensures.0, ← c.offset_at-d.ensures.0) (more c)
@@ -109,11 +108,7 @@ loop-left-preserved c = rw (← c.offset_at-b.ensures.0, ← c.offset_at-d.ensur
 returns : tie.Need-returns invariant-loop-left decreases-loop-left
 unfolding pair_rows
 returns c =
-    let l = c.before in
-    (sum_done _ _ _ l.loop-left.invariant c.loop-left-test.false ∙ rw l.row_count-n.ensures, l.loop-left.invariant.small)
-
-overflow_add-r-in-loop-left-2 : tie.Need-overflow_add-r-in-loop-left-2 invariant-loop-left decreases-loop-left
-overflow_add-r-in-loop-left-2 c = search rules
+    (sum_done _ _ _ c.loop-left.invariant c.loop-left-test.false ∙ rw c.row_count-n.ensures, c.loop-left.invariant.small)
 
 pub measure_pairs_spec : {M : Type 1} → statement M
 measure_pairs_spec =

@@ -22,7 +22,7 @@ unfolding push_bits
 returns-then-not-are_valid c =
     let a = c.args in
     let e = elems_pair (set_elems a.op) (from a.l_rstart a.lrows.now) (from a.r_rstart a.rrows.now) (elem_at a.lvalues.now (from a.l_estart a.lelements.now)) (elem_at a.rvalues.now (from a.r_estart a.relements.now)) a.r a.a a.b a.c a.d c.are_valid.result c.are_valid.ensures in
-    let f = not-true c.are_valid.result c.if-not-are_valid.true in
+    let f = not-true c.are_valid.result c.if-not-are_valid.true-raw in
     record {
       rows = rw (is_row_pair (set_elems a.op) (from a.l_rstart a.lrows.now) (from a.r_rstart a.rrows.now) (elem_at a.lvalues.now (from a.l_estart a.lelements.now)) (elem_at a.rvalues.now (from a.r_estart a.relements.now)) a.r a.a a.b a.c a.d c.are_valid.result c.are_valid.ensures, f) c.push_bit.ensures;
       values = rw (e, f);
@@ -38,11 +38,10 @@ overflow_sub-d c = search
 
 write_set-next-requires : tie.Need-write_set-next-requires
 write_set-next-requires c κs =
-    let s = c.before.before.before.before.before.before.before.before.before.before in
-    let a = s.args in
+    let a = c.args in
     let e = elems_pair (set_elems a.op) (from a.l_rstart a.lrows.now) (from a.r_rstart a.rrows.now) (elem_at a.lvalues.now (from a.l_estart a.lelements.now)) (elem_at a.rvalues.now (from a.r_estart a.relements.now)) a.r a.a a.b a.c a.d c.are_valid.result c.are_valid.ensures in
-    let f = not-false c.are_valid.result c.if-not-are_valid.false in
-    (record { inside = omega (arith, s.requires.0.rises, s.requires.0.inside); bits = s.requires.0.elements }, (record { inside = omega (arith, s.requires.1.0.rises, s.requires.1.0.inside); bits = s.requires.1.0.elements }, record { values = rw (e, f) at s.requires.1.1.values; elements = rw (e, f) at s.requires.1.1.elements }))
+    let f = not-false c.are_valid.result c.if-not-are_valid.false-raw in
+    (record { inside = omega (arith, c.requires.0.rises, c.requires.0.inside); bits = c.requires.0.elements }, (record { inside = omega (arith, c.requires.1.0.rises, c.requires.1.0.inside); bits = c.requires.1.0.elements }, record { values = rw (e, f) at c.requires.1.1.values; elements = rw (e, f) at c.requires.1.1.elements }))
 
 push_bit-requires-2 : tie.Need-push_bit-requires-2
 push_bit-requires-2 c κs = omega (arith, c.requires.1.1.rows)
@@ -60,7 +59,7 @@ returns : tie.Need-returns
 returns c =
     let a = c.args in
     let e = elems_pair (set_elems a.op) (from a.l_rstart a.lrows.now) (from a.r_rstart a.rrows.now) (elem_at a.lvalues.now (from a.l_estart a.lelements.now)) (elem_at a.rvalues.now (from a.r_estart a.relements.now)) a.r a.a a.b a.c a.d c.are_valid.result c.are_valid.ensures in
-    let f = not-false c.are_valid.result c.if-not-are_valid.false in
+    let f = not-false c.are_valid.result c.if-not-are_valid.false-raw in
     let w = c.write_set-next.ensures in
     record {
       rows = rw (is_row_pair (set_elems a.op) (from a.l_rstart a.lrows.now) (from a.r_rstart a.rrows.now) (elem_at a.lvalues.now (from a.l_estart a.lelements.now)) (elem_at a.rvalues.now (from a.r_estart a.relements.now)) a.r a.a a.b a.c a.d c.are_valid.result c.are_valid.ensures, f) c.push_bit-2.ensures;

@@ -22,13 +22,13 @@ L s = let a = s.args in room (length (used a.width a.out_offsets.now a.out_large
 -- ---- places: what is written, the early refusals passed and found; and the start
 
 abbrev wrote : tie.After-out_large-1 → tie.After-after_three
-wrote c = c.before.before.before.before.before.before.before
+wrote c = c
 
 abbrev passed : tie.After-out_large-1 → tie.Else-k-ne0
-passed c = (wrote c).before.before.before.before.before.before
+passed c = (wrote c)
 
 abbrev S : tie.After-early-k → tie.Start
-S e = e.before.before.before.before.before.before.before
+S e = e
 
 -- ---- needs
 
@@ -40,8 +40,7 @@ returns-then-k-ne0 c = let s = S c.before in list-refused _ (run_early s.args.op
 
 after_three-requires : tie.Need-after_three-requires
 after_three-requires c κs =
-    let e = c.before.before.before.before.before in
-    let b = e.early-k.ensures.1 e.if-k-ne0.false in
+    let b = c.early-k.ensures.1 c.if-k-ne0.false in
     (b.left, (b.right, b.equal))
 
 shape_of-out_offsets : tie.Need-shape_of-out_offsets
@@ -62,8 +61,8 @@ shape_of-out_large c = search
 returns : tie.Need-returns
 returns c =
     let e = passed c in
-    let s = S e.before in
-    rw (run_goes s.args.op (C s) (D s) (limits_at s.args.width) _ (e.early-k.ensures.0 s.args.op) (L s) e.if-k-ne0.false) (wrote c).after-three.ensures
+    let s = S e in
+    rw (run_goes s.args.op (C s) (D s) (limits_at s.args.width) _ (e.early-k.ensures.0 s.args.op) (L s) e.if-k-ne0.false) (wrote c).after_three.ensures
 
 pub run_spec : {M : Type 1} → statement M
 run_spec =

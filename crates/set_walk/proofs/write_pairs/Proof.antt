@@ -33,29 +33,29 @@ abbrev D : tie.Start invariant-loop-left decreases-loop-left → Column
 D s = let a = s.args in column (used a.width a.roffsets.now a.rlarge.now) (from a.r_rstart a.rrows.now) a.rvalues.now (from a.r_estart a.relements.now)
 
 abbrev put : tie.At-loop-left invariant-loop-left decreases-loop-left → tie.After-put_offset invariant-loop-left decreases-loop-left
-put l = l.before.before.before
+put l = l
 
 -- the places that are used below
 abbrev loop-of-offset-at4 : tie.After-offset_at-d invariant-loop-left decreases-loop-left → tie.At-loop-left invariant-loop-left decreases-loop-left
-loop-of-offset-at4 p = p.before.before.before.before.before
+loop-of-offset-at4 p = p
 
 abbrev put-pair-of-put-offset-arg4 : tie.After-put_offset-arg-in-loop-left-2-1 invariant-loop-left decreases-loop-left → tie.After-put_pair-at invariant-loop-left decreases-loop-left
-put-pair-of-put-offset-arg4 p = p.before.before.before.before.before.before.before
+put-pair-of-put-offset-arg4 p = p
 
 abbrev start-of-put-offset-arg2 : tie.After-put_offset-arg-2-1 invariant-loop-left decreases-loop-left → tie.Start invariant-loop-left decreases-loop-left
-start-of-put-offset-arg2 p = p.before.before.before.before.before.before.before.before.before
+start-of-put-offset-arg2 p = p
 
 abbrev put-pair-of-out-large2 : tie.After-out_large-in-loop-left-1 invariant-loop-left decreases-loop-left → tie.After-put_pair-at invariant-loop-left decreases-loop-left
-put-pair-of-out-large2 p = p.before.before.before.before.before.before.before.before.before.before
+put-pair-of-out-large2 p = p
 
 abbrev start-of-put-offset : tie.After-put_offset invariant-loop-left decreases-loop-left → tie.Start invariant-loop-left decreases-loop-left
-start-of-put-offset p = p.before.before.before.before.before.before.before.before.before.before
+start-of-put-offset p = p
 
 abbrev out-rows-of-put-offset-arg4 : tie.After-put_offset-arg-in-loop-left-2-1 invariant-loop-left decreases-loop-left → tie.After-out_rows-1 invariant-loop-left decreases-loop-left
-out-rows-of-put-offset-arg4 p = p.before.before.before.before.before.before
+out-rows-of-put-offset-arg4 p = p
 
 abbrev offset-at4-of-out-rows : tie.After-out_rows-1 invariant-loop-left decreases-loop-left → tie.After-offset_at-d invariant-loop-left decreases-loop-left
-offset-at4-of-out-rows p = p.before.before.before.before.before
+offset-at4-of-out-rows p = p
 
 abbrev offset-at4-of-put-offset-arg4 : tie.After-put_offset-arg-in-loop-left-2-1 invariant-loop-left decreases-loop-left → tie.After-offset_at-d invariant-loop-left decreases-loop-left
 offset-at4-of-put-offset-arg4 p = offset-at4-of-out-rows (out-rows-of-put-offset-arg4 p)
@@ -64,10 +64,10 @@ abbrev offset-at4-of-out-large2 : tie.After-out_large-in-loop-left-1 invariant-l
 offset-at4-of-out-large2 p = offset-at4-of-put-offset-arg4 p.before.before.before
 
 abbrev put-pair-arg3-of-put-offset-arg4 : tie.After-put_offset-arg-in-loop-left-2-1 invariant-loop-left decreases-loop-left → tie.After-put_pair-arg-in-loop-left-2-1 invariant-loop-left decreases-loop-left
-put-pair-arg3-of-put-offset-arg4 p = p.before.before.before.before.before.before.before.before
+put-pair-arg3-of-put-offset-arg4 p = p
 
 abbrev in-loop-of-put-pair-arg3 : tie.After-put_pair-arg-in-loop-left-2-1 invariant-loop-left decreases-loop-left → tie.In-loop-left invariant-loop-left decreases-loop-left
-in-loop-of-put-pair-arg3 p = p.before.before.before.before.before.before.before
+in-loop-of-put-pair-arg3 p = p
 
 abbrev in-loop-of-put-offset-arg4 : tie.After-put_offset-arg-in-loop-left-2-1 invariant-loop-left decreases-loop-left → tie.In-loop-left invariant-loop-left decreases-loop-left
 in-loop-of-put-offset-arg4 p = in-loop-of-put-pair-arg3 (put-pair-arg3-of-put-offset-arg4 p)
@@ -98,7 +98,7 @@ O s = used s.args.width s.args.out_offsets.now s.args.out_large.now
 abbrev made : (q : tie.After-offset_at-d invariant-loop-left decreases-loop-left) → Row
 made q = let l = L q in on_rows (set_elems (S l).args.op) (row_from (C (S l)).rows (elem_at (C (S l)).values (C (S l)).elements) l.loop-left.r q.offset_at-a.result q.offset_at-b.result) (row_from (D (S l)).rows (elem_at (D (S l)).values (D (S l)).elements) l.loop-left.r q.offset_at-c.result q.offset_at-d.result)
 
-same_row : (q : tie.After-offset_at-d invariant-loop-left decreases-loop-left) → made q ≡ W (L q) (L q).loop.r
+same_row : (q : tie.After-offset_at-d invariant-loop-left decreases-loop-left) → made q ≡ W (L q) (L q).loop-left.r
 same_row q = let l = L q in same_pair (set_elems (S l).args.op) (C (S l)) (D (S l)) l.loop-left.r q.offset_at-a.result q.offset_at-b.result q.offset_at-c.result q.offset_at-d.result q.offset_at-a.ensures.0 q.offset_at-b.ensures.0 q.offset_at-c.ensures.0 q.offset_at-d.ensures.0
 
 row_count-n-requires : tie.Need-row_count-n-requires invariant-loop-left decreases-loop-left
@@ -114,25 +114,24 @@ offset_at-a-requires : tie.Need-offset_at-a-requires invariant-loop-left decreas
 offset_at-a-requires c κs = omega (arith, rows_are c.before)
 
 overflow_add-r : tie.Need-overflow_add-r invariant-loop-left decreases-loop-left
-overflow_add-r c = omega (arith, c.before)
+overflow_add-r c = omega (arith, c)
 
 offset_at-b-requires : tie.Need-offset_at-b-requires invariant-loop-left decreases-loop-left
-offset_at-b-requires c κs = omega (arith, c.before, rows_are c.before.before)
+offset_at-b-requires c κs = omega (arith, c, rows_are c.before.before)
 
 offset_at-c-requires : tie.Need-offset_at-c-requires invariant-loop-left decreases-loop-left
-offset_at-c-requires c κs = omega (arith, c.before.before, rows_are c.before.before.before, (S c.before.before.before).pre.1.1.0)
+offset_at-c-requires c κs = omega (arith, c, rows_are c.before.before.before, (S c.before.before.before).requires.1.1.0)
 
 overflow_add-r-in-loop-left : tie.Need-overflow_add-r-in-loop-left invariant-loop-left decreases-loop-left
-overflow_add-r-in-loop-left c = omega (arith, c.before.before.before)
+overflow_add-r-in-loop-left c = omega (arith, c)
 
 offset_at-d-requires : tie.Need-offset_at-d-requires invariant-loop-left decreases-loop-left
-offset_at-d-requires c κs = omega (arith, c.before.before.before, rows_are c.before.before.before.before, (S c.before.before.before.before).pre.1.1.0)
+offset_at-d-requires c κs = omega (arith, c, rows_are c.before.before.before.before, (S c.before.before.before.before).requires.1.1.0)
 
 put_pair-at-requires : tie.Need-put_pair-at-requires invariant-loop-left decreases-loop-left
 put_pair-at-requires c κs =
-    let q = c.before.before.before in
-    let l = L q in
-    (between (C (S l)) (count l) l.loop-left.r q.offset_at-a.result q.offset_at-b.result (S l).pre.0 (rows_are l) (omega (arith, q.before.before.before.before)) q.offset_at-a.ensures.0 q.offset_at-b.ensures.0, (between (D (S l)) (count l) l.loop-left.r q.offset_at-c.result q.offset_at-d.result (S l).pre.1.0 (rows_are l ∙ sym (S l).pre.1.1.0) (omega (arith, q.before.before.before.before)) q.offset_at-c.ensures.0 q.offset_at-d.ensures.0, walk_room (W l) (count l) (made q) q.loop-left-test.true (same_row q) l.loop-left.invariant.0 (room_at (S l).args.op (C (S l)) (D (S l)) (count l) (rows_are l) (S l).pre.1.1.1.1 (put_keeps (O (S l)) 0 0 (put l).put-offset.ensures))))
+    let l = L c.before.before.before in
+    (between (C (S l)) (count l) l.loop-left.r c.offset_at-a.result c.offset_at-b.result (S l).requires.0 (rows_are l) (omega (arith, c)) c.offset_at-a.ensures.0 c.offset_at-b.ensures.0, (between (D (S l)) (count l) l.loop-left.r c.offset_at-c.result c.offset_at-d.result (S l).requires.1.0 (rows_are l ∙ sym (S l).requires.1.1.0) (omega (arith, c)) c.offset_at-c.ensures.0 c.offset_at-d.ensures.0, walk_room (W l) (count l) (made c.before.before.before) c.loop-left-test.true (same_row c.before.before.before) l.loop-left.invariant.0 (room_at (S l).args.op (C (S l)) (D (S l)) (count l) (rows_are l) (S l).requires.1.1.1.1 (put_keeps (O (S l)) 0 0 (put l).put_offset.ensures))))
 
 overflow_add-r-in-loop-left-2 : tie.Need-overflow_add-r-in-loop-left-2 invariant-loop-left decreases-loop-left
 overflow_add-r-in-loop-left-2 c = omega (arith, in-loop-of-put-offset-arg4 c)
@@ -143,10 +142,10 @@ put_offset-requires-in-loop-left c κs =
     let q = offset-at4-of-put-offset-arg4 c in
     let l = L q in
     let k = walk_small (W l) (count l) (made q) q.loop-left-test.true (same_row q) l.loop-left.invariant.0 w.put_pair-at.ensures in
-    (walk_slot (W l) (count l) (made q) q.loop-left-test.true (same_row q) l.loop-left.invariant.0 (room_at (S l).args.op (C (S l)) (D (S l)) (count l) (rows_are l) (S l).pre.1.1.1.1 (put_keeps (O (S l)) 0 0 (put l).put-offset.ensures)), omega (arith, (S l).pre.1.1.1.0, rw (rows_at (S l).args.op (C (S l)) (D (S l)) (count l) (rows_are l)) at k))
+    (walk_slot (W l) (count l) (made q) q.loop-left-test.true (same_row q) l.loop-left.invariant.0 (room_at (S l).args.op (C (S l)) (D (S l)) (count l) (rows_are l) (S l).requires.1.1.1.1 (put_keeps (O (S l)) 0 0 (put l).put_offset.ensures)), omega (arith, (S l).requires.1.1.1.0, rw (rows_at (S l).args.op (C (S l)) (D (S l)) (count l) (rows_are l)) at k))
 
-overflow_add-r : tie.Need-overflow_add-r invariant-loop-left decreases-loop-left
-overflow_add-r c = omega (arith, in-loop-of-out-large2 c)
+overflow_add-r-in-loop-left-3 : tie.Need-overflow_add-r-in-loop-left-3 invariant-loop-left decreases-loop-left
+overflow_add-r-in-loop-left-3 c = omega (arith, in-loop-of-out-large2 c)
 
 overflow_sub-left : tie.Need-overflow_sub-left invariant-loop-left decreases-loop-left
 overflow_sub-left c = omega (arith, in-loop-of-out-large2 c)
@@ -163,7 +162,7 @@ loop-left-preserved c =
     (walk_more (W l) (count l) (made q) q.loop-left-test.true (same_row q) l.loop-left.invariant.0 w.put_pair-at.ensures z.ensures, z.auto.narrow ∙ l.loop-left.invariant.1, z.auto.wide ∙ l.loop-left.invariant.2)
 
 shape_of-out_offsets : tie.Need-shape_of-out_offsets invariant-loop-left decreases-loop-left
-shape_of-out_offsets c = c.loop-left.invariant.1 ∙ (put c.before).put-offset.kept.1.0
+shape_of-out_offsets c = c.loop-left.invariant.1 ∙ (put c.before).put_offset.kept.1.0
 
 shape_of-out_rows : tie.Need-shape_of-out_rows invariant-loop-left decreases-loop-left
 shape_of-out_rows c = c.loop-left.invariant.0.lr
@@ -175,17 +174,13 @@ shape_of-out_elements : tie.Need-shape_of-out_elements invariant-loop-left decre
 shape_of-out_elements c = c.loop-left.invariant.0.le
 
 shape_of-out_large : tie.Need-shape_of-out_large invariant-loop-left decreases-loop-left
-shape_of-out_large c = c.loop-left.invariant.2 ∙ (put c.before).put-offset.kept.1.1.0
+shape_of-out_large c = c.loop-left.invariant.2 ∙ (put c.before).put_offset.kept.1.1.0
 
 returns : tie.Need-returns invariant-loop-left decreases-loop-left
 returns c =
-    let l = c.before in
-    let s = S l in
-    rw (← rows_at s.args.op (C s) (D s) (count l) (rows_are l))
-    (walk_done (W l) (count l) (O s) l.loop-left.invariant.0 c.loop-left-test.false (put l).put-offset.ensures (room_at s.args.op (C s) (D s) (count l) (rows_are l) s.requires.1.1.1.1 refl))
-
-overflow_add-r-in-loop-left-3 : tie.Need-overflow_add-r-in-loop-left-3 invariant-loop-left decreases-loop-left
-overflow_add-r-in-loop-left-3 c = search rules
+    let s = S c.before in
+    rw (← rows_at s.args.op (C s) (D s) (count c.before) (rows_are c.before))
+    (walk_done (W c.before) (count c.before) (O s) c.loop-left.invariant.0 c.loop-left-test.false (put c.before).put_offset.ensures (room_at s.args.op (C s) (D s) (count c.before) (rows_are c.before) s.requires.1.1.1.1 refl))
 
 pub write_pairs_spec : {M : Type 1} → statement M
 write_pairs_spec =

@@ -31,10 +31,8 @@ push_bit-requires-in-Steps c κs = omega (arith, c.requires.1.1.1.rows)
 
 write_strided-requires : tie.Need-write_strided-requires
 write_strided-requires c κs =
-    let t = c.before.before.before.before.before.before in
-    let p = t.plan-1.given in
-    let s = t.before.before.before.before in
-    (s.requires.0, rw (back64 _ t.in-Steps.known_told-1-own.given.1.0.1) (steps_walk s.args.valid s.args.plan (E s) _ _ _ s.requires.1.0 p.1 _ s.requires.1.1.0, steps_room s.args.valid s.args.plan (E s) _ _ _ s.requires.1.0 p.1 s.requires.1.1.1))
+    let p = c.plan-1.given in
+    (c.requires.0, rw (back64 _ c.in-Steps.known_told-1-own.given.1.0.1) (steps_walk c.args.valid c.args.plan (E c.before.before.before.before.before.before.before.before.before.before) _ _ _ c.requires.1.0 p.1 _ c.requires.1.1.0, steps_room c.args.valid c.args.plan (E c.before.before.before.before.before.before.before.before.before.before) _ _ _ c.requires.1.0 p.1 c.requires.1.1.1))
 
 enum_told-in-Refused : tie.Need-enum_told-in-Refused
 enum_told-in-Refused c = search
@@ -47,10 +45,8 @@ shape_of-out_rows-in-Empty c = search
 
 returns-in-Empty : tie.Need-returns-in-Empty
 returns-in-Empty c =
-    let t = c.before.before.before.before in
-    let s = t.before.before.before.before in
-    let e = t.in-Empty.is in
-    row_put _ s.args.valid [] (empty-bit s.args.valid s.args.plan (E s) e) (empty_elems s.args.valid s.args.plan (E s) e) c.push_bit.ensures (done (begun _ refl) refl)
+    let e = c.in-Empty.is in
+    row_put _ c.args.valid [] (empty-bit c.args.valid c.args.plan (E c.before.before.before.before.before.before.before.before) e) (empty_elems c.args.valid c.args.plan (E c.before.before.before.before.before.before.before.before) e) c.push_bit.ensures (done (begun _ refl) refl)
 
 shape_of-out_rows-in-Steps : tie.Need-shape_of-out_rows-in-Steps
 shape_of-out_rows-in-Steps c = search
@@ -64,13 +60,9 @@ shape_of-out_elements c = search
 returns-in-Steps : tie.Need-returns-in-Steps
 unfolding is_row elems_of
 returns-in-Steps c =
-    let w = c.before.before.before in
-    let b = w.before.before.before.before.before in
-    let t = b.before.before in
-    let p = t.plan-1.given in
-    let s = t.before.before.before.before in
-    let q = steps_row s.args.valid s.args.plan (E s) _ _ _ s.requires.1.0 p.1 in
-    row_put _ true (sliced p.0.0 p.0.1.0 p.0.1.1.0 (E s)) (ap is_row q) (ap elems_of q) b.push_bit-in-Steps.ensures (rw (back64 _ t.in-Steps.known_told-1-own.given.1.0.1) at w.write_strided.ensures)
+    let p = c.plan-1.given in
+    let q = steps_row c.args.valid c.args.plan (E c.before.before.before.before.before.before.before.before.before.before.before.before.before.before) _ _ _ c.requires.1.0 p.1 in
+    row_put _ true (sliced p.0.0 p.0.1.0 p.0.1.1.0 (E c.before.before.before.before.before.before.before.before.before.before.before.before.before.before)) (ap is_row q) (ap elems_of q) c.push_bit-in-Steps.ensures (rw (back64 _ c.in-Steps.known_told-1-own.given.1.0.1) at c.write_strided.ensures)
 
 shape_of-out_rows-in-Refused : tie.Need-shape_of-out_rows-in-Refused
 shape_of-out_rows-in-Refused c = search
@@ -78,9 +70,7 @@ shape_of-out_rows-in-Refused c = search
 returns-in-Refused : tie.Need-returns-in-Refused
 unfolding is_row elems_of
 returns-in-Refused c =
-    let t = c.before.before.before.before in
-    let s = t.before.before.before.before in
-    let q = refused_row s.args.valid s.args.plan (E s) _ t.in-Refused.is in
+    let q = refused_row c.args.valid c.args.plan (E c.before.before.before.before.before.before.before.before) _ c.in-Refused.is in
     row_put _ false [] (ap is_row q) (ap elems_of q) c.push_bit-in-Refused.ensures (done (begun _ refl) refl)
 
 pub put_slice_spec : {M : Type 1} → statement M

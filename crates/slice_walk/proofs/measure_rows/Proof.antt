@@ -56,33 +56,33 @@ Z s = arguments s.args.zs.now (from s.args.zstart s.args.zbits.now)
 -- ---- places: what the operation takes and the start, from the loop; the loop and the second offset, from a turn's plan
 
 abbrev takes : tie.At-loop-left invariant-loop-left decreases-loop-left → tie.After-takes-t invariant-loop-left decreases-loop-left
-takes l = l.before.before
+takes l = l
 
 abbrev S : tie.At-loop-left invariant-loop-left decreases-loop-left → tie.Start invariant-loop-left decreases-loop-left
-S l = (takes l).before.before.before.before.before.before.before
+S l = (takes l)
 
 abbrev second : tie.After-plan_at-plan invariant-loop-left decreases-loop-left → tie.After-offset_at-b invariant-loop-left decreases-loop-left
-second p = p.before.before.before
+second p = p
 
 abbrev looped : tie.After-plan_at-plan invariant-loop-left decreases-loop-left → tie.At-loop-left invariant-loop-left decreases-loop-left
-looped p = (second p).before.before
+looped p = (second p)
 
 -- ---- the operation, by its test
 
 abbrev B : tie.At-loop-left invariant-loop-left decreases-loop-left → Bool
-B l = ltb 2 (takes l).takes.result.columns
+B l = ltb 2 (takes l).takes-t.result.columns
 
 abbrev OP : tie.At-loop-left invariant-loop-left decreases-loop-left → ListOp
 OP l = op_by (B l)
 
 op_is : (l : tie.At-loop-left invariant-loop-left decreases-loop-left) → (S l).args.op ≡ OP l
-op_is l = op_by_lem (S l).args.op (S l).requires.1.1 ∙ ap (λ (t : Arity). op_by (ltb 2 t.columns)) (sym (takes l).takes.ensures)
+op_is l = op_by_lem (S l).args.op (S l).requires.1.1 ∙ ap (λ (t : Arity). op_by (ltb 2 t.columns)) (sym (takes l).takes-t.ensures)
 
 abbrev count : tie.At-loop-left invariant-loop-left decreases-loop-left → ℕ
-count l = (takes l).before.row_count.result
+count l = (takes l).row_count-n.result
 
 rows_are : (l : tie.At-loop-left invariant-loop-left decreases-loop-left) → count l ≡ row_count (C (S l)).offsets
-rows_are l = (takes l).before.row_count.ensures
+rows_are l = (takes l).row_count-n.ensures
 
 serves : (l : tie.At-loop-left invariant-loop-left decreases-loop-left) → Served (OP l) (count l) (X (S l)) (Y (S l)) (Z (S l))
 serves l = served_as (op_is l) (rows_are l) (S l).requires.1.0
@@ -98,18 +98,16 @@ abbrev K : tie.At-loop-left invariant-loop-left decreases-loop-left → ℕ → 
 K l = let s = S l in refusal_at (N s) (OP l) (C s) (X s) (Y s) (Z s)
 
 -- row r of a turn can be read
-reads : (q : tie.After-offset_at-b invariant-loop-left decreases-loop-left) → let l = q.before.before in ReadableRowˡ (C (S l)).rows (count l) (C (S l)).values (C (S l)).elements l.loop-left.r l.loop-left.a q.offset_at-b.result
+reads : (q : tie.After-offset_at-b invariant-loop-left decreases-loop-left) → ReadableRowˡ (C (S q.before.before)).rows (count q.before.before) (C (S q.before.before)).values (C (S q.before.before)).elements q.loop-left.r q.loop-left.a q.offset_at-b.result
 reads q =
-    let l = q.before.before in
-    between (C (S l)) (count l) l.loop-left.r l.loop-left.a q.offset_at-b.result (S l).requires.0 (rows_are l) (omega (arith, l.loop-left.invariant.0.sums.rows, q.loop-left-test.true)) l.loop-left.invariant.1 q.offset_at-b.ensures.0
+    between (C (S q.before.before)) (count q.before.before) q.loop-left.r q.loop-left.a q.offset_at-b.result (S q.before.before).requires.0 (rows_are q.before.before) (omega (arith, q.loop-left.invariant.0.sums.rows, q.loop-left-test.true)) q.loop-left.invariant.1 q.offset_at-b.ensures.0
 
 -- the bits that a turn holds
-holds : (j : tie.Joined-known-eq0 invariant-loop-left decreases-loop-left) → let l = j.before.before.before in Held (G l) l.loop-left.r j.if-known-eq0.word j.if-known-eq0.known
+holds : (j : tie.Joined-known-eq0 invariant-loop-left decreases-loop-left) → Held (G j.before.before.before) j.loop-left.r j.if-known-eq0.word j.if-known-eq0.known
 holds j =
-    let l = j.before.before.before in
     ⊎_elim
-    (λ w. held_anew (G l) l.loop-left.r l.loop-left.left w.3 w.4 w.2.ensures w.1.ensures)
-    (λ w. held_still (G l) l.loop-left.r w.1 w.2 (omega (arith, w.0.left)) l.loop-left.invariant.2)
+    (λ w. held_anew (G j.before.before.before) j.loop-left.r j.loop-left.left w.3 w.4 w.2.ensures w.1.ensures)
+    (λ w. held_still (G j.before.before.before) j.loop-left.r w.1 w.2 (omega (arith, w.0.left)) j.loop-left.invariant.2)
     j.if-known-eq0.branch
 
 -- ---- what is done to it
@@ -122,13 +120,13 @@ module _ (p : tie.After-plan_at-plan invariant-loop-left decreases-loop-left) wh
   plan = p.plan_at-plan.result
 
   abbrev r : ℕ
-  r = (looped p).loop.r
+  r = (looped p).loop-left.r
 
   abbrev a : ℕ
-  a = (looped p).loop.a
+  a = (looped p).loop-left.a
 
   abbrev b : ℕ
-  b = (second p).offset_at.result
+  b = (second p).offset_at-b.result
 
   abbrev es : List Elem
   es = let s = S (looped p) in tab (elem_at (C s).values (C s).elements) a (b - a)
@@ -142,24 +140,22 @@ module _ (p : tie.After-plan_at-plan invariant-loop-left decreases-loop-left) wh
 -- the refusal of row r
 refuses : (k : tie.After-refusal_of-k invariant-loop-left decreases-loop-left) → let l = looped k.before in k.refusal_of-k.result ≡ K l l.loop-left.r
 refuses k =
-    let p = k.before in
-    let l = looped p in
+    let l = looped k.before in
     let s = S l in
     k.refusal_of-k.ensures
-    ∙ refusal-planned (valid p) (plan p) (empty p)
-    ∙ refusal_of_lem (N s) (OP l) (C s) (X s) (Y s) (Z s) (r p) (a p) (b p) (op_if (valid p) (plan p)) l.loop-left.invariant.1 (second p).offset_at.ensures.0 (chosen p)
+    ∙ refusal-planned (valid k.before) (plan k.before) (empty k.before)
+    ∙ refusal_of_lem (N s) (OP l) (C s) (X s) (Y s) (Z s) (r k.before) (a k.before) (b k.before) (op_if (valid k.before) (plan k.before)) l.loop-left.invariant.1 (second k.before).offset_at-b.ensures.0 (chosen k.before)
 
 -- the walk after it
-more : (m : tie.After-count_of-more invariant-loop-left decreases-loop-left) → let p = m.before.before.before in let l = looped p in Summing (W l) (count l) (b p) (N (S l)).offset (l.loop-left.found + m.count_of-more.result) (l.loop-left.r + 1) (l.loop-left.left - 1)
+more : (m : tie.After-count_of-more invariant-loop-left decreases-loop-left) → let l = looped m.before.before.before in Summing (W l) (count l) (b m.before.before.before) (N (S l)).offset (l.loop-left.found + m.count_of-more.result) (l.loop-left.r + 1) (l.loop-left.left - 1)
 more m =
-    let p = m.before.before.before in
-    let l = looped p in
+    let l = looped m.before.before.before in
     let s = S l in
-    let e = m.count_of-more.ensures ∙ count-planned (valid p) (plan p) (es p) (empty p) in
-    sum_more (W l) (count l) (N s).offset m.count_of-more.result (a p) (b p) l.loop-left.invariant.0.sums (second p).before.loop-test.true
-    (e ∙ length_of_lem (N s) (OP l) (C s) (X s) (Y s) (Z s) (r p) (a p) (b p) (op_if (valid p) (plan p)) l.loop-left.invariant.1 (second p).offset_at.ensures.0 (chosen p))
-    (rw e (length_le (N s) (OP l) (C s) (X s) (Y s) (Z s) (r p) (a p) (b p) (op_if (valid p) (plan p)) l.loop-left.invariant.1 (second p).offset_at.ensures.0 (chosen p) (no_resize (B l))))
-    (reads (second p)).rises refl (second p).offset_at.ensures.1
+    let e = m.count_of-more.ensures ∙ count-planned (valid m.before.before.before) (plan m.before.before.before) (es m.before.before.before) (empty m.before.before.before) in
+    sum_more (W l) (count l) (N s).offset m.count_of-more.result (a m.before.before.before) (b m.before.before.before) l.loop-left.invariant.0.sums (second m.before.before.before).loop-left-test.true
+    (e ∙ length_of_lem (N s) (OP l) (C s) (X s) (Y s) (Z s) (r m.before.before.before) (a m.before.before.before) (b m.before.before.before) (op_if (valid m.before.before.before) (plan m.before.before.before)) l.loop-left.invariant.1 (second m.before.before.before).offset_at-b.ensures.0 (chosen m.before.before.before))
+    (rw e (length_le (N s) (OP l) (C s) (X s) (Y s) (Z s) (r m.before.before.before) (a m.before.before.before) (b m.before.before.before) (op_if (valid m.before.before.before) (plan m.before.before.before)) l.loop-left.invariant.1 (second m.before.before.before).offset_at-b.ensures.0 (chosen m.before.before.before) (no_resize (B l))))
+    (reads (second m.before.before.before)).rises refl (second m.before.before.before).offset_at-b.ensures.1
 
 row_count-n-requires : tie.Need-row_count-n-requires invariant-loop-left decreases-loop-left
 row_count-n-requires c κs = search
@@ -184,19 +180,15 @@ overflow_sub-len c = (reads c).rises
 
 valid_bits-word-requires : tie.Need-valid_bits-word-requires invariant-loop-left decreases-loop-left
 valid_bits-word-requires c κs =
-    let q = c.before in
-    let l = q.before.before in
-    (known (B l) (C (S l)).rows (reads q).rows (serves l), (q.loop-left-test.true, omega (arith, l.loop-left.invariant.0.sums.rows)))
+    (known (B c.before.before.before) (C (S c.before.before.before)).rows (reads c.before).rows (serves c.before.before.before), (c.loop-left-test.true, omega (arith, c.loop-left.invariant.0.sums.rows)))
 
 batch-known-requires : tie.Need-batch-known-requires invariant-loop-left decreases-loop-left
 batch-known-requires c κs = search
 
 plan_at-plan-requires : tie.Need-plan_at-plan-requires invariant-loop-left decreases-loop-left
 plan_at-plan-requires c κs =
-    let q = c.before.before in
-    let l = q.before.before in
-    let s = S l in
-    (there (count l) (X s) (first-served (B l) (serves l)) l.loop-left.r (reads q).there, (there (count l) (Y s) (second-served (B l) (serves l)) l.loop-left.r (reads q).there, (λ h. there (count l) (Z s) (third-served (B l) (serves l) h) l.loop-left.r (reads q).there, omega (arith, q.offset_at-b.ensures.1))))
+    let s = S c.before.before.before.before in
+    (there (count c.before.before.before.before) (X s) (first-served (B c.before.before.before.before) (serves c.before.before.before.before)) c.loop-left.r (reads c.before.before).there, (there (count c.before.before.before.before) (Y s) (second-served (B c.before.before.before.before) (serves c.before.before.before.before)) c.loop-left.r (reads c.before.before).there, (λ h. there (count c.before.before.before.before) (Z s) (third-served (B c.before.before.before.before) (serves c.before.before.before.before) h) c.loop-left.r (reads c.before.before).there, omega (arith, c.offset_at-b.ensures.1))))
 
 refusal_of-k-requires : tie.Need-refusal_of-k-requires invariant-loop-left decreases-loop-left
 refusal_of-k-requires c κs = search
@@ -204,10 +196,9 @@ refusal_of-k-requires c κs = search
 returns-then-k-ne0 : tie.Need-returns-then-k-ne0 invariant-loop-left decreases-loop-left
 unfolding let_through
 returns-then-k-ne0 c =
-    let k = c.before in
-    let l = looped k.before in
+    let l = looped c.before.before in
     let s = S l in
-    (rw (op_is l) (rows_stop (N s) (OP l) (C s) (X s) (Y s) (Z s) (count l) (rows_are l) k.refusal_of-k.result (measuring_stops (W l) (K l) l.loop-left.invariant.0 k.refusal_of-k.result (second k.before).before.loop-test.taken (refuses k) c.if-k-ne0.true) c.if-k-ne0.true), omega arith)
+    (rw (op_is l) (rows_stop (N s) (OP l) (C s) (X s) (Y s) (Z s) (count l) (rows_are l) c.refusal_of-k.result (measuring_stops (W l) (K l) l.loop-left.invariant.0 c.refusal_of-k.result (second c.before.before).loop-left-test.true (refuses c.before) c.if-k-ne0.true) c.if-k-ne0.true), omega arith)
 
 count_of-more-requires : tie.Need-count_of-more-requires invariant-loop-left decreases-loop-left
 count_of-more-requires c κs = search
@@ -215,36 +206,29 @@ count_of-more-requires c κs = search
 overflow_add-found : tie.Need-overflow_add-found invariant-loop-left decreases-loop-left
 overflow_add-found c = omega (arith, (more c).small, (limits-fit (S (looped c.before.before.before)).args.width).offset)
 
-overflow_add-r : tie.Need-overflow_add-r invariant-loop-left decreases-loop-left
-overflow_add-r c = let l = looped c.before.before.before in omega (arith, l.loop-left.invariant.0.sums.rows, (second c.before.before.before).before.loop-test.taken)
+overflow_add-r-in-loop-left : tie.Need-overflow_add-r-in-loop-left invariant-loop-left decreases-loop-left
+overflow_add-r-in-loop-left c = let l = looped c.before.before.before in omega (arith, l.loop-left.invariant.0.sums.rows, (second c.before.before.before).loop-left-test.true)
 
 overflow_sub-known : tie.Need-overflow_sub-known invariant-loop-left decreases-loop-left
 overflow_sub-known c = (holds c.before.before.before.before.before.before).some
 
 overflow_sub-left : tie.Need-overflow_sub-left invariant-loop-left decreases-loop-left
-overflow_sub-left c = omega (arith, (second c.before.before.before).before.loop-test.taken)
+overflow_sub-left c = omega (arith, (second c.before.before.before).loop-left-test.true)
 
 loop-left-smaller : tie.Need-loop-left-smaller invariant-loop-left decreases-loop-left
-loop-left-smaller c = omega (arith, (second c.before.before.before.before).before.loop-test.taken)
+loop-left-smaller c = omega (arith, (second c.before.before.before.before).loop-left-test.true)
 
 loop-left-preserved : tie.Need-loop-left-preserved invariant-loop-left decreases-loop-left
 loop-left-preserved c =
-    let m = c.before in
-    let k = m.before.before in
-    let p = k.before in
-    let l = looped p in
-    (measuring_more (W l) (K l) l.loop-left.invariant.0 k.refusal_of-k.result (second p).before.loop-test.true (refuses k) m.if-k-ne0.false (more m), (second p).offset_at.ensures.0, held_rest (G l) p.if-known-eq0.known (holds p.before.before))
+    let l = looped c.before.before.before.before in
+    (measuring_more (W l) (K l) l.loop-left.invariant.0 c.refusal_of-k.result (second c.before.before.before.before).loop-left-test.true (refuses c.before.before.before) c.if-k-ne0.false (more c.before), (second c.before.before.before.before).offset_at-b.ensures.0, held_rest (G l) c.if-known-eq0.known (holds c.before.before.before.before.before.before))
 
 returns : tie.Need-returns invariant-loop-left decreases-loop-left
 unfolding let_through
 returns c =
-    let l = c.before in
-    let s = S l in
-    let d = measuring_done (W l) (K l) l.loop-left.invariant.0 (omega (arith, c.loop-left-test.false)) in
-    (rw (op_is l) (rows_end (N s) (OP l) (C s) (X s) (Y s) (Z s) (count l) (rows_are l) l.loop-left.found d.0 d.1), l.loop-left.invariant.0.sums.small)
-
-overflow_add-r-in-loop-left : tie.Need-overflow_add-r-in-loop-left invariant-loop-left decreases-loop-left
-overflow_add-r-in-loop-left c = search rules
+    let s = S c.before in
+    let d = measuring_done (W c.before) (K c.before) c.loop-left.invariant.0 (omega (arith, c.loop-left-test.false)) in
+    (rw (op_is c.before) (rows_end (N s) (OP c.before) (C s) (X s) (Y s) (Z s) (count c.before) (rows_are c.before) c.loop-left.found d.0 d.1), c.loop-left.invariant.0.sums.small)
 
 pub measure_rows_spec : {M : Type 1} → statement M
 measure_rows_spec =

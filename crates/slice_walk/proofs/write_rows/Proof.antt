@@ -67,48 +67,48 @@ Z s = arguments s.args.zs.now (from s.args.zstart s.args.zbits.now)
 -- from what comes after
 
 abbrev put : tie.At-loop-left invariant-loop-left decreases-loop-left → tie.After-put_offset invariant-loop-left decreases-loop-left
-put l = l.before.before.before.before
+put l = l
 
 abbrev takes : tie.At-loop-left invariant-loop-left decreases-loop-left → tie.After-takes-t invariant-loop-left decreases-loop-left
-takes l = (put l).before.before.before
+takes l = (put l)
 
 abbrev begun : tie.After-takes-t invariant-loop-left decreases-loop-left → tie.Start invariant-loop-left decreases-loop-left
-begun t = t.before.before.before.before.before.before.before.before.before
+begun t = t
 
 abbrev S : tie.At-loop-left invariant-loop-left decreases-loop-left → tie.Start invariant-loop-left decreases-loop-left
 S l = begun (takes l)
 
 abbrev written : tie.After-put_offset-arg-in-loop-left-2-1 invariant-loop-left decreases-loop-left → tie.After-put_slice-at invariant-loop-left decreases-loop-left
-written p = p.before.before.before.before.before.before.before
+written p = p
 
 abbrev turned : tie.After-out_large-in-loop-left-1 invariant-loop-left decreases-loop-left → tie.After-put_slice-at invariant-loop-left decreases-loop-left
 turned p = written p.before.before.before
 
 abbrev planned : tie.After-put_slice-at invariant-loop-left decreases-loop-left → tie.After-plan_at-plan invariant-loop-left decreases-loop-left
-planned w = w.before.before.before.before
+planned w = w
 
 abbrev second : tie.After-plan_at-plan invariant-loop-left decreases-loop-left → tie.After-offset_at-b invariant-loop-left decreases-loop-left
-second p = p.before.before.before
+second p = p
 
 abbrev looped : tie.After-plan_at-plan invariant-loop-left decreases-loop-left → tie.At-loop-left invariant-loop-left decreases-loop-left
-looped p = (second p).before.before
+looped p = (second p)
 
 -- ---- the operation, by its test
 
 abbrev B : tie.At-loop-left invariant-loop-left decreases-loop-left → Bool
-B l = ltb 2 (takes l).takes.result.columns
+B l = ltb 2 (takes l).takes-t.result.columns
 
 abbrev OP : tie.At-loop-left invariant-loop-left decreases-loop-left → ListOp
 OP l = op_by (B l)
 
 op_is : (l : tie.At-loop-left invariant-loop-left decreases-loop-left) → (S l).args.op ≡ OP l
-op_is l = op_by_lem (S l).args.op (S l).requires.1.1.0 ∙ ap (λ (t : Arity). op_by (ltb 2 t.columns)) (sym (takes l).takes.ensures)
+op_is l = op_by_lem (S l).args.op (S l).requires.1.1.0 ∙ ap (λ (t : Arity). op_by (ltb 2 t.columns)) (sym (takes l).takes-t.ensures)
 
 abbrev count : tie.At-loop-left invariant-loop-left decreases-loop-left → ℕ
-count l = (takes l).before.row_count.result
+count l = (takes l).row_count-n.result
 
 rows_are : (l : tie.At-loop-left invariant-loop-left decreases-loop-left) → count l ≡ row_count (C (S l)).offsets
-rows_are l = (takes l).before.row_count.ensures
+rows_are l = (takes l).row_count-n.ensures
 
 serves : (l : tie.At-loop-left invariant-loop-left decreases-loop-left) → Served (OP l) (count l) (X (S l)) (Y (S l)) (Z (S l))
 serves l = served_as (op_is l) (rows_are l) (S l).requires.1.0
@@ -125,18 +125,16 @@ roomy : (l : tie.At-loop-left invariant-loop-left decreases-loop-left) (lo : ℕ
 roomy l lo e = let s = S l in room_at (N s) (OP l) (C s) (X s) (Y s) (Z s) (count l) (rows_are l) (room_as (N s) (C s) (X s) (Y s) (Z s) (op_is l) s.requires.1.1.1.1) e
 
 -- row r of a turn can be read
-reads : (q : tie.After-offset_at-b invariant-loop-left decreases-loop-left) → let l = q.before.before in ReadableRowˡ (C (S l)).rows (count l) (C (S l)).values (C (S l)).elements l.loop-left.r l.loop-left.a q.offset_at-b.result
+reads : (q : tie.After-offset_at-b invariant-loop-left decreases-loop-left) → ReadableRowˡ (C (S q.before.before)).rows (count q.before.before) (C (S q.before.before)).values (C (S q.before.before)).elements q.loop-left.r q.loop-left.a q.offset_at-b.result
 reads q =
-    let l = q.before.before in
-    between (C (S l)) (count l) l.loop-left.r l.loop-left.a q.offset_at-b.result (S l).requires.0 (rows_are l) (omega (arith, l.loop-left.invariant.0.rows, q.loop-left-test.true)) l.loop-left.invariant.3 q.offset_at-b.ensures.0
+    between (C (S q.before.before)) (count q.before.before) q.loop-left.r q.loop-left.a q.offset_at-b.result (S q.before.before).requires.0 (rows_are q.before.before) (omega (arith, q.loop-left.invariant.0.rows, q.loop-left-test.true)) q.loop-left.invariant.3 q.offset_at-b.ensures.0
 
 -- the bits that a turn holds
-holds : (j : tie.Joined-known-eq0 invariant-loop-left decreases-loop-left) → let l = j.before.before.before in Held (G l) l.loop-left.r j.if-known-eq0.word j.if-known-eq0.known
+holds : (j : tie.Joined-known-eq0 invariant-loop-left decreases-loop-left) → Held (G j.before.before.before) j.loop-left.r j.if-known-eq0.word j.if-known-eq0.known
 holds j =
-    let l = j.before.before.before in
     ⊎_elim
-    (λ w. held_anew (G l) l.loop-left.r l.loop-left.left w.3 w.4 w.2.ensures w.1.ensures)
-    (λ w. held_still (G l) l.loop-left.r w.1 w.2 (omega (arith, w.0.left)) l.loop-left.invariant.4)
+    (λ w. held_anew (G j.before.before.before) j.loop-left.r j.loop-left.left w.3 w.4 w.2.ensures w.1.ensures)
+    (λ w. held_still (G j.before.before.before) j.loop-left.r w.1 w.2 (omega (arith, w.0.left)) j.loop-left.invariant.4)
     j.if-known-eq0.branch
 
 -- ---- what is done to it
@@ -149,7 +147,7 @@ module _ (p : tie.After-plan_at-plan invariant-loop-left decreases-loop-left) wh
   done = op_if valid p.plan_at-plan.result
 
   abbrev len : ℕ
-  len = (second p).offset_at.result - (looped p).loop.a
+  len = (second p).offset_at-b.result - (looped p).loop-left.a
 
   chosen : let l = looped p in let s = S l in done ≡ op_at (N s) (OP l) (C s).rows (X s) (Y s) (Z s) l.loop-left.r len
   chosen =
@@ -159,13 +157,13 @@ module _ (p : tie.After-plan_at-plan invariant-loop-left decreases-loop-left) wh
 
   -- the row that a turn makes is row r's
   abbrev made : Row
-  made = let s = S (looped p) in row_made (op_made done (tab (elem_at (C s).values (C s).elements) (looped p).loop.a len))
+  made = let s = S (looped p) in row_made (op_made done (tab (elem_at (C s).values (C s).elements) (looped p).loop-left.a len))
 
   same_row : let l = looped p in made ≡ W l l.loop-left.r
   same_row =
       let l = looped p in
       let s = S l in
-      row_of_lem (N s) (OP l) (C s) (X s) (Y s) (Z s) l.loop-left.r l.loop-left.a (second p).offset_at.result done l.loop-left.invariant.3 (second p).offset_at.ensures.0 chosen
+      row_of_lem (N s) (OP l) (C s) (X s) (Y s) (Z s) l.loop-left.r l.loop-left.a (second p).offset_at-b.result done l.loop-left.invariant.3 (second p).offset_at-b.ensures.0 chosen
 
 row_count-n-requires : tie.Need-row_count-n-requires invariant-loop-left decreases-loop-left
 row_count-n-requires c κs = search
@@ -174,7 +172,7 @@ takes-t-requires : tie.Need-takes-t-requires invariant-loop-left decreases-loop-
 takes-t-requires c κs = search
 
 put_offset-requires : tie.Need-put_offset-requires invariant-loop-left decreases-loop-left
-put_offset-requires c κs = (omega (arith, (begun c.before.before).pre.1.1.1.1.offsets), omega arith)
+put_offset-requires c κs = (omega (arith, (begun c.before.before).requires.1.1.1.1.offsets), omega arith)
 
 first_offset-a-requires : tie.Need-first_offset-a-requires invariant-loop-left decreases-loop-left
 first_offset-a-requires c κs = search
@@ -193,30 +191,25 @@ overflow_sub-len c = (reads c).rises
 
 valid_bits-word-requires : tie.Need-valid_bits-word-requires invariant-loop-left decreases-loop-left
 valid_bits-word-requires c κs =
-    let q = c.before in
-    let l = q.before.before in
-    (known (B l) (C (S l)).rows (reads q).rows (serves l), (q.loop-left-test.true, omega (arith, l.loop-left.invariant.0.rows)))
+    (known (B c.before.before.before) (C (S c.before.before.before)).rows (reads c.before).rows (serves c.before.before.before), (c.loop-left-test.true, omega (arith, c.loop-left.invariant.0.rows)))
 
 batch-known-requires : tie.Need-batch-known-requires invariant-loop-left decreases-loop-left
 batch-known-requires c κs = search
 
 plan_at-plan-requires : tie.Need-plan_at-plan-requires invariant-loop-left decreases-loop-left
 plan_at-plan-requires c κs =
-    let q = c.before.before in
-    let l = q.before.before in
-    let s = S l in
-    (there (count l) (X s) (first-served (B l) (serves l)) l.loop-left.r (reads q).there, (there (count l) (Y s) (second-served (B l) (serves l)) l.loop-left.r (reads q).there, (λ h. there (count l) (Z s) (third-served (B l) (serves l) h) l.loop-left.r (reads q).there, omega (arith, q.offset_at-b.ensures.1))))
+    let s = S c.before.before.before.before in
+    (there (count c.before.before.before.before) (X s) (first-served (B c.before.before.before.before) (serves c.before.before.before.before)) c.loop-left.r (reads c.before.before).there, (there (count c.before.before.before.before) (Y s) (second-served (B c.before.before.before.before) (serves c.before.before.before.before)) c.loop-left.r (reads c.before.before).there, (λ h. there (count c.before.before.before.before) (Z s) (third-served (B c.before.before.before.before) (serves c.before.before.before.before) h) c.loop-left.r (reads c.before.before).there, omega (arith, c.offset_at-b.ensures.1))))
 
 put_slice-at-requires : tie.Need-put_slice-at-requires invariant-loop-left decreases-loop-left
 put_slice-at-requires c κs =
-    let p = c.before.before.before in
-    let q = second p in
-    let l = looped p in
+    let q = second c.before.before.before in
+    let l = looped c.before.before.before in
     let s = S l in
-    (record { inside = omega (arith, (reads q).rises, (reads q).inside); bits = (reads q).elements }, (null_empty _ _ _ _ _ _ _ _ _ p.plan_at-plan.ensures, (op_doable (N s) (OP l) (C s).rows (X s) (Y s) (Z s) l.loop-left.r _ (done p) (chosen p) (omega (arith, q.offset_at-b.ensures.1, (limits-fit s.args.width).offset)), walk_room (W l) (count l) (made p) q.loop-left-test.true (same_row p) l.loop-left.invariant.0 (roomy l _ (put_keeps (O s) 0 0 (put l).put-offset.ensures)))))
+    (record { inside = omega (arith, (reads q).rises, (reads q).inside); bits = (reads q).elements }, (null_empty _ _ _ _ _ _ _ _ _ c.plan_at-plan.ensures, (op_doable (N s) (OP l) (C s).rows (X s) (Y s) (Z s) l.loop-left.r _ (done c.before.before.before) (chosen c.before.before.before) (omega (arith, q.offset_at-b.ensures.1, (limits-fit s.args.width).offset)), walk_room (W l) (count l) (made c.before.before.before) q.loop-left-test.true (same_row c.before.before.before) l.loop-left.invariant.0 (roomy l _ (put_keeps (O s) 0 0 (put l).put_offset.ensures)))))
 
 overflow_add-r-in-loop-left : tie.Need-overflow_add-r-in-loop-left invariant-loop-left decreases-loop-left
-overflow_add-r-in-loop-left c = let p = planned (written c) in omega (arith, (second p).before, (looped p).loop.inv.0.rows, (second p).before.loop-test.taken)
+overflow_add-r-in-loop-left c = let p = planned (written c) in omega (arith, (second p), (looped p).loop-left.invariant.0.rows, (second p).loop-left-test.true)
 
 put_offset-requires-in-loop-left : tie.Need-put_offset-requires-in-loop-left invariant-loop-left decreases-loop-left
 put_offset-requires-in-loop-left c κs =
@@ -224,33 +217,32 @@ put_offset-requires-in-loop-left c κs =
     let p = planned w in
     let l = looped p in
     let s = S l in
-    let t = (second p).before.loop-test.taken in
+    let t = (second p).loop-left-test.true in
     let k = walk_small (W l) (count l) (made p) t (same_row p) l.loop-left.invariant.0 w.put_slice-at.ensures in
-    (walk_slot (W l) (count l) (made p) t (same_row p) l.loop-left.invariant.0 (roomy l _ (put_keeps (O s) 0 0 (put l).put-offset.ensures)), omega (arith, s.requires.1.1.1.0, size_as (N s) (C s) (X s) (Y s) (Z s) (op_is l), (rw (rows_at (N s) (OP l) (C s) (X s) (Y s) (Z s) (count l) (rows_are l)) at k)))
+    (walk_slot (W l) (count l) (made p) t (same_row p) l.loop-left.invariant.0 (roomy l _ (put_keeps (O s) 0 0 (put l).put_offset.ensures)), omega (arith, s.requires.1.1.1.0, size_as (N s) (C s) (X s) (Y s) (Z s) (op_is l), (rw (rows_at (N s) (OP l) (C s) (X s) (Y s) (Z s) (count l) (rows_are l)) at k)))
 
-overflow_add-r : tie.Need-overflow_add-r invariant-loop-left decreases-loop-left
-overflow_add-r c = let p = planned (turned c) in omega (arith, (second p).before, (looped p).loop.inv.0.rows, (second p).before.loop-test.taken)
+overflow_add-r-in-loop-left-2 : tie.Need-overflow_add-r-in-loop-left-2 invariant-loop-left decreases-loop-left
+overflow_add-r-in-loop-left-2 c = let p = planned (turned c) in omega (arith, (second p), (looped p).loop-left.invariant.0.rows, (second p).loop-left-test.true)
 
 overflow_sub-left : tie.Need-overflow_sub-left invariant-loop-left decreases-loop-left
 overflow_sub-left c = omega (arith, (second (planned (turned c))).loop-left-test.true)
 
 overflow_sub-known : tie.Need-overflow_sub-known invariant-loop-left decreases-loop-left
-overflow_sub-known c = (holds (planned (turned c.before)).before.before).some
+overflow_sub-known c = (holds (planned (turned c.before))).some
 
 loop-left-smaller : tie.Need-loop-left-smaller invariant-loop-left decreases-loop-left
 loop-left-smaller c = omega (arith, (second (planned (turned c.before))).loop-left-test.true)
 
 loop-left-preserved : tie.Need-loop-left-preserved invariant-loop-left decreases-loop-left
 loop-left-preserved c =
-    let m = c.before in
-    let w = turned m in
+    let w = turned c.before in
     let p = planned w in
     let l = looped p in
-    let o = m.put_offset-in-loop-left in
-    (walk_more (W l) (count l) (made p) (second p).before.loop-test.taken (same_row p) l.loop-left.invariant.0 w.put_slice-at.ensures o.ensures, o.auto.narrow ∙ l.loop-left.invariant.1, o.auto.wide ∙ l.loop-left.invariant.2, (second p).offset_at.ensures.0, held_rest (G l) p.if-known-eq0.known (holds p.before.before))
+    let o = c.put_offset-in-loop-left in
+    (walk_more (W l) (count l) (made p) (second p).loop-left-test.true (same_row p) l.loop-left.invariant.0 w.put_slice-at.ensures o.ensures, o.auto.narrow ∙ l.loop-left.invariant.1, o.auto.wide ∙ l.loop-left.invariant.2, (second p).offset_at-b.ensures.0, held_rest (G l) p.if-known-eq0.known (holds p))
 
 shape_of-out_offsets : tie.Need-shape_of-out_offsets invariant-loop-left decreases-loop-left
-shape_of-out_offsets c = c.loop-left.invariant.1 ∙ (put c.before).put-offset.kept.1.0
+shape_of-out_offsets c = c.loop-left.invariant.1 ∙ (put c.before).put_offset.kept.1.0
 
 shape_of-out_rows : tie.Need-shape_of-out_rows invariant-loop-left decreases-loop-left
 shape_of-out_rows c = c.loop-left.invariant.0.lr
@@ -262,17 +254,13 @@ shape_of-out_elements : tie.Need-shape_of-out_elements invariant-loop-left decre
 shape_of-out_elements c = c.loop-left.invariant.0.le
 
 shape_of-out_large : tie.Need-shape_of-out_large invariant-loop-left decreases-loop-left
-shape_of-out_large c = c.loop-left.invariant.2 ∙ (put c.before).put-offset.kept.1.1.0
+shape_of-out_large c = c.loop-left.invariant.2 ∙ (put c.before).put_offset.kept.1.1.0
 
 returns : tie.Need-returns invariant-loop-left decreases-loop-left
 returns c =
-    let l = c.before in
-    let s = S l in
-    rw (op_is l, ← rows_at (N s) (OP l) (C s) (X s) (Y s) (Z s) (count l) (rows_are l))
-    (walk_done (W l) (count l) (O s) l.loop-left.invariant.0 (omega (arith, c.loop-left-test.false)) (put l).put-offset.ensures (roomy l _ refl))
-
-overflow_add-r-in-loop-left-2 : tie.Need-overflow_add-r-in-loop-left-2 invariant-loop-left decreases-loop-left
-overflow_add-r-in-loop-left-2 c = search rules
+    let s = S c.before in
+    rw (op_is c.before, ← rows_at (N s) (OP c.before) (C s) (X s) (Y s) (Z s) (count c.before) (rows_are c.before))
+    (walk_done (W c.before) (count c.before) (O s) c.loop-left.invariant.0 (omega (arith, c.loop-left-test.false)) (put c.before).put_offset.ensures (roomy c.before _ refl))
 
 pub write_rows_spec : {M : Type 1} → statement M
 write_rows_spec =

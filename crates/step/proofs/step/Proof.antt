@@ -16,19 +16,19 @@ use Rattle.step.proofs.step.Tie as tie
 -- ---- places: the operation told and the start; each operation's arm, before its call and after it
 
 abbrev S : tie.After-operation_of → tie.Start
-S c = c.before.before.before.before.before.before.before.before
+S c = c
 
 abbrev one : tie.After-one_list-arg-in-One-4-1 → tie.In-One-2
-one c = c.before.before.before.before.before
+one c = c
 
 abbrev two : tie.After-after_three-arg-in-Two-4-1 → tie.In-Two-2
-two c = c.before.before.before.before.before
+two c = c
 
 abbrev one-made : tie.After-out_large-1 → tie.After-one_list
-one-made c = c.before.before.before.before.before.before.before
+one-made c = c
 
 abbrev two_made : tie.After-out_large-in-Two-1 → tie.After-after_three
-two_made c = c.before.before.before.before.before.before.before
+two_made c = c
 
 -- ---- columns, and the step
 
@@ -54,16 +54,16 @@ enum_known-op c = search
 
 one_list-requires : tie.Need-one_list-requires
 one_list-requires c κs =
-    let m = (one c).before.before in
+    let m = (one c) in
     let s = S m in
     let a = s.args in
-    (s.requires.0, (s.requires.1.0, (s.requires.1.1.0.bits, uses-one (T s) a.pitch a.n (length a.args.now) _ _ m.operation_of.ensures (one c).op.given.1 s.requires.1.1.1.uses)))
+    (s.requires.0, (s.requires.1.0, (s.requires.1.1.0.bits, uses-one (T s) a.pitch a.n (length a.args.now) _ _ m.operation_of.ensures (one c).in-One.is s.requires.1.1.1.uses)))
 
 enum_known-op-in-Two-1 : tie.Need-enum_known-op-in-Two-1
 enum_known-op-in-Two-1 c = search
 
 after_three-requires : tie.Need-after_three-requires
-after_three-requires c κs = let s = S (two c).before.before in (s.requires.0, (s.requires.1.1.0.second, s.requires.1.1.0.rows ∙ sym s.requires.1.0))
+after_three-requires c κs = let s = S (two c) in (s.requires.0, (s.requires.1.1.0.second, s.requires.1.1.0.rows ∙ sym s.requires.1.0))
 
 enum_told-1 : tie.Need-enum_told-1
 enum_told-1 c = search
@@ -86,10 +86,9 @@ shape_of-out_large-in-One c = search
 returns-in-One : tie.Need-returns-in-One
 returns-in-One c =
     let w = one-made c in
-    let t = one w.before in
-    let m = t.before.before in
-    let s = S m in
-    rw (step-one (T s) (rows_of (C s)) (rows_of (D s)) (Cols s) _ (sym m.operation_of.ensures ∙ t.in-One.is)) w.one_list.ensures
+    let t = one w in
+    let s = S t in
+    rw (step-one (T s) (rows_of (C s)) (rows_of (D s)) (Cols s) _ (sym t.operation_of.ensures ∙ t.in-One.is)) w.one_list.ensures
 
 shape_of-out_offsets-in-Two : tie.Need-shape_of-out_offsets-in-Two
 shape_of-out_offsets-in-Two c = search
@@ -109,16 +108,14 @@ shape_of-out_large-in-Two c = search
 returns-in-Two : tie.Need-returns-in-Two
 returns-in-Two c =
     let w = two_made c in
-    let t = two w.before in
-    let m = t.before.before in
-    let s = S m in
-    rw (step-two (T s) (rows_of (C s)) (rows_of (D s)) (Cols s) _ (sym m.operation_of.ensures ∙ t.in-Two.is)) w.after_three.ensures
+    let t = two w in
+    let s = S t in
+    rw (step-two (T s) (rows_of (C s)) (rows_of (D s)) (Cols s) _ (sym t.operation_of.ensures ∙ t.in-Two.is)) w.after_three.ensures
 
 returns-in-None : tie.Need-returns-in-None
 returns-in-None c =
-    let m = c.before in
-    let s = S m in
-    absurd (uses-none (T s) s.args.pitch s.args.n (length s.args.args.now) _ m.operation_of.ensures c.in-None.is s.requires.1.1.1.uses)
+    let s = S c.before in
+    absurd (uses-none (T s) s.args.pitch s.args.n (length s.args.args.now) _ c.operation_of.ensures c.in-None.is s.requires.1.1.1.uses)
 
 pub step_spec : {M : Type 1} → statement M
 step_spec =

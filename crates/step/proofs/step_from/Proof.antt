@@ -18,20 +18,20 @@ use Rattle.step.proofs.step_from.Tie as tie
 -- ---- places: the sizes known and the start, the call and what was known before it
 
 abbrev S : tie.After-bytes_for-ne → tie.Start
-S c = c.before.before.before.before.before.before.before.before.before.before.before
+S c = c
 
 abbrev sized : tie.After-step-arg10 → tie.After-bytes_for-ne
-sized c = c.before.before.before.before.before.before.before.before.before.before
+sized c = c
 
 abbrev called : tie.After-out_large-1 → tie.After-step
-called c = c.before.before.before.before.before.before.before
+called c = c
 
 -- ---- how much of each slice of offsets, and the column at the tray's front
 
-narrow : (b : tie.After-bytes_for-ne) → b.pick-no.result ≤ length (S b).args.from-offsets.now
+narrow : (b : tie.After-bytes_for-ne) → b.pick-no.result ≤ length (S b).args.from_offsets.now
 narrow b = let a = (S b).args in front-narrow a.width (a.n + 1) _ _ a.from-offsets.now a.from-large.now b.pick-no.ensures b.pick-nl.ensures (S b).requires.0.offsets
 
-large : (b : tie.After-bytes_for-ne) → b.pick-nl.result ≤ length (S b).args.from-large.now
+large : (b : tie.After-bytes_for-ne) → b.pick-nl.result ≤ length (S b).args.from_large.now
 large b = let a = (S b).args in front-wide a.width (a.n + 1) _ _ a.from-offsets.now a.from-large.now b.pick-no.ensures b.pick-nl.ensures (S b).requires.0.offsets
 
 abbrev O : tie.Start → List ℤ
@@ -47,13 +47,13 @@ taken b = let a = (S b).args in front_is (O (S b)) a.from-rows.now a.from-values
 -- ---- needs
 
 overflow_add-n : tie.Need-overflow_add-n
-overflow_add-n c = let s = c.before.before.before.before.before.before.before in omega (arith, used-below 18446744073709551615 s.args.width s.args.from_offsets.now s.args.from_large.now (omega (arith, s.well_formed)) (omega (arith, s.well_formed)), s.requires.0.offsets)
+overflow_add-n c = omega (arith, used-below 18446744073709551615 c.args.width c.args.from_offsets.now c.args.from_large.now (omega (arith, c.well_formed)) (omega (arith, c.well_formed)), c.requires.0.offsets)
 
 pick-no-requires : tie.Need-pick-no-requires
 pick-no-requires c κs = tt
 
 overflow_add-n-2 : tie.Need-overflow_add-n-2
-overflow_add-n-2 c = let s = c.before.before.before.before.before.before.before.before in omega (arith, used-below 18446744073709551615 s.args.width s.args.from_offsets.now s.args.from_large.now (omega (arith, s.well_formed)) (omega (arith, s.well_formed)), s.requires.0.offsets)
+overflow_add-n-2 c = omega (arith, used-below 18446744073709551615 c.args.width c.args.from_offsets.now c.args.from_large.now (omega (arith, c.well_formed)) (omega (arith, c.well_formed)), c.requires.0.offsets)
 
 pick-nl-requires : tie.Need-pick-nl-requires
 pick-nl-requires c κs = tt
@@ -65,19 +65,19 @@ bytes_for-ne-requires : tie.Need-bytes_for-ne-requires
 bytes_for-ne-requires c κs = tt
 
 slice_bounds-step-end : tie.Need-slice_bounds-step-end
-slice_bounds-step-end c = sym (length-take-le _ _ (narrow c.before))
+slice_bounds-step-end c = sym (length-take-le _ _ (narrow c))
 
 slice_bounds-step-end-2 : tie.Need-slice_bounds-step-end-2
-slice_bounds-step-end-2 c = let b = c.before.before in sym (length-take-le _ _ (omega (arith, (S b).requires.0.rows, b.bytes_for-nr.ensures)))
+slice_bounds-step-end-2 c = sym (length-take-le _ _ (omega (arith, (S c).requires.0.rows, c.bytes_for-nr.ensures)))
 
 slice_bounds-step-end-3 : tie.Need-slice_bounds-step-end-3
-slice_bounds-step-end-3 c = sym (length-take-le _ _ (S c.before.before.before).requires.0.values)
+slice_bounds-step-end-3 c = sym (length-take-le _ _ (S c).requires.0.values)
 
 slice_bounds-step-end-4 : tie.Need-slice_bounds-step-end-4
-slice_bounds-step-end-4 c = let b = c.before.before.before.before in sym (length-take-le _ _ (omega (arith, (S b).requires.0.elements, b.bytes_for-ne.ensures)))
+slice_bounds-step-end-4 c = sym (length-take-le _ _ (omega (arith, (S c).requires.0.elements, c.bytes_for-ne.ensures)))
 
 slice_bounds-step-end-5 : tie.Need-slice_bounds-step-end-5
-slice_bounds-step-end-5 c = sym (length-take-le _ _ (large c.before.before.before.before.before.before.before.before.before))
+slice_bounds-step-end-5 c = sym (length-take-le _ _ (large c.before.before.before.before))
 
 step-requires : tie.Need-step-requires
 step-requires c κs =
@@ -102,7 +102,7 @@ shape_of-out_large : tie.Need-shape_of-out_large
 shape_of-out_large c = search
 
 returns : tie.Need-returns
-returns c = let w = called c in rw (← taken (sized w.before)) w.step.ensures
+returns c = let w = called c in rw (← taken (sized w)) w.step.ensures
 
 pub step_from_spec : {M : Type 1} → statement M
 step_from_spec =

@@ -24,13 +24,12 @@ decreases-loop-left-2 values a n out₀ at k₀ left₀ out k left = left
 module _ (i : tie.In-loop-left invariant-loop-left decreases-loop-left invariant-loop-left-2 decreases-loop-left-2) where
   inside : (i.args.a + (i.loop-left.left - 8) + 8 ≤ length i.args.values.now) × (i.loop-left.k + 8 ≤ length i.loop-left.out)
   inside =
-      let s = i.before.before in
       let v = i.loop-left.invariant in
-      (omega (arith, i.loop-left-test, v.fewer, s.requires.0), omega (arith, i.loop-left-test, v.place, v.fewer, v.same, s.requires.1))
+      (omega (arith, i.loop-left-test, v.fewer, i.requires.0), omega (arith, i.loop-left-test, v.place, v.fewer, v.same, i.requires.1))
 
 module _ (i : tie.In-loop-left-2 invariant-loop-left decreases-loop-left invariant-loop-left-2 decreases-loop-left-2) where
   abbrev start : tie.Start invariant-loop-left decreases-loop-left invariant-loop-left-2 decreases-loop-left-2
-  start = i.before.before.before.before
+  start = i
 
   inside2 : (start.args.a + (i.loop-left-2.left - 1) < length start.args.values.now) × (i.loop-left-2.k < length i.loop-left-2.out)
   inside2 =
@@ -42,19 +41,19 @@ loop-left-init : tie.Need-loop-left-init invariant-loop-left decreases-loop-left
 loop-left-init c = turned_none _ _ _ _ _
 
 overflow_add-a : tie.Need-overflow_add-a invariant-loop-left decreases-loop-left invariant-loop-left-2 decreases-loop-left-2
-overflow_add-a c = omega (arith, (inside c).0, c.before.before)
+overflow_add-a c = omega (arith, (inside c).0, c)
 
 turn_eight-requires : tie.Need-turn_eight-requires invariant-loop-left decreases-loop-left invariant-loop-left-2 decreases-loop-left-2
 turn_eight-requires c κs = inside c.before
 
 overflow_add-k : tie.Need-overflow_add-k invariant-loop-left decreases-loop-left invariant-loop-left-2 decreases-loop-left-2
-overflow_add-k c = let i = c.before.before.before in omega (arith, (inside i).1, i.before.before, i.loop-left.invariant.same)
+overflow_add-k c = omega (arith, (inside c.before.before.before).1, c, c.loop-left.invariant.same)
 
 loop-left-smaller : tie.Need-loop-left-smaller invariant-loop-left decreases-loop-left invariant-loop-left-2 decreases-loop-left-2
 loop-left-smaller c = let t = c.loop-left-test in omega arith
 
 loop-left-preserved : tie.Need-loop-left-preserved invariant-loop-left decreases-loop-left invariant-loop-left-2 decreases-loop-left-2
-loop-left-preserved c = let i = c.before.before.before in turned_more _ _ _ _ _ i.loop-left.invariant 8 i.loop-left-test.true c.turn_eight.ensures
+loop-left-preserved c = turned_more _ _ _ _ _ c.loop-left.invariant 8 c.loop-left-test.true c.turn_eight.ensures
 
 loop-left-2-init : tie.Need-loop-left-2-init invariant-loop-left decreases-loop-left invariant-loop-left-2 decreases-loop-left-2
 loop-left-2-init c = turned_none _ _ _ _ _

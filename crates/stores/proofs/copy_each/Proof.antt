@@ -36,31 +36,31 @@ loop-left-init : tie.Need-loop-left-init invariant-loop-left decreases-loop-left
 loop-left-init c = (begun, refl)
 
 offset_bounds-values-p : tie.Need-offset_bounds-values-p invariant-loop-left decreases-loop-left
-offset_bounds-values-p c = let h = here c in omega (arith, c, c.before.before)
+offset_bounds-values-p c = let h = here c in omega (arith, c, c)
 
 bounds-values-p : tie.Need-bounds-values-p invariant-loop-left decreases-loop-left
 bounds-values-p c = here c
 
 offset_bounds-out-k : tie.Need-offset_bounds-out-k invariant-loop-left decreases-loop-left
-offset_bounds-out-k c = let r = room_at c.before in omega (arith, c.before, c.before.before.before)
+offset_bounds-out-k c = let r = room_at c.before in omega (arith, c, c)
 
 bounds-out-k : tie.Need-bounds-out-k invariant-loop-left decreases-loop-left
 bounds-out-k c = room_at c.before
 
 overflow_add-p : tie.Need-overflow_add-p invariant-loop-left decreases-loop-left
-overflow_add-p c = let h = here c.before in omega (arith, c.before, c.before.before.before)
+overflow_add-p c = let h = here c.before in omega (arith, c, c)
 
 overflow_add-k : tie.Need-overflow_add-k invariant-loop-left decreases-loop-left
-overflow_add-k c = let r = room_at c.before in omega (arith, c.before, c.before.before.before)
+overflow_add-k c = let r = room_at c.before in omega (arith, c, c)
 
 overflow_sub-left : tie.Need-overflow_sub-left invariant-loop-left decreases-loop-left
-overflow_sub-left c = omega (arith, c.before)
+overflow_sub-left c = omega (arith, c)
 
 loop-left-smaller : tie.Need-loop-left-smaller invariant-loop-left decreases-loop-left
-loop-left-smaller c = omega (arith, c.before)
+loop-left-smaller c = omega (arith, c)
 
 loop-left-preserved : tie.Need-loop-left-preserved invariant-loop-left decreases-loop-left
-loop-left-preserved c = (more c.loop-left.invariant.0 _ _ (next c.before) (rw (back64 _ c.out-1.given)), omega (arith, c.before))
+loop-left-preserved c = (more c.loop-left.invariant.0 _ _ (next c.before) (rw (back64 _ c.out-1.given)), omega (arith, c))
 
 shape_of-out : tie.Need-shape_of-out invariant-loop-left decreases-loop-left
 shape_of-out c = c.loop-left.invariant.0.same

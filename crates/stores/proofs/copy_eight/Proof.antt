@@ -12,10 +12,10 @@ use Rattle.stores.proofs.copy_eight.Tie as tie
 
 -- after the first four were copied
 abbrev start : tie.After-copy_four → tie.Start
-start f = f.before.before
+start f = f
 
 copy_four-requires : tie.Need-copy_four-requires
-copy_four-requires c κs = let s = c.before in (omega (arith, s.requires.0), omega (arith, s.requires.1))
+copy_four-requires c κs = (omega (arith, c.requires.0), omega (arith, c.requires.1))
 
 overflow_add-p : tie.Need-overflow_add-p
 overflow_add-p c = let s = start c.before in omega (arith, s, s.requires.0)
@@ -25,19 +25,17 @@ overflow_add-k c = let s = start c.before.before in omega (arith, s, s.requires.
 
 copy_four-requires-2 : tie.Need-copy_four-requires-2
 copy_four-requires-2 c κs =
-    let f = c.before.before in
-    (omega (arith, (start f).requires.0), omega (arith, (start f).requires.1, f.copy_four.auto.out))
+    (omega (arith, (start c.before.before).requires.0), omega (arith, (start c.before.before).requires.1, c.copy_four.auto.out))
 
 shape_of-out : tie.Need-shape_of-out
 shape_of-out c = c.copy_four-2.auto.out ∙ c.copy_four.auto.out
 
 returns : tie.Need-returns
 returns c =
-    let f = c.before.before.before.before in
-    let a = (start f).args in
+    let a = (start c.before.before.before.before).args in
     let G : ℕ → ℤ = λ i. get_or a.values.now i (pos 0) in
     c.copy_four-2.ensures
-    ∙ ap (λ (l : List ℤ). sets l (a.k + 4) (tab G (a.p + 4) 4)) f.copy_four.ensures
+    ∙ ap (λ (l : List ℤ). sets l (a.k + 4) (tab G (a.p + 4) 4)) c.copy_four.ensures
     ∙ sets_tab G a.p 4 4 4 a.out-1.now a.k (omega arith) (omega arith)
 
 pub copy_eight_spec : {M : Type 1} → statement M

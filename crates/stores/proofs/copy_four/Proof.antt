@@ -15,7 +15,7 @@ module _ (s : tie.Start) where
   to = four s.args.k (length s.args.out.now) s.requires.1 (omega (arith, s.good.1.1.0))
 
 abbrev start : tie.After-v3-1 → tie.Start
-start c = c.before.before.before.before
+start c = c
 
 offset_bounds-values-p : tie.Need-offset_bounds-values-p
 offset_bounds-values-p c = (from c).bytes0

@@ -12,10 +12,10 @@ use Rattle.stores.proofs.copy_short.Tie as tie
 
 -- where four values are there, and after the first of these were copied
 abbrev many : tie.After-copy_four → tie.Else-n-lt4
-many c = c.before.before
+many c = c
 
 abbrev first : tie.After-out-3-1 → tie.After-copy_four
-first c = c.before.before.before.before
+first c = c
 
 copy_each-requires : tie.Need-copy_each-requires
 copy_each-requires c κs = c.requires.1
@@ -27,22 +27,21 @@ returns-then-n-lt4 : tie.Need-returns-then-n-lt4
 returns-then-n-lt4 c = c.copy_each.ensures
 
 copy_four-requires : tie.Need-copy_four-requires
-copy_four-requires c κs = let e = c.before in (omega (arith, e, e.requires.1.0), omega (arith, e, e.requires.1.1))
+copy_four-requires c κs = (omega (arith, c, c.requires.1.0), omega (arith, c, c.requires.1.1))
 
 overflow_add-a : tie.Need-overflow_add-a
-overflow_add-a c = let e = many c.before in omega (arith, e, e.before, e.requires.1.0)
+overflow_add-a c = let e = many c.before in omega (arith, e, e, e.requires.1.0)
 
 overflow_add-at : tie.Need-overflow_add-at
-overflow_add-at c = let e = many c.before.before in omega (arith, e, e.before, e.requires.1.1)
+overflow_add-at c = let e = many c.before.before in omega (arith, e, e, e.requires.1.1)
 
 copy_four-requires-2 : tie.Need-copy_four-requires-2
 copy_four-requires-2 c κs =
-    let f = c.before.before in
-    let e = many f in
-    (omega (arith, e, e.requires.1.0), omega (arith, e, e.requires.1.1, f.copy_four.auto.out))
+    let e = many c.before.before in
+    (omega (arith, e, e.requires.1.0), omega (arith, e, e.requires.1.1, c.copy_four.auto.out))
 
 shape_of-out : tie.Need-shape_of-out
-shape_of-out c = c.copy_four-2.auto.out ∙ (first c).copy-four.auto.1.1.0
+shape_of-out c = c.copy_four-2.auto.out ∙ (first c).copy_four.auto.out
 
 returns : tie.Need-returns
 returns c =

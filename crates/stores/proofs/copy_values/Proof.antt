@@ -19,13 +19,12 @@ decreases-loop-left values a n out₀ at p₀ k₀ left₀ out p k left = left
 module _ (i : tie.In-loop-left invariant-loop-left decreases-loop-left) where
   inside : (i.loop-left.p + 8 ≤ length i.args.values.now) × (i.loop-left.k + 8 ≤ length i.loop-left.out)
   inside =
-      let s = i.before.before.before in
       let v = i.loop-left.invariant in
-      (omega (arith, i.loop-left-test, v.index, v.fewer, s.requires.0), omega (arith, i.loop-left-test, v.place, v.fewer, s.requires.1, copied_length _ _ _ _ _ v))
+      (omega (arith, i.loop-left-test, v.index, v.fewer, i.requires.0), omega (arith, i.loop-left-test, v.place, v.fewer, i.requires.1, copied_length _ _ _ _ _ v))
 
 module _ (e : tie.After-loop-left invariant-loop-left decreases-loop-left) where
   abbrev start : tie.Start invariant-loop-left decreases-loop-left
-  start = e.before.before.before
+  start = e
 
   abbrev last : ℕ
   last = start.args.n - 8
@@ -51,16 +50,16 @@ copy_eight-requires : tie.Need-copy_eight-requires invariant-loop-left decreases
 copy_eight-requires c κs = inside c.before
 
 overflow_add-p : tie.Need-overflow_add-p invariant-loop-left decreases-loop-left
-overflow_add-p c = let i = c.before.before.before in omega (arith, (inside i).0, i.before.before.before)
+overflow_add-p c = omega (arith, (inside c.before.before.before).0, c)
 
 overflow_add-k : tie.Need-overflow_add-k invariant-loop-left decreases-loop-left
-overflow_add-k c = let i = c.before.before.before in omega (arith, (inside i).1, i.before.before.before, copied_length _ _ _ _ _ i.loop-left.invariant)
+overflow_add-k c = omega (arith, (inside c.before.before.before).1, c, copied_length _ _ _ _ _ c.loop-left.invariant)
 
 loop-left-smaller : tie.Need-loop-left-smaller invariant-loop-left decreases-loop-left
 loop-left-smaller c = let t = c.loop-left-test in omega arith
 
 loop-left-preserved : tie.Need-loop-left-preserved invariant-loop-left decreases-loop-left
-loop-left-preserved c = let i = c.before.before.before in copied_more _ _ _ _ _ i.loop-left.invariant 8 i.loop-left-test.true c.copy_eight.ensures
+loop-left-preserved c = copied_more _ _ _ _ _ c.loop-left.invariant 8 c.loop-left-test.true c.copy_eight.ensures
 
 overflow_add-a : tie.Need-overflow_add-a invariant-loop-left decreases-loop-left
 overflow_add-a c = omega (arith, (inside-last c).0, start c)
@@ -76,13 +75,12 @@ shape_of-out c = c.copy_eight-2.auto.out ∙ copied_length _ _ _ _ _ c.loop-left
 
 returns : tie.Need-returns invariant-loop-left decreases-loop-left
 returns c =
-    let e = c.before.before.before in
-    let a = (start e).args in
-    let v = e.loop-left.invariant in
-    let many = e.if-n-lt8.false in
-    let few = e.loop-left-test.false in
-    let all : last e + 8 ≡ a.n = omega arith in
-    copied_over _ _ _ _ _ v (last e) 8 (omega (arith, v.fewer)) (omega (arith, v.fewer)) c.copy_eight-2.ensures
+    let a = (start c.before.before.before).args in
+    let v = c.loop-left.invariant in
+    let many = c.if-n-lt8.false in
+    let few = c.loop-left-test.false in
+    let all : last c.before.before.before + 8 ≡ a.n = omega arith in
+    copied_over _ _ _ _ _ v (last c.before.before.before) 8 (omega (arith, v.fewer)) (omega (arith, v.fewer)) c.copy_eight-2.ensures
     ∙ ap (λ (i : ℕ). sets a.out-1.now a.at (tab (λ j. get_or a.values.now j (pos 0)) a.a i)) all
 
 pub copy_values_spec : {M : Type 1} → statement M

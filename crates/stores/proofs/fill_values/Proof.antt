@@ -32,13 +32,13 @@ loop-left-init : tie.Need-loop-left-init invariant-loop-left decreases-loop-left
 loop-left-init c = begun
 
 offset_bounds-out-k : tie.Need-offset_bounds-out-k invariant-loop-left decreases-loop-left
-offset_bounds-out-k c = let r = room_at c in omega (arith, c, c.before.before)
+offset_bounds-out-k c = let r = room_at c in omega (arith, c, c)
 
 bounds-out-k : tie.Need-bounds-out-k invariant-loop-left decreases-loop-left
 bounds-out-k c = room_at c
 
 overflow_add-k : tie.Need-overflow_add-k invariant-loop-left decreases-loop-left
-overflow_add-k c = let r = room_at c in omega (arith, c, c.before.before)
+overflow_add-k c = let r = room_at c in omega (arith, c, c)
 
 overflow_sub-left : tie.Need-overflow_sub-left invariant-loop-left decreases-loop-left
 overflow_sub-left c = omega (arith, c)

@@ -12,32 +12,30 @@ use Rattle.stores.proofs.turn_eight.Tie as tie
 
 -- after the first four were copied
 abbrev start : tie.After-turn_four → tie.Start
-start f = f.before.before
+start f = f
 
 overflow_add-p : tie.Need-overflow_add-p
 overflow_add-p c = omega (arith, c, c.requires.0)
 
 turn_four-requires : tie.Need-turn_four-requires
-turn_four-requires c κs = let s = c.before in (omega (arith, s.requires.0), omega (arith, s.requires.1))
+turn_four-requires c κs = (omega (arith, c.requires.0), omega (arith, c.requires.1))
 
 overflow_add-k : tie.Need-overflow_add-k
 overflow_add-k c = let s = start c.before.before in omega (arith, s, s.requires.1)
 
 turn_four-requires-2 : tie.Need-turn_four-requires-2
 turn_four-requires-2 c κs =
-    let f = c.before.before in
-    (omega (arith, (start f).requires.0), omega (arith, (start f).requires.1, f.turn_four.auto.out))
+    (omega (arith, (start c.before.before).requires.0), omega (arith, (start c.before.before).requires.1, c.turn_four.auto.out))
 
 shape_of-out : tie.Need-shape_of-out
 shape_of-out c = c.turn_four-2.auto.out ∙ c.turn_four.auto.out
 
 returns : tie.Need-returns
 returns c =
-    let f = c.before.before.before.before in
-    let a = (start f).args in
+    let a = (start c.before.before.before.before).args in
     let G : ℕ → ℤ = λ i. get_or a.values.now i (pos 0) in
     c.turn_four-2.ensures
-    ∙ ap (λ (l : List ℤ). sets l (a.k + 4) (reverse (tab G a.p 4))) f.turn_four.ensures
+    ∙ ap (λ (l : List ℤ). sets l (a.k + 4) (reverse (tab G a.p 4))) c.turn_four.ensures
     ∙ back_up G a.p 4 4 a.out-1.now a.k
 
 pub turn_eight_spec : {M : Type 1} → statement M

@@ -20,7 +20,7 @@ abbrev decreases-loop-left : tie.decreases-loop-left
 decreases-loop-left rows rstart n counts bits start width sum₀ r₀ left₀ sum r left = left
 
 abbrev S : tie.At-loop-left invariant-loop-left decreases-loop-left → tie.Start invariant-loop-left decreases-loop-left
-S l = l.before.before.before
+S l = l
 
 abbrev B : tie.Start invariant-loop-left decreases-loop-left → Bits
 B s = from s.args.rstart s.args.rows.now
@@ -35,9 +35,8 @@ abbrev K : tie.At-loop-left invariant-loop-left decreases-loop-left → ℕ → 
 K l = count_at (B (S l)) (A (S l))
 
 -- the running sum with row r's count
-plus_row : (p : tie.After-plus_count invariant-loop-left decreases-loop-left) → let l = p.before.before.before.before in p.plus_count.result ≡ summed (plus l.loop-left.sum (K l l.loop-left.r))
+plus_row : (p : tie.After-plus_count invariant-loop-left decreases-loop-left) → p.plus_count.result ≡ summed (plus p.loop-left.sum (K p.before.before.before.before p.loop-left.r))
 plus_row p =
-    let l = p.before.before.before.before in
     rw (← p.is_valid-valid.ensures, ← p.taken_at-count.ensures) p.plus_count.ensures
 
 loop-left-init : tie.Need-loop-left-init invariant-loop-left decreases-loop-left
@@ -57,7 +56,7 @@ enum_known-k c = search
 
 returns-in-Refused : tie.Need-returns-in-Refused invariant-loop-left decreases-loop-left
 unfolding let_through
-returns-in-Refused c = let p = c.before in let l = p.before.before.before.before in (resize_stops (N l) (B (S l)) (A (S l)) (S l).args.n _ (running_stops (K l) l.loop-left.invariant _ p.loop-left-test.true (sym (plus_row p) ∙ c.in-Refused.is)), omega arith)
+returns-in-Refused c = (resize_stops (N c.before.before.before.before.before) (B (S c.before.before.before.before.before)) (A (S c.before.before.before.before.before)) (S c.before.before.before.before.before).args.n _ (running_stops (K c.before.before.before.before.before) c.loop-left.invariant _ c.loop-left-test.true (sym (plus_row c.before) ∙ c.in-Refused.is)), omega arith)
 
 enum_known-s : tie.Need-enum_known-s invariant-loop-left decreases-loop-left
 enum_known-s c = search
@@ -72,18 +71,18 @@ loop-left-smaller : tie.Need-loop-left-smaller invariant-loop-left decreases-loo
 loop-left-smaller c = omega (arith, c.loop-left-test.true)
 
 loop-left-preserved : tie.Need-loop-left-preserved invariant-loop-left decreases-loop-left
-loop-left-preserved c = let p = c.before in let l = p.before.before.before.before in running_more (K l) l.loop-left.invariant _ p.loop-left-test.true (sym (plus_row p) ∙ c.in-Sum.is)
+loop-left-preserved c = running_more (K c.before.before.before.before.before) c.loop-left.invariant _ c.loop-left-test.true (sym (plus_row c.before) ∙ c.in-Sum.is)
 
 most_resized-requires : tie.Need-most_resized-requires invariant-loop-left decreases-loop-left
 most_resized-requires c κs = search
 
 returns-then-most_resized-sum : tie.Need-returns-then-most_resized-sum invariant-loop-left decreases-loop-left
 unfolding let_through
-returns-then-most_resized-sum c = let m = c.before in let l = m.before.before in (resize-over (N l) (B (S l)) (A (S l)) (S l).args.n l.loop-left.sum (running_done (K l) l.loop-left.invariant (omega (arith, m.loop-left-test.false))) (rw m.most_resized.ensures at c.if-most_resized-sum.true), omega arith)
+returns-then-most_resized-sum c = (resize-over (N c.before.before.before) (B (S c.before.before.before)) (A (S c.before.before.before)) (S c.before.before.before).args.n c.loop-left.sum (running_done (K c.before.before.before) c.loop-left.invariant (omega (arith, c.loop-left-test.false))) (rw c.most_resized.ensures at c.if-most_resized-sum.true), omega arith)
 
 returns : tie.Need-returns invariant-loop-left decreases-loop-left
 unfolding let_through
-returns c = let m = c.before in let l = m.before.before in (resize_ends (N l) (B (S l)) (A (S l)) (S l).args.n l.loop-left.sum (running_done (K l) l.loop-left.invariant (omega (arith, m.loop-left-test.false))) (rw m.most_resized.ensures at c.if-most_resized-sum.false), omega (arith, c.if-most_resized-sum.false, m.most_resized.ensures, (limits-fit (S l).args.width).resized))
+returns c = (resize_ends (N c.before.before.before) (B (S c.before.before.before)) (A (S c.before.before.before)) (S c.before.before.before).args.n c.loop-left.sum (running_done (K c.before.before.before) c.loop-left.invariant (omega (arith, c.loop-left-test.false))) (rw c.most_resized.ensures at c.if-most_resized-sum.false), omega (arith, c.if-most_resized-sum.false, c.most_resized.ensures, (limits-fit (S c.before.before.before).args.width).resized))
 
 pub measure_resize_spec : {M : Type 1} → statement M
 measure_resize_spec =

@@ -28,7 +28,7 @@ overflow_mul-i : tie.Need-overflow_mul-i invariant-loop-i decreases-loop-i
 overflow_mul-i c = omega arith
 
 overflow_add-at : tie.Need-overflow_add-at invariant-loop-i decreases-loop-i
-overflow_add-at c = omega (arith, c.requires, c.before.before)
+overflow_add-at c = omega (arith, c.requires, c)
 
 get_u64-requires : tie.Need-get_u64-requires invariant-loop-i decreases-loop-i
 get_u64-requires c κs = omega (arith, c.requires)

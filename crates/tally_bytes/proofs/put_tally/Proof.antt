@@ -15,10 +15,9 @@ slice_bounds-encode_u64-end c = search rules
 
 encode_u64-requires : tie.Need-encode_u64-requires
 encode_u64-requires c κs =
-    let s = c.before.before.before.before.before in
-    let f : length s.args.tally.finished ≡ 16 = search rules in
-    let r : length s.args.tally.refused ≡ 16 = search rules in
-    omega (arith, f, r, s.requires)
+    let f : length c.args.tally.finished ≡ 16 = search rules in
+    let r : length c.args.tally.refused ≡ 16 = search rules in
+    omega (arith, f, r, c.requires)
 
 slice_bounds-encode_u64-end-2 : tie.Need-slice_bounds-encode_u64-end-2
 slice_bounds-encode_u64-end-2 c = search rules
@@ -29,31 +28,24 @@ slice_bounds-encode_u64-count c = search rules
 slice_bounds-encode_u64-start : tie.Need-slice_bounds-encode_u64-start
 slice_bounds-encode_u64-start c = search rules
 
-slice_bounds-encode_u64-end : tie.Need-slice_bounds-encode_u64-end
-slice_bounds-encode_u64-end c = search rules
+slice_bounds-encode_u64-end-3 : tie.Need-slice_bounds-encode_u64-end-3
+slice_bounds-encode_u64-end-3 c = search rules
 
 encode_u64-requires-2 : tie.Need-encode_u64-requires-2
 encode_u64-requires-2 c κs =
-    let e = c.before.before.before.before in
-    let s = e.before.before.before.before.before.before in
-    let r : length s.args.tally.refused ≡ 16 = search rules in
-    part_room e.encode_u64.new.1.0 (length s.args.tally.refused) r (rw e.encode_u64.auto.d s.requires)
+    let r : length c.args.tally.refused ≡ 16 = search rules in
+    part_room c.encode_u64.new.1.0 (length c.args.tally.refused) r (rw c.encode_u64.auto.d c.requires)
 
 shape_of-bytes : tie.Need-shape_of-bytes
 shape_of-bytes c = search rules
 
 returns : tie.Need-returns
 returns c =
-    let e = c.before.before.before.before.before.before.before in
-    let s = e.before.before.before.before.before.before in
-    let a = s.args in
+    let a = c.args in
     let f : length a.tally.finished ≡ 16 = search rules in
-    let k = e.encode_u64.auto.d in
-    behind (bytes_of_counts a.tally.finished) (bytes_of_counts a.tally.refused) a.bytes.now e.encode_u64.new.1.0 c.encode_u64-2.new.1.0 128
-    (length-bytes_of_counts a.tally.finished ∙ ap (λ (n : ℕ). n * 8) f) (omega (arith, k, s.requires)) e.encode_u64.ensures c.encode_u64-2.ensures
-
-slice_bounds-encode_u64-end-3 : tie.Need-slice_bounds-encode_u64-end-3
-slice_bounds-encode_u64-end-3 c = search rules
+    let k = c.encode_u64.auto.d in
+    behind (bytes_of_counts a.tally.finished) (bytes_of_counts a.tally.refused) a.bytes.now c.encode_u64.new.1.0 c.encode_u64-2.new.1.0 128
+    (length-bytes_of_counts a.tally.finished ∙ ap (λ (n : ℕ). n * 8) f) (omega (arith, k, c.requires)) c.encode_u64.ensures c.encode_u64-2.ensures
 
 pub put_tally_spec : {M : Type 1} → statement M
 put_tally_spec =

@@ -34,7 +34,7 @@ offset_bounds-s-i : tie.Need-offset_bounds-s-i invariant-loop-i decreases-loop-i
 offset_bounds-s-i c = search rules
 
 bounds-s-i : tie.Need-bounds-s-i invariant-loop-i decreases-loop-i
-bounds-s-i c = let s = c.before.before in omega (arith, c.loop-i-test.true, s.requires, s.loop-i.invariant.same)
+bounds-s-i c = omega (arith, c.loop-i-test.true, c.requires, c.loop-i.invariant.same)
 
 overflow_add-i : tie.Need-overflow_add-i invariant-loop-i decreases-loop-i
 overflow_add-i c = search rules
@@ -43,7 +43,7 @@ loop-i-smaller : tie.Need-loop-i-smaller invariant-loop-i decreases-loop-i
 loop-i-smaller c = omega arith
 
 loop-i-preserved : tie.Need-loop-i-preserved invariant-loop-i decreases-loop-i
-loop-i-preserved c = let s = c.before.before in turned (number s.args.ns.now) _ _ _ _ _ s.loop-i.invariant c.loop-i-test.true s.requires refl
+loop-i-preserved c = turned (number c.args.ns.now) _ _ _ _ _ c.loop-i.invariant c.loop-i-test.true c.requires refl
 
 shape_of-s : tie.Need-shape_of-s invariant-loop-i decreases-loop-i
 shape_of-s c = c.loop-i.invariant.same

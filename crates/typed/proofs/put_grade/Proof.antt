@@ -26,7 +26,7 @@ shape_of-counts : tie.Need-shape_of-counts
 shape_of-counts c = search rules
 
 returns-in-Rows : tie.Need-returns-in-Rows
-returns-in-Rows c = let p = c.before.before in grade_made p.in-Rows.is p.put_counts.ensures
+returns-in-Rows c = grade_made c.in-Rows.is c.put_counts.ensures
 
 pub put_grade_spec : {M : Type 1} → statement M
 put_grade_spec =

@@ -26,7 +26,7 @@ shape_of-counts : tie.Need-shape_of-counts
 shape_of-counts c = search rules
 
 returns-in-Counts : tie.Need-returns-in-Counts
-returns-in-Counts c = let p = c.before.before in repeat_made p.in-Counts.is p.put_counts.ensures
+returns-in-Counts c = repeat_made c.in-Counts.is c.put_counts.ensures
 
 pub put_repeat_spec : {M : Type 1} → statement M
 put_repeat_spec =

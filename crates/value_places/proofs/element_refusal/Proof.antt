@@ -35,11 +35,11 @@ abbrev A : tie.Start → Arguments
 A s = arguments s.args.indexes.now (from s.args.istart s.args.index_bits.now)
 
 abbrev S : tie.After-list_refusal-k → tie.Start
-S f = f.before.before.before.before.before
+S f = f
 
 -- the indexes' starting bit is not over 7
 in_byte : (f : tie.After-list_refusal-k) → (S f).args.istart ≤ 7
-in_byte f = omega (arith, f.before)
+in_byte f = omega (arith, f)
 
 in_byteᵇ : (f : tie.After-list_refusal-k) → ltb 7 (S f).args.istart ≡ false
 in_byteᵇ f = le-ltb 7 (S f).args.istart (in_byte f)
@@ -62,8 +62,7 @@ bits-formed e = record { small = omega (arith, in_byte e.before.before.before); 
 
 shows : (e : tie.Else-is_short) (l : ValueRoom) → element_outcome (N (S₂ e)) (C (S₂ e)) (A (S₂ e)) l ≡ element_shown (N (S₂ e)) (rows_of (C (S₂ e))) (shown_by (A (S₂ e))) l
 shows e l =
-    let f = e.before.before.before in
-    element-shown (N (S f)) (C (S f)) (A (S f)) l (in_byteᵇ f) _ f.list_refusal-k.ensures e.if-k-ne0.false (sym e.is_short.ensures ∙ e.if-is_short.false)
+    element-shown (N (S e.before.before.before)) (C (S e.before.before.before)) (A (S e.before.before.before)) l (in_byteᵇ e.before.before.before) _ e.list_refusal-k.ensures e.if-k-ne0.false (sym e.is_short.ensures ∙ e.if-is_short.false)
 
 counted : (e : tie.Else-indexes-n) → length (A (S₃ e)).values ≡ row_count (C (S₃ e)).offsets
 counted e = e.if-indexes-n.false ∙ e.row_count-n.ensures
@@ -74,12 +73,10 @@ goes e l = let s = S₃ e in shows e.before.before l ∙ element_goes (N s) (C s
 
 fours : (k : tie.After-index_refusal) → let s = S₃ k.before.before in k.index_refusal.result ≡ first_of (tab (four_at (N s) (C s).rows (A s).values (A s).bits) 0 (row_count (C s).offsets))
 fours k =
-    let t = k.before in
-    let e = t.before in
-    let s = S₃ e in
+    let s = S₃ k.before.before in
     k.index_refusal.ensures
-    ∙ ap (λ (n : ℕ). first_of (tab (four_at narrow (C s).rows (A s).values (A s).bits) 0 n)) e.row_count-n.ensures
-    ∙ ap (λ (w : Width). first_of (tab (four_at (limits_at w) (C s).rows (A s).values (A s).bits) 0 (row_count (C s).offsets))) (sym t.in-Narrow.is)
+    ∙ ap (λ (n : ℕ). first_of (tab (four_at narrow (C s).rows (A s).values (A s).bits) 0 n)) k.row_count-n.ensures
+    ∙ ap (λ (w : Width). first_of (tab (four_at (limits_at w) (C s).rows (A s).values (A s).bits) 0 (row_count (C s).offsets))) (sym k.in-Narrow.is)
 
 -- none of a large list
 none : (t : tie.In-Wide) → let s = S₃ t.before in first_of (tab (four_at (N s) (C s).rows (A s).values (A s).bits) 0 (row_count (C s).offsets)) ≡ 0
@@ -89,8 +86,7 @@ none t =
 
 returns-then-istart-gt7 : tie.Need-returns-then-istart-gt7
 returns-then-istart-gt7 c =
-    let s = c.before.before.before.before in
-    refuses (N s) (C s) (A s) 13 (λ z. omega arith) (λ l. element_starts (N s) (C s) (A s) l (lt-ltb 7 s.args.istart (omega arith)))
+    refuses (N c.before.before.before.before) (C c.before.before.before.before) (A c.before.before.before.before) 13 (λ z. omega arith) (λ l. element_starts (N c.before.before.before.before) (C c.before.before.before.before) (A c.before.before.before.before) l (lt-ltb 7 c.args.istart (omega arith)))
 
 list_refusal-k-requires : tie.Need-list_refusal-k-requires
 list_refusal-k-requires c κs = search
@@ -103,46 +99,40 @@ is_short-requires c κs = omega (arith, in_byte c.before)
 
 returns-then-is_short : tie.Need-returns-then-is_short
 returns-then-is_short c =
-    let f = c.before.before.before in
-    refuses (N (S f)) (C (S f)) (A (S f)) 2 (λ z. omega arith) (λ l. element-two (N (S f)) (C (S f)) (A (S f)) l (in_byteᵇ f) _ f.list_refusal-k.ensures c.if-k-ne0.false (sym c.is_short.ensures ∙ c.if-is_short.true))
+    refuses (N (S c.before.before.before)) (C (S c.before.before.before)) (A (S c.before.before.before)) 2 (λ z. omega arith) (λ l. element-two (N (S c.before.before.before)) (C (S c.before.before.before)) (A (S c.before.before.before)) l (in_byteᵇ c.before.before.before) _ c.list_refusal-k.ensures c.if-k-ne0.false (sym c.is_short.ensures ∙ c.if-is_short.true))
 
 row_count-n-requires : tie.Need-row_count-n-requires
 row_count-n-requires c κs = search
 
 returns-then-indexes-n : tie.Need-returns-then-indexes-n
 returns-then-indexes-n c =
-    let e = c.before.before in
-    let s = S₂ e in
-    refuses (N s) (C s) (A s) 3 (λ z. omega arith) (λ l. shows e l ∙ element_three (N s) (C s) (A s) l (λ z. c.if-indexes-n.true (z ∙ sym c.row_count-n.ensures)))
+    let s = S₂ c.before.before in
+    refuses (N s) (C s) (A s) 3 (λ z. omega arith) (λ l. shows c.before.before l ∙ element_three (N s) (C s) (A s) l (λ z. c.if-indexes-n.true (z ∙ sym c.row_count-n.ensures)))
 
 enum_told-1 : tie.Need-enum_told-1
 enum_told-1 c = search
 
 index_refusal-requires : tie.Need-index_refusal-requires
 index_refusal-requires c κs =
-    let f = c.before in
-    let e = f.before.before in
-    (by_count f.row_count-n.ensures (list-formed e.before.before).rows, (by_count (sym f.if-indexes-n.false) (bits-formed e), f.if-indexes-n.false))
+    (by_count c.row_count-n.ensures (list-formed c.before.before.before.before.before).rows, (by_count (sym c.if-indexes-n.false) (bits-formed c.before.before.before), c.if-indexes-n.false))
 
 enum_told-in-Wide : tie.Need-enum_told-in-Wide
 enum_told-in-Wide c = search
 
 returns-in-Narrow : tie.Need-returns-in-Narrow
 returns-in-Narrow c =
-    let g = c.before.before in
     record {
-      outcome = λ l. rw (fours c) (goes g l);
-      list = λ z. list-formed g.before.before.before.before;
-      indexes = λ z. record { many = counted g; bits = by_count (sym (counted g)) (bits-formed g.before.before) };
+      outcome = λ l. rw (fours c) (goes c.before.before l);
+      list = λ z. list-formed c.before.before.before.before.before.before;
+      indexes = λ z. record { many = counted c.before.before; bits = by_count (sym (counted c.before.before)) (bits-formed c.before.before.before.before) };
     }
 
 returns-in-Wide : tie.Need-returns-in-Wide
 returns-in-Wide c =
-    let g = c.before in
     record {
-      outcome = λ l. rw (none c) at (goes g l);
-      list = λ z. list-formed g.before.before.before.before;
-      indexes = λ z. record { many = counted g; bits = by_count (sym (counted g)) (bits-formed g.before.before) };
+      outcome = λ l. rw (none c) at (goes c.before l);
+      list = λ z. list-formed c.before.before.before.before.before;
+      indexes = λ z. record { many = counted c.before; bits = by_count (sym (counted c.before)) (bits-formed c.before.before.before) };
     }
 
 pub element_refusal_spec : {M : Type 1} → statement M

@@ -21,34 +21,32 @@ loop-left-init : tie.Need-loop-left-init invariant-loop-left decreases-loop-left
 loop-left-init c = (refl, omega arith)
 
 is_unfit-requires : tie.Need-is_unfit-requires invariant-loop-left decreases-loop-left
-is_unfit-requires c κs = let s = c.before.before.before.before in (s.requires.0, (s.requires.1.0, (s.requires.1.1, omega arith)))
+is_unfit-requires c κs = (c.requires.0, (c.requires.1.0, (c.requires.1.1, omega arith)))
 
 returns-then-is_unfit : tie.Need-returns-then-is_unfit invariant-loop-left decreases-loop-left
 returns-then-is_unfit c =
-    let i = c.before.before in
     let l = c.loop-left in
     let a = c.args in
     let K = four_at narrow (from a.rstart a.rows.now) a.indexes.now (from a.istart a.index_bits.now) in
     let y = four_yes narrow (from a.rstart a.rows.now) a.indexes.now (from a.istart a.index_bits.now) l.r (sym c.is_unfit.ensures ∙ c.if-is_unfit.true) in
-    sym y ∙ sym (first-refusal K l.r l.left i.loop-left-test.true (λ z. omega arith)) ∙ l.invariant.0
+    sym y ∙ sym (first-refusal K l.r l.left c.loop-left-test.true (λ z. omega arith)) ∙ l.invariant.0
 
 overflow_add-r : tie.Need-overflow_add-r invariant-loop-left decreases-loop-left
-overflow_add-r c = omega (arith, c.before.before)
+overflow_add-r c = omega (arith, c)
 
 overflow_sub-left : tie.Need-overflow_sub-left invariant-loop-left decreases-loop-left
-overflow_sub-left c = omega (arith, c.before.before)
+overflow_sub-left c = omega (arith, c)
 
 loop-left-smaller : tie.Need-loop-left-smaller invariant-loop-left decreases-loop-left
-loop-left-smaller c = omega (arith, c.before.before)
+loop-left-smaller c = omega (arith, c)
 
 loop-left-preserved : tie.Need-loop-left-preserved invariant-loop-left decreases-loop-left
 loop-left-preserved c =
-    let i = c.before.before in
     let l = c.loop-left in
     let a = c.args in
     let K = four_at narrow (from a.rstart a.rows.now) a.indexes.now (from a.istart a.index_bits.now) in
     let y = four_no narrow (from a.rstart a.rows.now) a.indexes.now (from a.istart a.index_bits.now) l.r (sym c.is_unfit.ensures ∙ c.if-is_unfit.false) in
-    (sym (later-refusal K l.r l.left i.loop-left-test.true y) ∙ l.invariant.0, omega (arith, i))
+    (sym (later-refusal K l.r l.left c.loop-left-test.true y) ∙ l.invariant.0, omega (arith, c))
 
 returns : tie.Need-returns invariant-loop-left decreases-loop-left
 returns c =

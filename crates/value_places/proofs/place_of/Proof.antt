@@ -15,9 +15,8 @@ enum_told-in-Element c = search
 element_place-requires : tie.Need-element_place-requires
 unfolding Indexed
 element_place-requires c κs =
-    let s = c.before.before.before in
-    let x = rw c.in-Element.is at s.requires.1.0 in
-    (x.bits, (x.many, (s.requires.1.1.0, (omega (arith, s.requires.1.1.1), omega (arith, s.requires.1.1.1)))))
+    let x = rw c.in-Element.is at c.requires.1.0 in
+    (x.bits, (x.many, (c.requires.1.1.0, (omega (arith, c.requires.1.1.1), omega (arith, c.requires.1.1.1)))))
 
 returns-in-AnyValue : tie.Need-returns-in-AnyValue
 unfolding PlaceOf

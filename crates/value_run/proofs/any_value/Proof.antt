@@ -10,8 +10,8 @@ use Rattle.column.proofs.AnswerLaws.{value_refused}
 use Rattle.column.proofs.WalkLaws.{readable}
 use Rattle.value_places.proofs.CallLaws.{any-outcome}
 use Rattle.value_places.specs.Values.{Indexed}
-use Rattle.value_run.proofs.any_value_lem.Statement.{statement}
-use Rattle.value_run.proofs.any_value_lem.Tie as tie
+use Rattle.value_run.proofs.any_value.Statement.{statement}
+use Rattle.value_run.proofs.any_value.Tie as tie
 
 abbrev C : tie.Start → Column
 C s = let a = s.args in column (used a.width a.offsets.now a.large.now) (from a.rows_start a.rows.now) a.values.now (from a.elements_start a.elements.now)
@@ -24,23 +24,20 @@ abbrev L : tie.Start → ValueRoom
 L s = value_room (length s.args.out_values.now) (length s.args.out_rows.now)
 
 abbrev S : tie.After-list_refusal-k → tie.Start
-S f = f.before.before.before.before
+S f = f
 
 list_refusal-k-requires : tie.Need-list_refusal-k-requires
 list_refusal-k-requires c κs = search
 
 returns-then-k-ne0 : tie.Need-returns-then-k-ne0
 returns-then-k-ne0 c =
-    let f = c.before in
-    let s = S f in
-    value_refused _ (any-outcome (C s) (A s) (L s) ∙ rw (← f.list_refusal-k.ensures) (gate_shut _ _ c.if-k-ne0.true))
+    let s = S c.before in
+    value_refused _ (any-outcome (C s) (A s) (L s) ∙ rw (← c.list_refusal-k.ensures) (gate_shut _ _ c.if-k-ne0.true))
 
 write_fitting-requires : tie.Need-write_fitting-requires
 unfolding Indexed
 write_fitting-requires c κs =
-    let e = c.before.before in
-    let f = e.before in
-    (readable (C (S f)) (sym f.list_refusal-k.ensures ∙ e.if-k-ne0.false), tt)
+    (readable (C (S c.before.before.before)) (sym c.list_refusal-k.ensures ∙ c.if-k-ne0.false), tt)
 
 shape_of-out_values : tie.Need-shape_of-out_values
 shape_of-out_values c = search
@@ -50,10 +47,8 @@ shape_of-out_rows c = search
 
 returns : tie.Need-returns
 returns c =
-    let e = c.before.before.before.before.before.before in
-    let f = e.before in
-    let s = S f in
-    rw (any-outcome (C s) (A s) (L s) ∙ gate_open _ _ (sym f.list_refusal-k.ensures ∙ e.if-k-ne0.false)) c.write_fitting.ensures
+    let s = S c.before.before.before.before.before.before.before in
+    rw (any-outcome (C s) (A s) (L s) ∙ gate_open _ _ (sym c.list_refusal-k.ensures ∙ c.if-k-ne0.false)) c.write_fitting.ensures
 
 pub any_value_spec : {M : Type 1} → statement M
 any_value_spec =

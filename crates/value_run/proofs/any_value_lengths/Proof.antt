@@ -21,7 +21,7 @@ list_refusal-k-requires c κs = search
 
 returns-then-k-ne0 : tie.Need-returns-then-k-ne0
 unfolding asked_values
-returns-then-k-ne0 c = let f = c.before in sym (any-lengths (C f) ∙ rw (← f.list_refusal-k.ensures) (gate_shut _ _ c.if-k-ne0.true))
+returns-then-k-ne0 c = sym (any-lengths (C c.before) ∙ rw (← c.list_refusal-k.ensures) (gate_shut _ _ c.if-k-ne0.true))
 
 row_count-requires : tie.Need-row_count-requires
 row_count-requires c κs = search
@@ -31,11 +31,9 @@ value_lengths_for-requires c κs = search
 
 returns : tie.Need-returns
 returns c =
-    let e = c.before.before in
-    let f = e.before in
     c.value_lengths_for.ensures
     ∙ ap (λ (n : ℕ). made (value_room_for n)) c.row_count.ensures
-    ∙ sym (any-lengths (C f) ∙ gate_open _ _ (sym f.list_refusal-k.ensures ∙ e.if-k-ne0.false))
+    ∙ sym (any-lengths (C c.before.before.before) ∙ gate_open _ _ (sym c.list_refusal-k.ensures ∙ c.if-k-ne0.false))
 
 pub any_value_lengths_spec : {M : Type 1} → statement M
 any_value_lengths_spec =

@@ -15,14 +15,12 @@ element_refusal-k-requires : tie.Need-element_refusal-k-requires
 element_refusal-k-requires c κs = search
 
 returns-then-k-ne0 : tie.Need-returns-then-k-ne0
-returns-then-k-ne0 c = let f = c.before in value_refused _ (f.element_refusal-k.ensures.outcome (L f) ∙ gate_shut _ _ c.if-k-ne0.true)
+returns-then-k-ne0 c = value_refused _ (c.element_refusal-k.ensures.outcome (L c.before) ∙ gate_shut _ _ c.if-k-ne0.true)
 
 write_fitting-requires : tie.Need-write_fitting-requires
 unfolding Indexed
 write_fitting-requires c κs =
-    let e = c.before.before in
-    let f = e.before in
-    (f.element_refusal-k.ensures.list e.if-k-ne0.false, f.element_refusal-k.ensures.indexes e.if-k-ne0.false)
+    (c.element_refusal-k.ensures.list c.if-k-ne0.false, c.element_refusal-k.ensures.indexes c.if-k-ne0.false)
 
 shape_of-out_values : tie.Need-shape_of-out_values
 shape_of-out_values c = search
@@ -32,9 +30,7 @@ shape_of-out_rows c = search
 
 returns : tie.Need-returns
 returns c =
-    let e = c.before.before.before.before.before.before in
-    let f = e.before in
-    rw (f.element_refusal-k.ensures.outcome (L f) ∙ gate_open _ _ e.if-k-ne0.false) c.write_fitting.ensures
+    rw (c.element_refusal-k.ensures.outcome (L c.before.before.before.before.before.before.before) ∙ gate_open _ _ c.if-k-ne0.false) c.write_fitting.ensures
 
 pub element_spec : {M : Type 1} → statement M
 element_spec =

@@ -12,7 +12,7 @@ use Rattle.value_run.proofs.element_lengths.Statement.{statement}
 use Rattle.value_run.proofs.element_lengths.Tie as tie
 
 abbrev S : tie.After-element_refusal-k → tie.Start
-S f = f.before.before.before.before
+S f = f
 
 abbrev C : tie.Start → Column
 C s = let a = s.args in column (used a.width a.offsets.now a.large.now) (from a.rows_start a.rows.now) a.values.now (from a.elements_start a.elements.now)
@@ -38,10 +38,9 @@ value_lengths_for-requires c κs = search
 
 returns : tie.Need-returns
 returns c =
-    let e = c.before.before in
     c.value_lengths_for.ensures
     ∙ ap (λ (n : ℕ). made (value_room_for n)) c.row_count.ensures
-    ∙ sym (asked e.before ∙ gate_open _ _ e.if-k-ne0.false)
+    ∙ sym (asked c.before.before.before ∙ gate_open _ _ c.if-k-ne0.false)
 
 pub element_lengths_spec : {M : Type 1} → statement M
 element_lengths_spec =

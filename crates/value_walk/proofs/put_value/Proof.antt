@@ -22,18 +22,17 @@ row_len-k-requires c κs = search
 
 place_of-i-requires : tie.Need-place_of-i-requires
 place_of-i-requires c κs =
-    let s = c.before.before.before.before.before in (
-      record { inside = omega (arith, s.requires.0.inside, c.row_len-k.ensures, ends s); bits = s.requires.0.elements },
-      (s.requires.1.0, (s.requires.0.there, omega (arith, s.requires.1.1.0, c.row_len-k.ensures, ends s))),
+    (
+      record { inside = omega (arith, c.requires.0.inside, c.row_len-k.ensures, ends c.before.before.before.before.before); bits = c.requires.0.elements },
+      (c.requires.1.0, (c.requires.0.there, omega (arith, c.requires.1.1.0, c.row_len-k.ensures, ends c.before.before.before.before.before))),
     )
 
 overflow_add-a : tie.Need-overflow_add-a
-overflow_add-a c = let s = c.before.before.before.before.before.before in omega (arith, s.requires.1.1.0, c.row_len-k.ensures, ends s, (limits-fit s.args.width).offset)
+overflow_add-a c = omega (arith, c.requires.1.1.0, c.row_len-k.ensures, ends c.before.before.before.before.before.before, (limits-fit c.args.width).offset)
 
 write_found-requires : tie.Need-write_found-requires
 write_found-requires c κs =
-    let s = c.before.before.before.before.before.before.before.before in
-    (omega (arith, s.requires.0.inside, c.row_len-k.ensures, ends s), (s.requires.0.elements, s.requires.1.1.1))
+    (omega (arith, c.requires.0.inside, c.row_len-k.ensures, ends c.before.before.before.before.before.before.before.before), (c.requires.0.elements, c.requires.1.1.1))
 
 shape_of-out_values : tie.Need-shape_of-out_values
 shape_of-out_values c = search
@@ -43,11 +42,10 @@ shape_of-out_rows c = search
 
 returns : tie.Need-returns
 returns c =
-    let s = c.before.before.before.before.before.before.before.before.before.before.before.before in
-    let a = s.args in
+    let a = c.args in
     let E = elem_at a.values.now (from a.estart a.elements.now) in
     let e = elem_at a.indexes.now (from a.istart a.index_bits.now) a.r in
-    let q = value_from (limits_at a.width) a.op (R s) E a.r a.a a.b e _ _ (omega (arith, s.requires.1.1.0, ends s)) c.row_len-k.ensures c.place_of-i.ensures in
+    let q = value_from (limits_at a.width) a.op (R c.before.before.before.before.before.before.before.before.before.before.before.before) E a.r a.a a.b e _ _ (omega (arith, c.requires.1.1.0, ends c.before.before.before.before.before.before.before.before.before.before.before.before)) c.row_len-k.ensures c.place_of-i.ensures in
     (rw (← q) c.write_found.ensures.0, rw (← q) c.write_found.ensures.1)
 
 pub put_value_spec : {M : Type 1} → statement M

@@ -29,7 +29,7 @@ abbrev L : tie.Start → ValueRoom
 L s = value_room (length s.args.out_values.now) (length s.args.out_rows.now)
 
 abbrev S : tie.After-has_value_room → tie.Start
-S h = h.before.before.before.before.before.before
+S h = h
 
 -- what the test of the room tells
 rows_are : (h : tie.After-has_value_room) → h.row_count-n.result ≡ length (W (S h))
@@ -39,7 +39,7 @@ room_is : (h : tie.After-has_value_room) → h.has_value_room.result ≡ fits_va
 room_is h = h.has_value_room.ensures ∙ same_value_fit (L (S h)) (rows_are h)
 
 roomy : (e : tie.Else-not-has_value_room) → let s = S e.before in (length (W s) ≤ length s.args.out_values.now) × (bytes_for (length (W s)) ≤ length s.args.out_rows.now)
-roomy e = has_value_room _ _ _ (sym (room_is e.before) ∙ not-false _ e.if-not-has_value_room.false)
+roomy e = has_value_room _ _ _ (sym (room_is e.before) ∙ not-false _ e.if-not-has_value_room.false-raw)
 
 row_count-n-requires : tie.Need-row_count-n-requires
 row_count-n-requires c κs = search
@@ -48,19 +48,17 @@ has_value_room-requires : tie.Need-has_value_room-requires
 has_value_room-requires c κs = search
 
 returns-then-not-has_value_room : tie.Need-returns-then-not-has_value_room
-returns-then-not-has_value_room c = let h = c.before in value_refused 9 (values-short (W (S h)) (L (S h)) (sym (room_is h) ∙ not-true _ c.if-not-has_value_room.true))
+returns-then-not-has_value_room c = value_refused 9 (values-short (W (S c.before)) (L (S c.before)) (sym (room_is c.before) ∙ not-true _ c.if-not-has_value_room.true-raw))
 
 write_values-requires : tie.Need-write_values-requires
 write_values-requires c κs =
-    let e = c.before.before in
-    let s = S e.before in
+    let s = S c.before.before.before in
     let n = length-made s.args.op (C s) (A s) in
-    (s.requires.0, (s.requires.1, (omega (arith, (roomy e).0), omega (arith, (roomy e).1))))
+    (s.requires.0, (s.requires.1, (omega (arith, (roomy c.before.before).0), omega (arith, (roomy c.before.before).1))))
 
 value_answer-requires : tie.Need-value_answer-requires
 value_answer-requires c κs =
-    let e = c.before.before.before.before.before.before.before in
-    omega (arith, (roomy e).1, rows_are e.before, c.write_values.auto.out_rows)
+    omega (arith, (roomy c.before.before.before.before.before.before).1, rows_are c.before.before.before.before.before.before.before, c.write_values.auto.out_rows)
 
 shape_of-out_values : tie.Need-shape_of-out_values
 shape_of-out_values c = search
@@ -71,9 +69,7 @@ shape_of-out_rows c = search
 returns : tie.Need-returns
 returns c =
     let w = c.write_values.ensures in
-    let e = c.before.before.before.before.before.before.before.before in
-    let h = e.before in
-    value_made_lem (W (S h)) _ (values-made (W (S h)) (L (S h)) (sym (room_is h) ∙ not-false _ e.if-not-has_value_room.false)) (rows_are h) w.values w.rows c.value_answer.ensures
+    value_made_lem (W (S c.before.before.before.before.before.before.before.before)) _ (values-made (W (S c.before.before.before.before.before.before.before.before)) (L (S c.before.before.before.before.before.before.before.before)) (sym (room_is c.before.before.before.before.before.before.before.before) ∙ not-false _ c.if-not-has_value_room.false-raw)) (rows_are c.before.before.before.before.before.before.before.before) w.values w.rows c.value_answer.ensures
 
 pub write_fitting_spec : {M : Type 1} → statement M
 write_fitting_spec =

@@ -28,7 +28,7 @@ abbrev C : tie.Start invariant-loop-left decreases-loop-left → Column
 C s = let a = s.args in column (used a.width a.offsets.now a.large.now) (from a.rstart a.rows.now) a.values.now (from a.estart a.elements.now)
 
 abbrev S : tie.At-loop-left invariant-loop-left decreases-loop-left → tie.Start invariant-loop-left decreases-loop-left
-S l = l.before.before.before.before.before.before
+S l = l
 
 abbrev count : tie.At-loop-left invariant-loop-left decreases-loop-left → ℕ
 count l = l.row_count-n.result
@@ -37,23 +37,22 @@ abbrev rows_are : (l : tie.At-loop-left invariant-loop-left decreases-loop-left)
 rows_are l = l.row_count-n.ensures
 
 abbrev W : tie.At-loop-left invariant-loop-left decreases-loop-left → ℕ → Elem
-W l = value_at (S l).args.op (C (S l)) (arguments (S l).args.indexes.now (from (S l).args.istart (S l).args.index-bits.now))
+W l = value_at (S l).args.op (C (S l)) (arguments (S l).args.indexes.now (from (S l).args.istart (S l).args.index_bits.now))
 
 -- the room that was asked for
-roomy : (l : tie.At-loop-left invariant-loop-left decreases-loop-left) → RoomForElemsˡ (tab (W l) 0 (count l)) 0 (length (S l).args.out-values.now) (length (S l).args.out-rows.now)
+roomy : (l : tie.At-loop-left invariant-loop-left decreases-loop-left) → RoomForElemsˡ (tab (W l) 0 (count l)) 0 (length (S l).args.out_values.now) (length (S l).args.out_rows.now)
 roomy l =
     let n = length-tab (W l) 0 (count l) in
     record { values = omega (arith, (S l).requires.1.1.0, rows_are l); elements = omega (arith, (S l).requires.1.1.1, rows_are l) }
 
-next : (i : tie.In-loop-left invariant-loop-left decreases-loop-left) → let l = i.before in tab (W l) l.loop-left.r l.loop-left.left ≡ W l l.loop-left.r ∷ tab (W l) (l.loop-left.r + 1) (l.loop-left.left - 1)
-next i = let l = i.before in tab-step (W l) l.loop-left.r l.loop-left.left i.loop-left-test.true
+next : (i : tie.In-loop-left invariant-loop-left decreases-loop-left) → tab (W i.before) i.loop-left.r i.loop-left.left ≡ W i.before i.loop-left.r ∷ tab (W i.before) (i.loop-left.r + 1) (i.loop-left.left - 1)
+next i = tab-step (W i.before) i.loop-left.r i.loop-left.left i.loop-left-test.true
 
 -- the value that a turn makes is row r's
-same_row : (q : tie.After-offset_at-b invariant-loop-left decreases-loop-left) → let l = q.before.before.before in
-    value_made (S l).args.op (row_from (C (S l)).rows (elem_at (C (S l)).values (C (S l)).elements) l.loop-left.r q.offset_at-a.result q.offset_at-b.result) (elem_at (S l).args.indexes.now (from (S l).args.istart (S l).args.index-bits.now) l.loop-left.r) ≡ W l l.loop-left.r
+same_row : (q : tie.After-offset_at-b invariant-loop-left decreases-loop-left) → 
+    value_made (S q.before.before.before).args.op (row_from (C (S q.before.before.before)).rows (elem_at (C (S q.before.before.before)).values (C (S q.before.before.before)).elements) q.loop-left.r q.offset_at-a.result q.offset_at-b.result) (elem_at (S q.before.before.before).args.indexes.now (from (S q.before.before.before).args.istart (S q.before.before.before).args.index_bits.now) q.loop-left.r) ≡ W q.before.before.before q.loop-left.r
 same_row q =
-    let l = q.before.before.before in
-    ap (λ (w : Row). value_made (S l).args.op w (elem_at (S l).args.indexes.now (from (S l).args.istart (S l).args.index-bits.now) l.loop-left.r)) (row_from_lem (C (S l)) l.loop-left.r q.offset_at-a.result q.offset_at-b.result q.offset_at-a.ensures.0 q.offset_at-b.ensures.0)
+    ap (λ (w : Row). value_made (S q.before.before.before).args.op w (elem_at (S q.before.before.before).args.indexes.now (from (S q.before.before.before).args.istart (S q.before.before.before).args.index_bits.now) q.loop-left.r)) (row_from_lem (C (S q.before.before.before)) q.loop-left.r q.offset_at-a.result q.offset_at-b.result q.offset_at-a.ensures.0 q.offset_at-b.ensures.0)
 
 row_count-n-requires : tie.Need-row_count-n-requires invariant-loop-left decreases-loop-left
 row_count-n-requires c κs = search
@@ -68,32 +67,24 @@ overflow_add-r : tie.Need-overflow_add-r invariant-loop-left decreases-loop-left
 overflow_add-r c = omega arith
 
 offset_at-b-requires : tie.Need-offset_at-b-requires invariant-loop-left decreases-loop-left
-offset_at-b-requires c κs = omega (arith, c.before)
+offset_at-b-requires c κs = omega (arith, c)
 
 put_value-requires : tie.Need-put_value-requires invariant-loop-left decreases-loop-left
 put_value-requires c κs =
-    let q = c.before.before in
-    let p = c.before.before.before in
-    let i = c.before.before.before.before in
-    let l = c.before.before.before.before.before in
-    (between (C (S l)) _ l.loop-left.r _ _ (S l).requires.0 (rows_are l) (omega (arith, i)) p.offset_at-a.ensures.0 q.offset_at-b.ensures.0, (rw (← rows_are l) at (S l).requires.1.0, (q.offset_at-b.ensures.1, room l.loop-left.invariant.0 _ _ (next i) (roomy l))))
+    (between (C (S c.before.before.before.before.before)) _ c.loop-left.r _ _ (S c.before.before.before.before.before).requires.0 (rows_are c.before.before.before.before.before) (omega (arith, c)) c.offset_at-a.ensures.0 c.offset_at-b.ensures.0, (rw (← rows_are c.before.before.before.before.before) at (S c.before.before.before.before.before).requires.1.0, (c.offset_at-b.ensures.1, room c.loop-left.invariant.0 _ _ (next c.before.before.before.before) (roomy c.before.before.before.before.before))))
 
-overflow_add-r : tie.Need-overflow_add-r invariant-loop-left decreases-loop-left
-overflow_add-r c = omega (arith, c.before.before.before.before.before.before.before.before)
+overflow_add-r-in-loop-left : tie.Need-overflow_add-r-in-loop-left invariant-loop-left decreases-loop-left
+overflow_add-r-in-loop-left c = omega (arith, c)
 
 overflow_sub-left : tie.Need-overflow_sub-left invariant-loop-left decreases-loop-left
-overflow_sub-left c = omega (arith, c.before.before.before.before.before.before.before.before)
+overflow_sub-left c = omega (arith, c)
 
 loop-left-smaller : tie.Need-loop-left-smaller invariant-loop-left decreases-loop-left
-loop-left-smaller c = omega (arith, c.before.before.before.before.before.before.before.before)
+loop-left-smaller c = omega (arith, c)
 
 loop-left-preserved : tie.Need-loop-left-preserved invariant-loop-left decreases-loop-left
 loop-left-preserved c =
-    let w = c.before.before.before in
-    let q = c.before.before.before.before.before.before in
-    let i = c.before.before.before.before.before.before.before.before in
-    let l = c.before.before.before.before.before.before.before.before.before in
-    (written l.loop-left.invariant.0 _ _ (next i) (rw (← same_row q) w.put_value.ensures.0) (rw (← same_row q) w.put_value.ensures.1), omega (arith, i))
+    (written c.loop-left.invariant.0 _ _ (next c.before.before.before.before.before.before.before.before) (rw (← same_row c.before.before.before.before.before.before) c.put_value.ensures.0) (rw (← same_row c.before.before.before.before.before.before) c.put_value.ensures.1), omega (arith, c))
 
 shape_of-out_values : tie.Need-shape_of-out_values invariant-loop-left decreases-loop-left
 shape_of-out_values c = c.loop-left.invariant.0.lv
@@ -104,12 +95,8 @@ shape_of-out_rows c = c.loop-left.invariant.0.le
 returns : tie.Need-returns invariant-loop-left decreases-loop-left
 unfolding values_made
 returns c =
-    let l = c.before in
-    let n = length-tab (W l) 0 (count l) in
-    rw (← rows_are l) (fills_values (done l.loop-left.invariant.0 (tab-none (W l) l.loop-left.r l.loop-left.left c.loop-left-test.false)) (omega (arith, (roomy l).values)) (omega (arith, (roomy l).elements)))
-
-overflow_add-r-in-loop-left : tie.Need-overflow_add-r-in-loop-left invariant-loop-left decreases-loop-left
-overflow_add-r-in-loop-left c = search rules
+    let n = length-tab (W c.before) 0 (count c.before) in
+    rw (← rows_are c.before) (fills_values (done c.loop-left.invariant.0 (tab-none (W c.before) c.loop-left.r c.loop-left.left c.loop-left-test.false)) (omega (arith, (roomy c.before).values)) (omega (arith, (roomy c.before).elements)))
 
 pub write_values_spec : {M : Type 1} → statement M
 write_values_spec =

@@ -19,13 +19,13 @@ abbrev decreases-loop-left : tie.decreases-loop-left
 decreases-loop-left offsets sizes rows rstart values elements estart r₀ left₀ r left = left
 
 abbrev S : tie.At-loop-left invariant-loop-left decreases-loop-left → tie.Start invariant-loop-left decreases-loop-left
-S l = l.before.before.before
+S l = l
 
 abbrev C : tie.At-loop-left invariant-loop-left decreases-loop-left → View
 C l = let a = (S l).args in view a.offsets.now a.sizes.now (from a.rstart a.rows.now) a.values.now (from a.estart a.elements.now)
 
 -- whether the row that a turn looks at lies outside
-told : (o : tie.After-is_outside invariant-loop-left decreases-loop-left) → let l = o.before.before in view_outside (C l) l.loop-left.r ≡ o.is_outside.result
+told : (o : tie.After-is_outside invariant-loop-left decreases-loop-left) → view_outside (C o.before.before) o.loop-left.r ≡ o.is_outside.result
 unfolding view_outside
 told o = sym o.is_outside.ensures
 
@@ -34,31 +34,27 @@ unfolding refusal11
 loop-left-init c = (refl, omega arith)
 
 is_outside-requires : tie.Need-is_outside-requires invariant-loop-left decreases-loop-left
-is_outside-requires c κs = (omega (arith, c), omega (arith, c, (S c.before).pre))
+is_outside-requires c κs = (omega (arith, c), omega (arith, c, (S c.before).requires))
 
 returns-then-is_outside : tie.Need-returns-then-is_outside invariant-loop-left decreases-loop-left
 returns-then-is_outside c =
-    let i = c.before.before in
-    let l = i.before in
-    any_now (view_outside (C l)) l.loop-left.r l.loop-left.left _ l.loop-left.invariant.0 i.loop-left-test.true (told c.before ∙ c.if-is_outside.true)
+    any_now (view_outside (C c.before.before.before)) c.loop-left.r c.loop-left.left _ c.loop-left.invariant.0 c.loop-left-test.true (told c.before ∙ c.if-is_outside.true)
 
 overflow_add-r : tie.Need-overflow_add-r invariant-loop-left decreases-loop-left
-overflow_add-r c = omega (arith, c.before.before)
+overflow_add-r c = omega (arith, c)
 
 overflow_sub-left : tie.Need-overflow_sub-left invariant-loop-left decreases-loop-left
-overflow_sub-left c = omega (arith, c.before.before)
+overflow_sub-left c = omega (arith, c)
 
 loop-left-smaller : tie.Need-loop-left-smaller invariant-loop-left decreases-loop-left
-loop-left-smaller c = omega (arith, c.before.before)
+loop-left-smaller c = omega (arith, c)
 
 loop-left-preserved : tie.Need-loop-left-preserved invariant-loop-left decreases-loop-left
 loop-left-preserved c =
-    let i = c.before.before in
-    let l = i.before in
-    (any_on (view_outside (C l)) l.loop-left.r l.loop-left.left _ l.loop-left.invariant.0 i.loop-left-test.true (told c.before ∙ c.if-is_outside.false), omega (arith, i))
+    (any_on (view_outside (C c.before.before.before)) c.loop-left.r c.loop-left.left _ c.loop-left.invariant.0 c.loop-left-test.true (told c.before ∙ c.if-is_outside.false), omega (arith, c))
 
 returns : tie.Need-returns invariant-loop-left decreases-loop-left
-returns c = let l = c.before in any-end (view_outside (C l)) l.loop-left.r l.loop-left.left _ l.loop-left.invariant.0 c.loop-left-test.false
+returns c = any-end (view_outside (C c.before)) c.loop-left.r c.loop-left.left _ c.loop-left.invariant.0 c.loop-left-test.false
 
 pub are_outside_spec : {M : Type 1} → statement M
 are_outside_spec =

@@ -26,8 +26,7 @@ below-requires-2 c κs = search rules
 
 returns-then-below-2 : tie.Need-returns-then-below-2
 returns-then-below-2 c =
-    let s = c.before.before.before.before in
-    outside-size (outside_of s.args.n (offset s)) _ _ (outside_below s.args.n (size s) (sym c.below-2.ensures ∙ c.if-below-2.true))
+    outside-size (outside_of c.args.n (offset c.before.before.before.before)) _ _ (outside_below c.args.n (size c.before.before.before.before) (sym c.below-2.ensures ∙ c.if-below-2.true))
 
 offset_at-a-requires : tie.Need-offset_at-a-requires
 offset_at-a-requires c κs = search rules
@@ -40,11 +39,8 @@ overflow_add-result c = omega (arith, c.offset_at-size.ensures.1, c.offset_at-a.
 
 returns : tie.Need-returns
 returns c =
-    let e = c.before.before in
-    let f = e.before.before in
-    let s = f.before.before in
     rw (c.offset_at-a.ensures.0, c.offset_at-size.ensures.0)
-    (outside-sum s.args.n (offset s) (size s) (sym f.below.ensures ∙ f.if-below.false) (sym e.below-2.ensures ∙ e.if-below-2.false))
+    (outside-sum c.args.n (offset c.before.before.before.before.before.before) (size c.before.before.before.before.before.before) (sym c.below.ensures ∙ c.if-below.false) (sym c.below-2.ensures ∙ c.if-below-2.false))
 
 pub is_outside_spec : {M : Type 1} → statement M
 is_outside_spec =

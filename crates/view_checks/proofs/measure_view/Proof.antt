@@ -18,7 +18,7 @@ abbrev decreases-loop-left : tie.decreases-loop-left
 decreases-loop-left offsets sizes rows rstart values elements estart n found₀ r₀ left₀ found r left = left
 
 abbrev S : tie.At-loop-left invariant-loop-left decreases-loop-left → tie.Start invariant-loop-left decreases-loop-left
-S l = l.before.before.before
+S l = l
 
 abbrev C : tie.At-loop-left invariant-loop-left decreases-loop-left → View
 C l = let a = (S l).args in view a.offsets.now a.sizes.now (from a.rstart a.rows.now) a.values.now (from a.estart a.elements.now)
@@ -28,54 +28,51 @@ count l = length (S l).args.offsets.now
 
 -- the length of row r, from its size
 abbrev L : tie.After-row_len-len invariant-loop-left decreases-loop-left → tie.At-loop-left invariant-loop-left decreases-loop-left
-L m = m.before.before.before
+L m = m
 
-told : (m : tie.After-row_len-len invariant-loop-left decreases-loop-left) → m.row_len-len.result ≡ length (elems_of (view_at (C (L m)) (L m).loop.r))
-told m = view-length (C (L m)) (L m).loop.r _ _ m.offset_at-size.ensures.0 m.row_len-len.ensures
+told : (m : tie.After-row_len-len invariant-loop-left decreases-loop-left) → m.row_len-len.result ≡ length (elems_of (view_at (C (L m)) (L m).loop-left.r))
+told m = view-length (C (L m)) (L m).loop-left.r _ _ m.offset_at-size.ensures.0 m.row_len-len.ensures
 
 loop-left-init : tie.Need-loop-left-init invariant-loop-left decreases-loop-left
 loop-left-init c = sum_begun _ _ _ _
 
 offset_at-size-requires : tie.Need-offset_at-size-requires invariant-loop-left decreases-loop-left
-offset_at-size-requires c κs = omega (arith, c, (S c.before).pre.many)
+offset_at-size-requires c κs = omega (arith, c, (S c.before).requires.many)
 
 row_len-len-requires : tie.Need-row_len-len-requires invariant-loop-left decreases-loop-left
-row_len-len-requires c κs = let l = c.before.before in ((S l).requires.rows, (omega (arith, c.before), omega arith))
+row_len-len-requires c κs = ((S c.before.before).requires.rows, (omega (arith, c), omega arith))
 
 overflow_sub-found : tie.Need-overflow_sub-found invariant-loop-left decreases-loop-left
-overflow_sub-found c = omega (arith, (L c).loop.invariant.small)
+overflow_sub-found c = omega (arith, (L c).loop-left.invariant.small)
 
 returns-then-found-len : tie.Need-returns-then-found-len invariant-loop-left decreases-loop-left
 returns-then-found-len c =
-    let m = c.before in
-    let l = L m in
+    let l = L c.before in
     rw (← shown-rows (C l) (count l) refl)
-    (counted_past (view_at (C l)) (count l) 2147483647 m.row_len-len.result l.loop-left.invariant m.loop-left-test.true (told m) (omega (arith, c.if-found-len.true, l.loop-left.invariant.small)))
+    (counted_past (view_at (C l)) (count l) 2147483647 c.row_len-len.result l.loop-left.invariant c.loop-left-test.true (told c.before) (omega (arith, c.if-found-len.true, l.loop-left.invariant.small)))
 
 overflow_add-found : tie.Need-overflow_add-found invariant-loop-left decreases-loop-left
-overflow_add-found c = omega (arith, c.if-found-len.false, (L c.before).loop.inv.small)
+overflow_add-found c = omega (arith, c.if-found-len.false, (L c.before).loop-left.invariant.small)
 
 overflow_add-r : tie.Need-overflow_add-r invariant-loop-left decreases-loop-left
-overflow_add-r c = omega (arith, c.before.before.before)
+overflow_add-r c = omega (arith, c)
 
 overflow_sub-left : tie.Need-overflow_sub-left invariant-loop-left decreases-loop-left
-overflow_sub-left c = omega (arith, c.before.before.before)
+overflow_sub-left c = omega (arith, c)
 
 loop-left-smaller : tie.Need-loop-left-smaller invariant-loop-left decreases-loop-left
-loop-left-smaller c = omega (arith, c.before.before.before)
+loop-left-smaller c = omega (arith, c)
 
 loop-left-preserved : tie.Need-loop-left-preserved invariant-loop-left decreases-loop-left
 loop-left-preserved c =
-    let m = c.before in
-    let l = L m in
-    let k = m.row_len-len.result in
-    sum_more (view_at (C l)) (count l) 2147483647 k l.loop-left.found (l.loop-left.found + k) l.loop-left.invariant m.loop-left-test.true (told m) (omega arith) (omega arith) refl (omega (arith, c.if-found-len.false, l.loop-left.invariant.small))
+    let l = L c.before in
+    let k = c.row_len-len.result in
+    sum_more (view_at (C l)) (count l) 2147483647 k l.loop-left.found (l.loop-left.found + k) l.loop-left.invariant c.loop-left-test.true (told c.before) (omega arith) (omega arith) refl (omega (arith, c.if-found-len.false, l.loop-left.invariant.small))
 
 returns : tie.Need-returns invariant-loop-left decreases-loop-left
 returns c =
-    let l = c.before in
-    rw (← shown-rows (C l) (count l) refl)
-    (counted_all (view_at (C l)) (count l) 2147483647 l.loop-left.found (sum_done _ _ _ l.loop-left.invariant c.loop-left-test.false) l.loop-left.invariant.small)
+    rw (← shown-rows (C c.before) (count c.before) refl)
+    (counted_all (view_at (C c.before)) (count c.before) 2147483647 c.loop-left.found (sum_done _ _ _ c.loop-left.invariant c.loop-left-test.false) c.loop-left.invariant.small)
 
 pub measure_view_spec : {M : Type 1} → statement M
 measure_view_spec =

@@ -12,7 +12,7 @@ use Rattle.view_checks.proofs.view_refusal.Tie as tie
 
 -- the places that are used below
 abbrev S : tie.Else-is_start_over → tie.Start
-S e = e.before.before.before.before
+S e = e
 
 -- no starting bit is over 7
 none_over : (e : tie.Else-is_start_over) → (ltb 7 (S e).args.rstart || ltb 7 (S e).args.estart) ≡ false
@@ -38,9 +38,8 @@ returns-then-are_short c = rw (none_over c.before.before, ← c.are_short.ensure
 returns-then-sizes-offsets : tie.Need-returns-then-sizes-offsets
 unfolding view_refusal refusal13ᵛ refusal2ᵛ refusal3ᵛ
 returns-then-sizes-offsets c =
-    let e = c.before in
-    let a = (S e.before.before).args in
-    rw (none_over e.before.before, ← e.are_short.ensures, e.if-are_short.false, ne_eqb (length a.sizes.now) (length a.offsets.now) c.if-sizes-offsets.true)
+    let a = (S c.before.before.before).args in
+    rw (none_over c.before.before.before, ← c.are_short.ensures, c.if-are_short.false, ne_eqb (length a.sizes.now) (length a.offsets.now) c.if-sizes-offsets.true)
 
 are_outside-requires : tie.Need-are_outside-requires
 are_outside-requires c κs = search rules
@@ -48,18 +47,14 @@ are_outside-requires c κs = search rules
 returns-then-are_outside : tie.Need-returns-then-are_outside
 unfolding view_refusal refusal13ᵛ refusal2ᵛ refusal3ᵛ
 returns-then-are_outside c =
-    let d = c.before.before in
-    let e = d.before in
-    let a = (S e.before.before).args in
-    rw (none_over e.before.before, ← e.are_short.ensures, e.if-are_short.false, eq-eqb (length a.sizes.now) (length a.offsets.now) d.if-sizes-offsets.false, ← c.are_outside.ensures, c.if-are_outside.true)
+    let a = (S c.before.before.before.before.before).args in
+    rw (none_over c.before.before.before.before.before, ← c.are_short.ensures, c.if-are_short.false, eq-eqb (length a.sizes.now) (length a.offsets.now) c.if-sizes-offsets.false, ← c.are_outside.ensures, c.if-are_outside.true)
 
 returns : tie.Need-returns
 unfolding view_refusal refusal13ᵛ refusal2ᵛ refusal3ᵛ
 returns c =
-    let d = c.before.before in
-    let e = d.before in
-    let a = (S e.before.before).args in
-    rw (none_over e.before.before, ← e.are_short.ensures, e.if-are_short.false, eq-eqb (length a.sizes.now) (length a.offsets.now) d.if-sizes-offsets.false, ← c.are_outside.ensures, c.if-are_outside.false)
+    let a = (S c.before.before.before.before.before).args in
+    rw (none_over c.before.before.before.before.before, ← c.are_short.ensures, c.if-are_short.false, eq-eqb (length a.sizes.now) (length a.offsets.now) c.if-sizes-offsets.false, ← c.are_outside.ensures, c.if-are_outside.false)
 
 pub view_refusal_spec : {M : Type 1} → statement M
 view_refusal_spec =

@@ -19,10 +19,10 @@ use Rattle.views.proofs.copy_shown.Tie as tie
 -- ---- places: the start; room found, from the rows written
 
 abbrev S : tie.After-measure_view-m → tie.Start
-S m = m.before.before.before.before.before
+S m = m
 
 abbrev roomed : tie.After-write_shown → tie.Else-not-has_room
-roomed w = w.before.before.before.before.before
+roomed w = w
 
 -- ---- the view, its rows, and the lengths of the output
 
@@ -47,37 +47,32 @@ room_is : (h : tie.After-has_room) → let s = S h.before.before in h.has_room.r
 room_is h = let s = S h.before.before in h.has_room.ensures ∙ same_fit (L s) (rows_are s) (within h.before).0
 
 roomy : (e : tie.Else-not-has_room) → let s = S e.before.before.before in RoomInˡ (length (W s)) (length (flat (W s))) (length s.args.out_offsets.now) (length s.args.out_rows.now) (length s.args.out_values.now) (length s.args.out_elements.now)
-roomy e = has_room _ _ _ _ _ _ (sym (room_is e.before) ∙ not-false _ e.if-not-has_room.false)
+roomy e = has_room _ _ _ _ _ _ (sym (room_is e.before) ∙ not-false _ e.if-not-has_room.false-raw)
 
 measure_view-m-requires : tie.Need-measure_view-m-requires
 measure_view-m-requires c κs = search
 
 returns-then-m-gt2147483647 : tie.Need-returns-then-m-gt2147483647
-returns-then-m-gt2147483647 c = let m = c.before in let s = S m in list-refused 8 (too_many narrow (W s) _ m.measure_view-m.ensures (L s) c.if-m-gt2147483647.true)
+returns-then-m-gt2147483647 c = let s = S c.before in list-refused 8 (too_many narrow (W s) _ c.measure_view-m.ensures (L s) c.if-m-gt2147483647.true)
 
 has_room-requires : tie.Need-has_room-requires
 has_room-requires c κs = search
 
 returns-then-not-has_room : tie.Need-returns-then-not-has_room
 returns-then-not-has_room c =
-    let h = c.before in
-    let s = S h.before.before in
-    list-refused 9 ((within h.before).1 (L s) ∙ fitted_short (W s) (L s) (sym (room_is h) ∙ not-true _ c.if-not-has_room.true))
+    let s = S c.before.before.before in
+    list-refused 9 ((within c.before.before).1 (L s) ∙ fitted_short (W s) (L s) (sym (room_is c.before) ∙ not-true _ c.if-not-has_room.true-raw))
 
 write_shown-requires : tie.Need-write_shown-requires
 write_shown-requires c κs =
-    let e = c.before.before.before.before in
-    let f = e.before.before in
-    let s = S f.before in
-    (s.requires, (rw (within f).0 at f.if-m-gt2147483647.false, rw (length-shown-rows (C s)) at (roomy e)))
+    let s = S c.before.before.before.before.before.before.before in
+    (s.requires, (rw (within c.before.before.before.before.before.before).0 at c.if-m-gt2147483647.false, rw (length-shown-rows (C s)) at (roomy c.before.before.before.before)))
 
 list_answer-requires : tie.Need-list_answer-requires
 list_answer-requires c κs =
-    let w = c.before.before.before.before.before.before.before.before in
-    let e = roomed w in
-    let f = e.before.before in
+    let e = roomed c.before.before.before.before.before.before in
     let r = roomy e in
-    (omega (arith, r.rows, rows_are (S f.before), w.write_shown.auto.out_rows), omega (arith, r.elements, (within f).0, w.write_shown.auto.out_elements))
+    (omega (arith, r.rows, rows_are (S e), c.write_shown.auto.out_rows), omega (arith, r.elements, (within e).0, c.write_shown.auto.out_elements))
 
 shape_of-out_offsets : tie.Need-shape_of-out_offsets
 shape_of-out_offsets c = c.write_shown.auto.out_offsets
@@ -93,12 +88,9 @@ shape_of-out_elements c = c.write_shown.auto.out_elements
 
 returns : tie.Need-returns
 returns c =
-    let w = c.before.before.before.before.before.before.before.before.before in
-    let e = roomed w in
-    let h = e.before in
-    let f = h.before in
-    let s = S f.before in
-    list-made (W s) _ _ ((within f).1 (L s) ∙ fitted-made (W s) (L s) (sym (room_is h) ∙ not-false _ e.if-not-has_room.false)) (rows_are s) (within f).0 w.write_shown.ensures c.list_answer.ensures
+    let e = roomed c.before.before.before.before.before.before.before in
+    let s = S e in
+    list-made (W s) _ _ ((within e).1 (L s) ∙ fitted-made (W s) (L s) (sym (room_is e) ∙ not-false _ e.if-not-has_room.false-raw)) (rows_are s) (within e).0 c.write_shown.ensures c.list_answer.ensures
 
 pub copy_shown_spec : {M : Type 1} → statement M
 copy_shown_spec =

@@ -10,7 +10,7 @@ use Rattle.views.proofs.export_view.Statement.{statement}
 use Rattle.views.proofs.export_view.Tie as tie
 
 abbrev S : tie.After-list_refusal-k → tie.Start
-S k = k.before.before.before.before.before
+S k = k
 
 abbrev C : tie.Start → Column
 C s = let a = s.args in column a.offsets.now (from a.rows_start a.rows.now) a.values.now (from a.elements_start a.elements.now)
@@ -22,10 +22,10 @@ list_refusal-k-requires : tie.Need-list_refusal-k-requires
 list_refusal-k-requires c κs = search
 
 returns-then-k-ne0 : tie.Need-returns-then-k-ne0
-returns-then-k-ne0 c = let k = c.before in let s = S k in view-refused _ (export_refused (C s) (L s) k.list_refusal-k.ensures c.if-k-ne0.true)
+returns-then-k-ne0 c = let s = S c.before in view-refused _ (export_refused (C s) (L s) c.list_refusal-k.ensures c.if-k-ne0.true)
 
 write_fitting-requires : tie.Need-write_fitting-requires
-write_fitting-requires c κs = let e = c.before.before.before.before.before in readable (C (S e.before)) (sym e.list_refusal-k.ensures ∙ e.if-k-ne0.false)
+write_fitting-requires c κs = readable (C (S c.before.before.before.before.before.before)) (sym c.list_refusal-k.ensures ∙ c.if-k-ne0.false)
 
 shape_of-out_offsets : tie.Need-shape_of-out_offsets
 shape_of-out_offsets c = c.write_fitting.auto.out_offsets
@@ -44,10 +44,8 @@ shape_of-out_elements c = c.write_fitting.auto.out_elements
 
 returns : tie.Need-returns
 returns c =
-    let p = c.before.before.before.before.before.before.before in
-    let e = p.before.before.before.before.before.before in
-    let s = S e.before in
-    rw (export_open (C s) (L s) e.list_refusal-k.ensures e.if-k-ne0.false) p.write_fitting.ensures
+    let s = S c.before.before.before.before.before.before.before.before.before.before.before.before.before.before in
+    rw (export_open (C s) (L s) c.list_refusal-k.ensures c.if-k-ne0.false) c.write_fitting.ensures
 
 pub export_view_spec : {M : Type 1} → statement M
 export_view_spec =

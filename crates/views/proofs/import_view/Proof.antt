@@ -12,7 +12,7 @@ use Rattle.views.proofs.import_view.Statement.{statement}
 use Rattle.views.proofs.import_view.Tie as tie
 
 abbrev S : tie.After-view_refusal-k → tie.Start
-S k = k.before.before.before.before.before
+S k = k
 
 abbrev C : tie.Start → View
 C s = let a = s.args in view a.offsets.now a.sizes.now (from a.rows_start a.rows.now) a.values.now (from a.elements_start a.elements.now)
@@ -24,10 +24,10 @@ view_refusal-k-requires : tie.Need-view_refusal-k-requires
 view_refusal-k-requires c κs = search
 
 returns-then-k-ne0 : tie.Need-returns-then-k-ne0
-returns-then-k-ne0 c = let k = c.before in let s = S k in list-refused _ (import_refused narrow (C s) (L s) k.view_refusal-k.ensures c.if-k-ne0.true)
+returns-then-k-ne0 c = let s = S c.before in list-refused _ (import_refused narrow (C s) (L s) c.view_refusal-k.ensures c.if-k-ne0.true)
 
 copy_shown-requires : tie.Need-copy_shown-requires
-copy_shown-requires c κs = let e = c.before.before.before.before in readable_view (C (S e.before)) (sym e.view_refusal-k.ensures ∙ e.if-k-ne0.false)
+copy_shown-requires c κs = readable_view (C (S c.before.before.before.before.before)) (sym c.view_refusal-k.ensures ∙ c.if-k-ne0.false)
 
 shape_of-out_offsets : tie.Need-shape_of-out_offsets
 shape_of-out_offsets c = c.copy_shown.auto.out_offsets
@@ -43,10 +43,8 @@ shape_of-out_elements c = c.copy_shown.auto.out_elements
 
 returns : tie.Need-returns
 returns c =
-    let p = c.before.before.before.before.before.before in
-    let e = p.before.before.before.before.before in
-    let s = S e.before in
-    rw (import_open narrow (C s) (L s) e.view_refusal-k.ensures e.if-k-ne0.false) p.copy_shown.ensures
+    let s = S c.before.before.before.before.before.before.before.before.before.before.before.before in
+    rw (import_open narrow (C s) (L s) c.view_refusal-k.ensures c.if-k-ne0.false) c.copy_shown.ensures
 
 pub import_view_spec : {M : Type 1} → statement M
 import_view_spec =

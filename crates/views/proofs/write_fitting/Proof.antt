@@ -17,10 +17,10 @@ use Rattle.views.proofs.write_fitting.Tie as tie
 -- ---- places: the start; room found, from the view written
 
 abbrev S : tie.After-has_view_room → tie.Start
-S h = h.before.before.before.before.before.before.before
+S h = h
 
 abbrev roomed : tie.After-write_view → tie.Else-not-has_view_room
-roomed w = w.before.before.before.before.before.before
+roomed w = w
 
 -- ---- the column, its rows, and the lengths of the output
 
@@ -41,7 +41,7 @@ room_is : (h : tie.After-has_view_room) → h.has_view_room.result ≡ fits_view
 room_is h = h.has_view_room.ensures ∙ same_view-fit (L (S h)) (rows_are h) h.measure_rows-m.ensures.0
 
 roomy : (e : tie.Else-not-has_view_room) → let s = S e.before in ViewRoomInˡ (length (W s)) (length (flat (W s))) (length s.args.out_offsets.now) (length s.args.out_sizes.now) (length s.args.out_rows.now) (length s.args.out_values.now) (length s.args.out_elements.now)
-roomy e = has_view-room _ _ _ _ _ _ _ (sym (room_is e.before) ∙ not-false _ e.if-not-has_view_room.false)
+roomy e = has_view-room _ _ _ _ _ _ _ (sym (room_is e.before) ∙ not-false _ e.if-not-has_view_room.false-raw)
 
 row_count-n-requires : tie.Need-row_count-n-requires
 row_count-n-requires c κs = search
@@ -53,21 +53,19 @@ has_view_room-requires : tie.Need-has_view_room-requires
 has_view_room-requires c κs = search
 
 returns-then-not-has_view_room : tie.Need-returns-then-not-has_view_room
-returns-then-not-has_view_room c = let h = c.before in view-refused 9 (export_short (W (S h)) (L (S h)) (sym (room_is h) ∙ not-true _ c.if-not-has_view_room.true))
+returns-then-not-has_view_room c = view-refused 9 (export_short (W (S c.before)) (L (S c.before)) (sym (room_is c.before) ∙ not-true _ c.if-not-has_view_room.true-raw))
 
 write_view-requires : tie.Need-write_view-requires
 write_view-requires c κs =
-    let e = c.before.before.before.before.before in
-    let s = S e.before in
-    let m = e.measure_rows-m.ensures in
-    (s.requires, (rw m.0 at m.1, rw (length-rows (C s)) at (roomy e)))
+    let s = S c.before.before.before.before.before.before in
+    let m = c.measure_rows-m.ensures in
+    (s.requires, (rw m.0 at m.1, rw (length-rows (C s)) at (roomy c.before.before.before.before.before)))
 
 list_answer-requires : tie.Need-list_answer-requires
 list_answer-requires c κs =
-    let w = c.before.before.before.before.before.before.before.before.before in
-    let e = roomed w in
+    let e = roomed c.before.before.before.before.before.before.before in
     let r = roomy e in
-    (omega (arith, r.rows, rows_are e.before, w.write_view.auto.out_rows), omega (arith, r.elements, e.measure_rows-m.ensures.0, w.write_view.auto.out_elements))
+    (omega (arith, r.rows, rows_are e, c.write_view.auto.out_rows), omega (arith, r.elements, e.measure_rows-m.ensures.0, c.write_view.auto.out_elements))
 
 shape_of-out_offsets : tie.Need-shape_of-out_offsets
 shape_of-out_offsets c = c.write_view.auto.out_offsets
@@ -86,11 +84,9 @@ shape_of-out_elements c = c.write_view.auto.out_elements
 
 returns : tie.Need-returns
 returns c =
-    let w = c.before.before.before.before.before.before.before.before.before.before in
-    let e = roomed w in
-    let h = e.before in
-    let s = S h in
-    view_made (W s) _ _ (export_made (W s) (L s) (sym (room_is h) ∙ not-false _ e.if-not-has_view_room.false)) (rows_are h) h.measure_rows-m.ensures.0 w.write_view.ensures c.list_answer.ensures
+    let e = roomed c.before.before.before.before.before.before.before.before in
+    let s = S e in
+    view_made (W s) _ _ (export_made (W s) (L s) (sym (room_is e) ∙ not-false _ e.if-not-has_view_room.false-raw)) (rows_are e) e.measure_rows-m.ensures.0 c.write_view.ensures c.list_answer.ensures
 
 pub write_fitting_spec : {M : Type 1} → statement M
 write_fitting_spec =

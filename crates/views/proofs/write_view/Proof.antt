@@ -29,19 +29,19 @@ decreases-loop-left offsets rows rstart values elements estart out-offsets₀ ou
 -- ---- places: the start, from the loop; row r read, from the row written; the row written, from its offset and from its size
 
 abbrev S : tie.At-loop-left invariant-loop-left decreases-loop-left → tie.Start invariant-loop-left decreases-loop-left
-S l = l.before.before.before.before.before.before
+S l = l
 
 abbrev valued : tie.After-put_row-next invariant-loop-left decreases-loop-left → tie.After-offset_of-begin invariant-loop-left decreases-loop-left
-valued w = w.before.before.before.before
+valued w = w
 
 abbrev read : tie.After-offset_of-begin invariant-loop-left decreases-loop-left → tie.After-offset_at-b invariant-loop-left decreases-loop-left
-read o = o.before.before
+read o = o
 
 abbrev placed : tie.After-put_offset invariant-loop-left decreases-loop-left → tie.After-put_row-next invariant-loop-left decreases-loop-left
-placed p = p.before.before.before.before.before.before.before
+placed p = p
 
 abbrev sized : tie.After-put_offset-in-loop-left invariant-loop-left decreases-loop-left → tie.After-put_offset invariant-loop-left decreases-loop-left
-sized p = p.before.before.before
+sized p = p
 
 -- ---- the column, its rows, and how many
 
@@ -62,35 +62,31 @@ roomy l = view-room-at (C (S l)) (count l) (rows_are l) (S l).requires.1.1
 
 -- the row that a turn makes is row r's
 abbrev made : (q : tie.After-offset_at-b invariant-loop-left decreases-loop-left) → Row
-made q = let l = q.before.before.before in row_from (C (S l)).rows (elem_at (C (S l)).values (C (S l)).elements) l.loop-left.r q.offset_at-a.result q.offset_at-b.result
+made q = row_from (C (S q.before.before.before)).rows (elem_at (C (S q.before.before.before)).values (C (S q.before.before.before)).elements) q.loop-left.r q.offset_at-a.result q.offset_at-b.result
 
-same_row : (q : tie.After-offset_at-b invariant-loop-left decreases-loop-left) → let l = q.before.before.before in made q ≡ W l l.loop-left.r
+same_row : (q : tie.After-offset_at-b invariant-loop-left decreases-loop-left) → made q ≡ W q.before.before.before q.loop-left.r
 same_row q =
-    let l = q.before.before.before in
-    row_from_lem (C (S l)) l.loop-left.r q.offset_at-a.result q.offset_at-b.result q.offset_at-a.ensures.0 q.offset_at-b.ensures.0
+    row_from_lem (C (S q.before.before.before)) q.loop-left.r q.offset_at-a.result q.offset_at-b.result q.offset_at-a.ensures.0 q.offset_at-b.ensures.0
 
 -- where it begins
 begins : (o : tie.After-offset_of-begin invariant-loop-left decreases-loop-left) → let q = read o in o.offset_of-begin.result ≡ pick (is_row (made q)) q.loop-left.at 0
 begins o =
     let q = read o in
-    let l = q.before.before.before in
-    rw (is_row-from (C (S l)).rows l.loop-left.r q.offset_at-a.result q.offset_at-b.result (elem_at (C (S l)).values (C (S l)).elements), ← o.is_valid-valid.ensures) o.offset_of-begin.ensures
+    rw (is_row-from (C (S q)).rows q.loop-left.r q.offset_at-a.result q.offset_at-b.result (elem_at (C (S q)).values (C (S q)).elements), ← o.is_valid-valid.ensures) o.offset_of-begin.ensures
 
 pick_le : (b : Bool) (n : ℕ) → pick b n 0 ≤ n
 pick_le true n = omega arith
 pick_le false n = omega arith
 
-begin_small : (o : tie.After-offset_of-begin invariant-loop-left decreases-loop-left) → o.offset_of-begin.result ≤ (read o).before.before.before.loop.at
-begin_small o = let p = pick_le o.is_valid-valid.result (read o).before.before.before.loop.at in omega (arith, o.offset_of-begin.ensures)
+begin_small : (o : tie.After-offset_of-begin invariant-loop-left decreases-loop-left) → o.offset_of-begin.result ≤ (read o).loop-left.at
+begin_small o = let p = pick_le o.is_valid-valid.result (read o).loop-left.at in omega (arith, o.offset_of-begin.ensures)
 
 -- the elements written after row r are no more than there are
-small : (w : tie.After-put_row-next invariant-loop-left decreases-loop-left) → let l = (read (valued w)).before.before.before in (w.put_row-next.result ≤ 2147483647) × (l.loop-left.at ≤ w.put_row-next.result)
+small : (w : tie.After-put_row-next invariant-loop-left decreases-loop-left) → let l = (read (valued w)) in (w.put_row-next.result ≤ 2147483647) × (l.loop-left.at ≤ w.put_row-next.result)
 small w =
     let q = read (valued w) in
-    let i = q.before.before in
-    let l = i.before in
-    let k = show_small (W l) (count l) (made q) i.loop-left-test.true (same_row q) l.loop-left.invariant w.put_row-next.ensures in
-    (omega (arith, (S l).pre.1.0, rw (rows_at (C (S l)) (count l) (rows_are l)) at k), show_rises (W l) (count l) (made q) i.loop-left-test.true (same_row q) l.loop-left.invariant w.put_row-next.ensures)
+    let k = show_small (W q) (count q) (made q) q.loop-left-test.true (same_row q) q.loop-left.invariant w.put_row-next.ensures in
+    (omega (arith, (S q).requires.1.0, rw (rows_at (C (S q)) (count q) (rows_are q)) at k), show_rises (W q) (count q) (made q) q.loop-left-test.true (same_row q) q.loop-left.invariant w.put_row-next.ensures)
 
 row_count-n-requires : tie.Need-row_count-n-requires invariant-loop-left decreases-loop-left
 row_count-n-requires c κs = search rules
@@ -99,18 +95,17 @@ loop-left-init : tie.Need-loop-left-init invariant-loop-left decreases-loop-left
 loop-left-init c = show_begun _ _ _ _ _ _ _
 
 offset_at-a-requires : tie.Need-offset_at-a-requires invariant-loop-left decreases-loop-left
-offset_at-a-requires c κs = let l = c.before in omega (arith, c, l.loop-left.invariant.walk.rows, rows_are l)
+offset_at-a-requires c κs = omega (arith, c, c.loop-left.invariant.walk.rows, rows_are c.before)
 
 overflow_add-r : tie.Need-overflow_add-r invariant-loop-left decreases-loop-left
-overflow_add-r c = let l = c.before.before in omega (arith, c.before, l.loop-left.invariant.walk.rows, rows_are l)
+overflow_add-r c = omega (arith, c, c.loop-left.invariant.walk.rows, rows_are c.before.before)
 
 offset_at-b-requires : tie.Need-offset_at-b-requires invariant-loop-left decreases-loop-left
-offset_at-b-requires c κs = let l = c.before.before in omega (arith, c.before, l.loop-left.invariant.walk.rows, rows_are l)
+offset_at-b-requires c κs = omega (arith, c, c.loop-left.invariant.walk.rows, rows_are c.before.before)
 
 is_valid-valid-requires : tie.Need-is_valid-valid-requires invariant-loop-left decreases-loop-left
 is_valid-valid-requires c κs =
-    let l = c.before.before.before in
-    (rw (rows_are l) (S l).requires.0.rows, omega (arith, c.before.before, l.loop-left.invariant.walk.rows))
+    (rw (rows_are c.before.before.before) (S c.before.before.before).requires.0.rows, omega (arith, c, c.loop-left.invariant.walk.rows))
 
 offset_of-begin-requires : tie.Need-offset_of-begin-requires invariant-loop-left decreases-loop-left
 offset_of-begin-requires c κs = search rules
@@ -118,35 +113,28 @@ offset_of-begin-requires c κs = search rules
 put_row-next-requires : tie.Need-put_row-next-requires invariant-loop-left decreases-loop-left
 put_row-next-requires c κs =
     let q = read c.before.before.before in
-    let i = q.before.before in
-    let l = i.before in
-    (between (C (S l)) _ l.loop-left.r _ _ (S l).pre.0 (rows_are l) (omega (arith, i, l.loop-left.invariant.walk.rows)) q.offset_at-a.ensures.0 q.offset_at-b.ensures.0, show_room (W l) (count l) (made q) i.loop-left-test.true (same_row q) l.loop-left.invariant (roomy l))
+    (between (C (S q)) _ q.loop-left.r _ _ (S q).requires.0 (rows_are q) (omega (arith, q, q.loop-left.invariant.walk.rows)) q.offset_at-a.ensures.0 q.offset_at-b.ensures.0, show_room (W q) (count q) (made q) q.loop-left-test.true (same_row q) q.loop-left.invariant (roomy q))
 
 overflow_sub-size : tie.Need-overflow_sub-size invariant-loop-left decreases-loop-left
 overflow_sub-size c = (small c.before.before.before.before.before).1
 
 put_offset-requires : tie.Need-put_offset-requires invariant-loop-left decreases-loop-left
 put_offset-requires c κs =
-    let w = c.before.before.before.before.before.before in
-    let q = read (valued w) in
-    let i = q.before.before in
-    let l = i.before in
-    ((show_slots (W l) (count l) (made q) i.loop-left-test.true (same_row q) l.loop-left.invariant (roomy l)).0, omega (arith, begin_small (valued w), (small w).0, (small w).1))
+    let q = read (valued c.before.before.before.before.before.before) in
+    ((show_slots (W q) (count q) (made q) q.loop-left-test.true (same_row q) q.loop-left.invariant (roomy q)).0, omega (arith, begin_small (valued c.before.before.before.before.before.before), (small c.before.before.before.before.before.before).0, (small c.before.before.before.before.before.before).1))
 
 put_offset-requires-in-loop-left : tie.Need-put_offset-requires-in-loop-left invariant-loop-left decreases-loop-left
 put_offset-requires-in-loop-left c κs =
     let w = placed c.before.before in
     let q = read (valued w) in
-    let i = q.before.before in
-    let l = i.before in
-    ((show_slots (W l) (count l) (made q) i.loop-left-test.true (same_row q) l.loop-left.invariant (roomy l)).1, omega (arith, (small w).0))
+    ((show_slots (W q) (count q) (made q) q.loop-left-test.true (same_row q) q.loop-left.invariant (roomy q)).1, omega (arith, (small w).0))
 
 -- the turn, from its end
 abbrev turn : tie.After-put_offset-in-loop-left invariant-loop-left decreases-loop-left → tie.In-loop-left invariant-loop-left decreases-loop-left
-turn p = (read (valued (placed (sized p)))).before.before
+turn p = (read (valued (placed (sized p))))
 
-overflow_add-r : tie.Need-overflow_add-r invariant-loop-left decreases-loop-left
-overflow_add-r c = let i = turn c.before in omega (arith, i, i.loop-left.invariant.walk.rows)
+overflow_add-r-in-loop-left : tie.Need-overflow_add-r-in-loop-left invariant-loop-left decreases-loop-left
+overflow_add-r-in-loop-left c = let i = turn c.before in omega (arith, i, i.loop-left.invariant.walk.rows)
 
 overflow_sub-left : tie.Need-overflow_sub-left invariant-loop-left decreases-loop-left
 overflow_sub-left c = omega (arith, turn c.before)
@@ -156,13 +144,10 @@ loop-left-smaller c = omega (arith, turn c.before)
 
 loop-left-preserved : tie.Need-loop-left-preserved invariant-loop-left decreases-loop-left
 loop-left-preserved c =
-    let p = c.before in
-    let w = placed (sized p) in
+    let w = placed (sized c.before) in
     let o = valued w in
     let q = read o in
-    let i = q.before.before in
-    let l = i.before in
-    show_more (W l) (count l) (made q) i.loop-left-test.true (same_row q) l.loop-left.invariant w.put_row-next.ensures o.offset_of-begin.result (w.put_row-next.result - l.loop-left.at) (begins o) refl (sized p).put-offset.ensures p.put_offset-in-loop-left.ensures
+    show_more (W q) (count q) (made q) q.loop-left-test.true (same_row q) q.loop-left.invariant w.put_row-next.ensures o.offset_of-begin.result (w.put_row-next.result - q.loop-left.at) (begins o) refl (sized c.before).put_offset.ensures c.put_offset-in-loop-left.ensures
 
 shape_of-out_offsets : tie.Need-shape_of-out_offsets invariant-loop-left decreases-loop-left
 shape_of-out_offsets c = c.loop-left.invariant.offsets.same
@@ -181,11 +166,7 @@ shape_of-out_elements c = c.loop-left.invariant.walk.le
 
 returns : tie.Need-returns invariant-loop-left decreases-loop-left
 returns c =
-    let l = c.before in
-    rw (← rows_at (C (S l)) (count l) (rows_are l)) (show_done (W l) (count l) l.loop-left.invariant c.loop-left-test.false (roomy l))
-
-overflow_add-r-in-loop-left : tie.Need-overflow_add-r-in-loop-left invariant-loop-left decreases-loop-left
-overflow_add-r-in-loop-left c = search rules
+    rw (← rows_at (C (S c.before)) (count c.before) (rows_are c.before)) (show_done (W c.before) (count c.before) c.loop-left.invariant c.loop-left-test.false (roomy c.before))
 
 pub write_view_spec : {M : Type 1} → statement M
 write_view_spec =

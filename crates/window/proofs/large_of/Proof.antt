@@ -38,16 +38,16 @@ slice_bounds-result-count-then-a-large : tie.Need-slice_bounds-result-count-then
 slice_bounds-result-count-then-a-large c = search rules
 
 -- src/lib.rt:49:16
-part-result-start-2 : tie.Need-slice-bounds-result-start-2
-part-result-start-2 c = search rules
+slice_bounds-result-start-then-a-large : tie.Need-slice_bounds-result-start-then-a-large
+slice_bounds-result-start-then-a-large c = search rules
 
 -- src/lib.rt:49:16
-slice_bounds-result-end-2 : tie.Need-slice_bounds-result-end-2
-slice_bounds-result-end-2 c = search rules
+slice_bounds-result-end-then-a-large : tie.Need-slice_bounds-result-end-then-a-large
+slice_bounds-result-end-then-a-large c = search rules
 
 -- src/lib.rt:49:9
 returns-then-a-large : tie.Need-returns-then-a-large
-returns-then-a-large c = let s = c.before.before.before in to_end s.args.a s.args.b s.args.large.now c.if-b-large.false
+returns-then-a-large c = to_end c.args.a c.args.b c.args.large.now c.if-b-large.false
 
 -- src/lib.rt:51:5
 slice_bounds-result-end-2 : tie.Need-slice_bounds-result-end-2
@@ -56,12 +56,6 @@ slice_bounds-result-end-2 c = search rules
 -- src/lib.rt:41:1
 returns : tie.Need-returns
 returns c = nothing _ _ _ c.if-a-large.false
-
-slice_bounds-result-start-then-a-large : tie.Need-slice_bounds-result-start-then-a-large
-slice_bounds-result-start-then-a-large c = search rules
-
-slice_bounds-result-end-then-a-large : tie.Need-slice_bounds-result-end-then-a-large
-slice_bounds-result-end-then-a-large c = search rules
 
 pub large_of_spec : {M : Type 1} → statement M
 large_of_spec =

@@ -38,16 +38,16 @@ slice_bounds-result-count-then-a-offsets : tie.Need-slice_bounds-result-count-th
 slice_bounds-result-count-then-a-offsets c = search rules
 
 -- src/lib.rt:35:16
-part-result-start-2 : tie.Need-slice-bounds-result-start-2
-part-result-start-2 c = search rules
+slice_bounds-result-start-then-a-offsets : tie.Need-slice_bounds-result-start-then-a-offsets
+slice_bounds-result-start-then-a-offsets c = search rules
 
 -- src/lib.rt:35:16
-slice_bounds-result-end-2 : tie.Need-slice_bounds-result-end-2
-slice_bounds-result-end-2 c = search rules
+slice_bounds-result-end-then-a-offsets : tie.Need-slice_bounds-result-end-then-a-offsets
+slice_bounds-result-end-then-a-offsets c = search rules
 
 -- src/lib.rt:35:9
 returns-then-a-offsets : tie.Need-returns-then-a-offsets
-returns-then-a-offsets c = let s = c.before.before.before in to_end s.args.a s.args.b s.args.offsets.now c.if-b-offsets.false
+returns-then-a-offsets c = to_end c.args.a c.args.b c.args.offsets.now c.if-b-offsets.false
 
 -- src/lib.rt:37:5
 slice_bounds-result-end-2 : tie.Need-slice_bounds-result-end-2
@@ -56,12 +56,6 @@ slice_bounds-result-end-2 c = search rules
 -- src/lib.rt:27:1
 returns : tie.Need-returns
 returns c = nothing _ _ _ c.if-a-offsets.false
-
-slice_bounds-result-start-then-a-offsets : tie.Need-slice_bounds-result-start-then-a-offsets
-slice_bounds-result-start-then-a-offsets c = search rules
-
-slice_bounds-result-end-then-a-offsets : tie.Need-slice_bounds-result-end-then-a-offsets
-slice_bounds-result-end-then-a-offsets c = search rules
 
 pub offsets_of_spec : {M : Type 1} → statement M
 offsets_of_spec =

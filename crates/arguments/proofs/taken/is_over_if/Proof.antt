@@ -5,11 +5,11 @@ use Rattle.arguments.proofs.taken.is_over_if.Tie as tie
 
 returns-then-not-on : tie.Need-returns-then-not-on
 unfolding over_if
-returns-then-not-on c = rw (not-true c.args.on c.if-not-on.true)
+returns-then-not-on c = rw (not-true c.args.on c.if-not-on.true-raw)
 
 returns : tie.Need-returns
 unfolding over_if
-returns c = rw (not-false c.args.on c.if-not-on.false)
+returns c = rw (not-false c.args.on c.if-not-on.false-raw)
 
 pub is_over_if_spec : {M : Type 1} → statement M
 is_over_if_spec =

@@ -17,9 +17,8 @@ is_over_if-requires-3 c κs = search
 
 returns : tie.Need-returns
 returns c =
-    let t = c.before.before.before in
-    let a = t.args in
-    rw (over_is a.op t.takes-t.result.columns a.xstart a.ystart a.zstart (ap (λ r. r.columns) (sym t.takes-t.ensures)), ← c.is_over_if.ensures, ← c.is_over_if-2.ensures, ← c.is_over_if-3.ensures)
+    let a = c.args in
+    rw (over_is a.op c.takes-t.result.columns a.xstart a.ystart a.zstart (ap (λ r. r.columns) (sym c.takes-t.ensures)), ← c.is_over_if.ensures, ← c.is_over_if-2.ensures, ← c.is_over_if-3.ensures)
 
 pub is_start_over_spec : {M : Type 1} → statement M
 is_start_over_spec =

@@ -7,17 +7,17 @@ use Rattle.arguments.proofs.taken.taken_at.Tie as tie
 
 returns-then-not-on : tie.Need-returns-then-not-on
 unfolding taken_at
-returns-then-not-on c = rw (not-true c.args.on c.if-not-on.true)
+returns-then-not-on c = rw (not-true c.args.on c.if-not-on.true-raw)
 
 place_in-i-requires : tie.Need-place_in-i-requires
 place_in-i-requires c κs = search
 
 cell_at-requires : tie.Need-cell_at-requires
-cell_at-requires c κs = let s = c.requires.0 (not-false c.args.on c.if-not-on.false) in (s.bits, rw (← c.IsPlace-in.ensures) at (s.there c.args.r c.requires.1))
+cell_at-requires c κs = let s = c.requires.0 (not-false c.args.on c.if-not-on.false-raw) in (s.bits, rw (← c.IsPlace-in.ensures) at (s.there c.args.r c.requires.1))
 
 returns : tie.Need-returns
 unfolding taken_at
-returns c = rw (not-false c.args.on c.if-not-on.false, ← c.before.IsPlace-in.ensures) c.Cell-at.ensures
+returns c = rw (not-false c.args.on c.if-not-on.false-raw, ← c.before.IsPlace-in.ensures) c.Cell-at.ensures
 
 pub taken_at_spec : {M : Type 1} → statement M
 taken_at_spec =

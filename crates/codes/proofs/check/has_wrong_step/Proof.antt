@@ -56,7 +56,7 @@ is_wrong_step-requires : tie.Need-is_wrong_step-requires invariant-loop-left dec
 is_wrong_step-requires c κs = search
 
 returns-then-is_wrong_step : tie.Need-returns-then-is_wrong_step invariant-loop-left decreases-loop-left
-returns-then-is_wrong_step c = let l = c.before.before.before.before.before.before.before in let a = c.args in sym (sym l.loop-left.invariant.0 ∙ any_here (wrong_step a.columns) (step_at a.recipe.now) l.loop-left.k l.loop-left.left c.loop-left-test.true (sym c.is_wrong_step.ensures ∙ c.if-is_wrong_step.true))
+returns-then-is_wrong_step c = let a = c.args in sym (sym c.loop-left.invariant.0 ∙ any_here (wrong_step a.columns) (step_at a.recipe.now) c.loop-left.k c.loop-left.left c.loop-left-test.true (sym c.is_wrong_step.ensures ∙ c.if-is_wrong_step.true))
 
 overflow_add-k : tie.Need-overflow_add-k invariant-loop-left decreases-loop-left
 overflow_add-k c = omega (arith, c.loop-left.invariant.1, c.loop-left-test.true)
@@ -68,10 +68,10 @@ loop-left-smaller : tie.Need-loop-left-smaller invariant-loop-left decreases-loo
 loop-left-smaller c = omega (arith, c.loop-left.invariant.1, c.loop-left-test.true)
 
 loop-left-preserved : tie.Need-loop-left-preserved invariant-loop-left decreases-loop-left
-loop-left-preserved c = let l = c.before.before.before.before.before.before.before in let a = c.args in (sym (any-later (wrong_step a.columns) (step_at a.recipe.now) l.loop-left.k l.loop-left.left c.loop-left-test.true (sym c.is_wrong_step.ensures ∙ c.if-is_wrong_step.false)) ∙ l.loop-left.invariant.0, omega (arith, l.loop-left.invariant.1, c.loop-left-test.true))
+loop-left-preserved c = let a = c.args in (sym (any-later (wrong_step a.columns) (step_at a.recipe.now) c.loop-left.k c.loop-left.left c.loop-left-test.true (sym c.is_wrong_step.ensures ∙ c.if-is_wrong_step.false)) ∙ c.loop-left.invariant.0, omega (arith, c.loop-left.invariant.1, c.loop-left-test.true))
 
 returns : tie.Need-returns invariant-loop-left decreases-loop-left
-returns c = let l = c.before in let a = c.args in sym (sym l.loop-left.invariant.0 ∙ any_none (wrong_step a.columns) (step_at a.recipe.now) l.loop-left.k l.loop-left.left (omega (arith, c.loop-left-test.false)))
+returns c = let a = c.args in sym (sym c.loop-left.invariant.0 ∙ any_none (wrong_step a.columns) (step_at a.recipe.now) c.loop-left.k c.loop-left.left (omega (arith, c.loop-left-test.false)))
 
 pub has_wrong_step_spec : {M : Type 1} → statement M
 has_wrong_step_spec =

@@ -32,21 +32,21 @@ is_wrong_number-requires c κs = search
 
 returns-then-is_wrong_number : tie.Need-returns-then-is_wrong_number
 unfolding wrong_step
-returns-then-is_wrong_number c = let k = c.before.before in rw (known k.before, columns k, ← c.is_wrong_number.ensures, c.if-is_wrong_number.true)
+returns-then-is_wrong_number c = rw (known c.before.before.before, columns c.before.before, ← c.is_wrong_number.ensures, c.if-is_wrong_number.true)
 
 is_wrong_number-requires-2 : tie.Need-is_wrong_number-requires-2
 is_wrong_number-requires-2 c κs = search
 
 returns-then-is_wrong_number-2 : tie.Need-returns-then-is_wrong_number-2
 unfolding wrong_step
-returns-then-is_wrong_number-2 c = let w = c.before.before.before in let k = w.before in rw (known k.before, columns k, ← w.is_wrong_number.ensures, c.if-is_wrong_number.false, ← c.is_wrong_number-2.ensures, c.if-is_wrong_number-2.true)
+returns-then-is_wrong_number-2 c = rw (known c.before.before.before.before.before, columns c.before.before.before.before, ← c.is_wrong_number.ensures, c.if-is_wrong_number.false, ← c.is_wrong_number-2.ensures, c.if-is_wrong_number-2.true)
 
 is_wrong_number-requires-3 : tie.Need-is_wrong_number-requires-3
 is_wrong_number-requires-3 c κs = search
 
 returns : tie.Need-returns
 unfolding wrong_step
-returns c = let w = c.before.before.before.before in let k = w.before in rw (known k.before, columns k, ← w.is_wrong_number.ensures, c.if-is_wrong_number.false, ← c.is_wrong_number-2.ensures, c.if-is_wrong_number-2.false) c.is_wrong_number-3.ensures
+returns c = rw (known c.before.before.before.before.before.before, columns c.before.before.before.before.before, ← c.is_wrong_number.ensures, c.if-is_wrong_number.false, ← c.is_wrong_number-2.ensures, c.if-is_wrong_number-2.false) c.is_wrong_number-3.ensures
 
 pub is_wrong_step_spec : {M : Type 1} → statement M
 is_wrong_step_spec =

@@ -24,9 +24,7 @@ shape_of-out_elements c = search rules
 
 returns : tie.Need-returns
 returns c =
-    let b = c.before.before.before.before.before in
-    let v = b.before.before.before in
-    (rw (value_elem, ← v.is_valid-valid.ensures, ← b.value_or_null-v.ensures) (rw (back64 _ b.value_or_null-v.type_inv) at b.put_value.ensures), rw (is_val_elem, ← v.is_valid-valid.ensures) c.push_bit.ensures)
+    (rw (value_elem, ← c.is_valid-valid.ensures, ← c.value_or_null-v.ensures) (rw (back64 _ c.value_or_null-v.type_inv) at c.put_value.ensures), rw (is_val_elem, ← c.is_valid-valid.ensures) c.push_bit.ensures)
 
 pub write_elem_spec : {M : Type 1} → statement M
 write_elem_spec =

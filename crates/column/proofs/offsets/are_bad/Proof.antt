@@ -22,33 +22,27 @@ below-requires c κs = omega arith
 
 returns-then-below : tie.Need-returns-then-below invariant-loop-i decreases-loop-i
 returns-then-below c =
-    let i = c.before.before in
-    let l = i.before in
-    let a = l.args in
-    falls_now a.offsets.now a.n l.loop-i.last l.loop-i.i _ i.loop-i-test.true l.loop-i.invariant (sym c.below.ensures ∙ c.if-below.true)
+    let a = c.args in
+    falls_now a.offsets.now a.n c.loop-i.last c.loop-i.i _ c.loop-i-test.true c.loop-i.invariant (sym c.below.ensures ∙ c.if-below.true)
 
 offset_at-last-requires : tie.Need-offset_at-last-requires invariant-loop-i decreases-loop-i
-offset_at-last-requires c κs = omega (arith, c.before.before)
+offset_at-last-requires c κs = omega (arith, c)
 
 overflow_add-i : tie.Need-overflow_add-i invariant-loop-i decreases-loop-i
-overflow_add-i c = omega (arith, c.before.before.before)
+overflow_add-i c = omega (arith, c)
 
 loop-i-smaller : tie.Need-loop-i-smaller invariant-loop-i decreases-loop-i
-loop-i-smaller c = omega (arith, c.before.before.before)
+loop-i-smaller c = omega (arith, c)
 
 loop-i-preserved : tie.Need-loop-i-preserved invariant-loop-i decreases-loop-i
 loop-i-preserved c =
-    let b = c.before.before in
-    let i = b.before in
-    let l = i.before in
-    let a = l.args in
-    rw c.offset_at-last.ensures.0 (falls_on a.offsets.now a.n l.loop-i.last l.loop-i.i _ i.loop-i-test.true l.loop-i.invariant (sym b.below.ensures ∙ c.if-below.false))
+    let a = c.args in
+    rw c.offset_at-last.ensures.0 (falls_on a.offsets.now a.n c.loop-i.last c.loop-i.i _ c.loop-i-test.true c.loop-i.invariant (sym c.below.ensures ∙ c.if-below.false))
 
 returns : tie.Need-returns invariant-loop-i decreases-loop-i
 returns c =
-    let l = c.before in
-    let a = l.args in
-    falls-end a.offsets.now a.n l.loop-i.last l.loop-i.i _ c.loop-i-test.false l.loop-i.invariant
+    let a = c.args in
+    falls-end a.offsets.now a.n c.loop-i.last c.loop-i.i _ c.loop-i-test.false c.loop-i.invariant
 
 pub are_bad_spec : {M : Type 1} → statement M
 are_bad_spec =

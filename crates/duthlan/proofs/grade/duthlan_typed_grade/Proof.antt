@@ -8,13 +8,13 @@ use Rattle.duthlan.proofs.grade.duthlan_typed_grade.Tie as tie
 -- ---- places: the counts told, the column graded, the counts found long enough
 
 abbrev told : tie.After-slice_known-4-1 → tie.After-put_grade
-told c = c.before.before
+told c = c
 
 abbrev ran : tie.After-slice_known-4-1 → tie.After-grade_column-answer
-ran c = c.before.before.before.before.before.before
+ran c = c
 
 abbrev long : tie.After-slice_known-4-1 → tie.Else-counts-lt1
-long c = (ran c).before.before
+long c = (ran c)
 
 -- ---- needs
 
@@ -28,13 +28,13 @@ put_grade-requires : tie.Need-put_grade-requires
 put_grade-requires c κs = c.if-counts-lt1.false
 
 shape_of-grades : tie.Need-shape_of-grades
-shape_of-grades c = (ran c).grade-column.auto.1.1.1.1.1.1.1.0
+shape_of-grades c = (ran c).grade_column-answer.auto.grades
 
 shape_of-counts : tie.Need-shape_of-counts
-shape_of-counts c = (told c).put-grade.auto.1.0
+shape_of-counts c = (told c).put_grade.auto.counts
 
 returns : tie.Need-returns
-returns c = grade_told (own _ _ _ refl (le-ltb _ 1 (long c).if1.false)) (ran c).grade-column.ensures (told c).put-grade.ensures
+returns c = grade_told (own _ _ _ refl (le-ltb _ 1 (long c).if-counts-lt1.false)) (ran c).grade_column-answer.ensures (told c).put_grade.ensures
 
 pub duthlan_typed_grade_spec : {M : Type 1} → statement M
 duthlan_typed_grade_spec =

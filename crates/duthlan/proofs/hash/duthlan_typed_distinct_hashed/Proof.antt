@@ -9,13 +9,13 @@ use Rattle.duthlan.proofs.hash.duthlan_typed_distinct_hashed.Tie as tie
 -- ---- places: the counts told, the operation run, the counts found long enough
 
 abbrev told : tie.After-slice_known-8-1 → tie.After-put_list
-told c = c.before.before
+told c = c
 
 abbrev ran : tie.After-slice_known-8-1 → tie.After-general_array_distinct_hashed-answer
-ran c = c.before.before.before.before.before.before.before.before.before.before.before.before
+ran c = c
 
 abbrev long : tie.After-slice_known-8-1 → tie.Else-counts-lt4
-long c = (ran c).before.before.before.before.before.before
+long c = (ran c)
 
 -- ---- needs
 
@@ -35,25 +35,25 @@ put_list-requires : tie.Need-put_list-requires
 put_list-requires c κs = c.if-counts-lt4.false
 
 shape_of-out_offsets : tie.Need-shape_of-out_offsets
-shape_of-out_offsets c = (ran c).general-array-distinct-hashed.auto.1.1.1.1.1.1.0
+shape_of-out_offsets c = (ran c).general_array_distinct_hashed-answer.auto.out_offsets
 
 shape_of-out_rows : tie.Need-shape_of-out_rows
-shape_of-out_rows c = (ran c).general-array-distinct-hashed.auto.1.1.1.1.1.1.1.0
+shape_of-out_rows c = (ran c).general_array_distinct_hashed-answer.auto.out_rows
 
 shape_of-out_values : tie.Need-shape_of-out_values
-shape_of-out_values c = (ran c).general-array-distinct-hashed.auto.1.1.1.1.1.1.1.1.0
+shape_of-out_values c = (ran c).general_array_distinct_hashed-answer.auto.out_values
 
 shape_of-out_elements : tie.Need-shape_of-out_elements
-shape_of-out_elements c = (ran c).general-array-distinct-hashed.auto.1.1.1.1.1.1.1.1.1.0
+shape_of-out_elements c = (ran c).general_array_distinct_hashed-answer.auto.out_elements
 
 shape_of-area : tie.Need-shape_of-area
-shape_of-area c = (ran c).general-array-distinct-hashed.auto.1.1.1.1.1.1.1.1.1.1.0
+shape_of-area c = (ran c).general_array_distinct_hashed-answer.auto.area
 
 shape_of-counts : tie.Need-shape_of-counts
-shape_of-counts c = (told c).put-list.auto.1.0
+shape_of-counts c = (told c).put_list.auto.counts
 
 returns : tie.Need-returns
-returns c = hash_told (own _ _ _ refl (le-ltb _ 4 (long c).if1.false)) (ran c).general-array-distinct-hashed.ensures (told c).put-list.ensures
+returns c = hash_told (own _ _ _ refl (le-ltb _ 4 (long c).if-counts-lt4.false)) (ran c).general_array_distinct_hashed-answer.ensures (told c).put_list.ensures
 
 pub duthlan_typed_distinct_hashed_spec : {M : Type 1} → statement M
 duthlan_typed_distinct_hashed_spec =

@@ -9,19 +9,19 @@ use Rattle.duthlan.proofs.hash.duthlan_typed_lists_hashed.Tie as tie
 -- ---- places: the counts told, the operation run, the counts found long enough, the operation named, the code looked up
 
 abbrev told : tie.After-slice_known-in-Two-4-1 → tie.After-put_list
-told c = c.before.before
+told c = c
 
 abbrev ran : tie.After-slice_known-in-Two-4-1 → tie.After-generic_set_lists_hashed-answer
-ran c = c.before.before.before.before.before.before.before.before.before.before.before.before
+ran c = c
 
 abbrev long : tie.After-slice_known-in-Two-4-1 → tie.Else-counts-lt4
-long c = (ran c).before.before.before.before.before.before
+long c = (ran c)
 
 abbrev named : tie.After-slice_known-in-Two-4-1 → tie.In-Two-2
-named c = (long c).before.before
+named c = (long c)
 
 abbrev looked : tie.After-slice_known-in-Two-4-1 → tie.After-operation_of-named
-looked c = (named c).before.before
+looked c = (named c)
 
 -- ---- needs
 
@@ -71,29 +71,29 @@ returns-in-None : tie.Need-returns-in-None
 returns-in-None c = hash_unserved (no_such _ _ _ (no_hashed _ _ _ _ c.operation_of-named.ensures c.in-None.is)) c.clear_area-in-None.ensures
 
 shape_of-out_offsets : tie.Need-shape_of-out_offsets
-shape_of-out_offsets c = (ran c).generic-set-lists-hashed.auto.1.1.1.1.1.1.1.1.1.1.1.1.1.0
+shape_of-out_offsets c = (ran c).generic_set_lists_hashed-answer.auto.out_offsets
 
 shape_of-out_rows : tie.Need-shape_of-out_rows
-shape_of-out_rows c = (ran c).generic-set-lists-hashed.auto.1.1.1.1.1.1.1.1.1.1.1.1.1.1.0
+shape_of-out_rows c = (ran c).generic_set_lists_hashed-answer.auto.out_rows
 
 shape_of-out_values : tie.Need-shape_of-out_values
-shape_of-out_values c = (ran c).generic-set-lists-hashed.auto.1.1.1.1.1.1.1.1.1.1.1.1.1.1.1.0
+shape_of-out_values c = (ran c).generic_set_lists_hashed-answer.auto.out_values
 
 shape_of-out_elements : tie.Need-shape_of-out_elements
-shape_of-out_elements c = (ran c).generic-set-lists-hashed.auto.1.1.1.1.1.1.1.1.1.1.1.1.1.1.1.1.0
+shape_of-out_elements c = (ran c).generic_set_lists_hashed-answer.auto.out_elements
 
 shape_of-area-else-counts-lt4 : tie.Need-shape_of-area-else-counts-lt4
-shape_of-area-else-counts-lt4 c = (ran c).generic-set-lists-hashed.auto.1.1.1.1.1.1.1.1.1.1.1.1.1.1.1.1.1.0
+shape_of-area-else-counts-lt4 c = (ran c).generic_set_lists_hashed-answer.auto.area
 
 shape_of-counts : tie.Need-shape_of-counts
-shape_of-counts c = (told c).put-list.auto.1.0
+shape_of-counts c = (told c).put_list.auto.counts
 
 returns-else-counts-lt4 : tie.Need-returns-else-counts-lt4
 returns-else-counts-lt4 c =
     hash_told
-    (own _ _ _ (hashed-code _ _ _ _ (looked c).operation-of.ensures (named c).named.given.1) (le-ltb _ 4 (long c).if1.false))
-    (ran c).generic-set-lists-hashed.ensures
-    (told c).put-list.ensures
+    (own _ _ _ (hashed-code _ _ _ _ (looked c).operation_of-named.ensures (named c).in-Two.is) (le-ltb _ 4 (long c).if-counts-lt4.false))
+    (ran c).generic_set_lists_hashed-answer.ensures
+    (told c).put_list.ensures
 
 pub duthlan_typed_lists_hashed_spec : {M : Type 1} → statement M
 duthlan_typed_lists_hashed_spec =

@@ -9,13 +9,13 @@ use Rattle.duthlan.proofs.lengths.duthlan_typed_list_repeat_lengths.Tie as tie
 -- ---- places: the lengths told, measured, their places found enough
 
 abbrev told : tie.After-slice_known-2-1 → tie.After-put_repeat
-told c = c.before.before
+told c = c
 
 abbrev asked : tie.After-slice_known-2-1 → tie.After-general_list_repeat_lengths-answer
-asked c = (told c).before.before
+asked c = (told c)
 
 abbrev long : tie.After-slice_known-2-1 → tie.Else-lengths-lt6
-long c = (asked c).before
+long c = (asked c)
 
 -- ---- needs
 
@@ -29,10 +29,10 @@ put_repeat-requires : tie.Need-put_repeat-requires
 put_repeat-requires c κs = c.if-lengths-lt6.false
 
 shape_of-lengths : tie.Need-shape_of-lengths
-shape_of-lengths c = (told c).put-repeat.auto.1.0
+shape_of-lengths c = (told c).put_repeat.auto.lengths
 
 returns : tie.Need-returns
-returns c = own_lengths repeat_room_counts _ refl (le-ltb _ 6 (long c).if1.false) (asked c).general-list-repeat-lengths.ensures (told c).put-repeat.ensures
+returns c = own_lengths repeat_room_counts _ refl (le-ltb _ 6 (long c).if-lengths-lt6.false) (asked c).general_list_repeat_lengths-answer.ensures (told c).put_repeat.ensures
 
 pub duthlan_typed_list_repeat_lengths_spec : {M : Type 1} → statement M
 duthlan_typed_list_repeat_lengths_spec =

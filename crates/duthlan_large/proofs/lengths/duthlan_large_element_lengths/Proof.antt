@@ -9,13 +9,13 @@ use Rattle.duthlan_large.proofs.lengths.duthlan_large_element_lengths.Tie as tie
 -- ---- places: the lengths told, measured, their places found enough
 
 abbrev told : tie.After-slice_known-2-1 → tie.After-put_values
-told c = c.before.before
+told c = c
 
 abbrev asked : tie.After-slice_known-2-1 → tie.After-general_array_element_lengths-answer
-asked c = (told c).before.before
+asked c = (told c)
 
 abbrev long : tie.After-slice_known-2-1 → tie.Else-lengths-lt2
-long c = (asked c).before
+long c = (asked c)
 
 -- ---- needs
 
@@ -29,10 +29,10 @@ put_values-requires : tie.Need-put_values-requires
 put_values-requires c κs = c.if-lengths-lt2.false
 
 shape_of-lengths : tie.Need-shape_of-lengths
-shape_of-lengths c = (told c).put-values.auto.1.0
+shape_of-lengths c = (told c).put_values.auto.lengths
 
 returns : tie.Need-returns
-returns c = own_lengths value_room_counts _ refl (le-ltb _ 2 (long c).if1.false) (asked c).general-array-element-lengths.ensures (told c).put-values.ensures
+returns c = own_lengths value_room_counts _ refl (le-ltb _ 2 (long c).if-lengths-lt2.false) (asked c).general_array_element_lengths-answer.ensures (told c).put_values.ensures
 
 pub duthlan_large_element_lengths_spec : {M : Type 1} → statement M
 duthlan_large_element_lengths_spec =

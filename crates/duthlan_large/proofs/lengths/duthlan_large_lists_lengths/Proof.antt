@@ -10,19 +10,19 @@ use Rattle.duthlan_large.proofs.lengths.duthlan_large_lists_lengths.Tie as tie
 -- ---- places: the lengths told, measured, their places found enough, the operation named, the code looked up
 
 abbrev told : tie.After-slice_known-in-Two-1 → tie.After-put_list
-told c = c.before.before
+told c = c
 
 abbrev asked : tie.After-slice_known-in-Two-1 → tie.After-generic_set_lists_lengths-answer
-asked c = (told c).before.before
+asked c = (told c)
 
 abbrev long : tie.After-slice_known-in-Two-1 → tie.Else-lengths-lt4
-long c = (asked c).before
+long c = (asked c)
 
 abbrev named : tie.After-slice_known-in-Two-1 → tie.In-Two-2
-named c = (long c).before.before
+named c = (long c)
 
 abbrev looked : tie.After-slice_known-in-Two-1 → tie.After-operation_of-named
-looked c = (named c).before.before
+looked c = (named c)
 
 -- ---- needs
 
@@ -54,11 +54,11 @@ returns-in-None : tie.Need-returns-in-None
 returns-in-None c = no_such_lengths room_counts _ (no_set-lengths _ _ _ _ c.operation_of-named.ensures c.in-None.is)
 
 shape_of-lengths : tie.Need-shape_of-lengths
-shape_of-lengths c = (told c).put-list.auto.1.0
+shape_of-lengths c = (told c).put_list.auto.lengths
 
 returns-else-lengths-lt4 : tie.Need-returns-else-lengths-lt4
 returns-else-lengths-lt4 c =
-    own_lengths room_counts _ (set-lengths _ _ _ _ (looked c).operation-of.ensures (named c).named.given.1) (le-ltb _ 4 (long c).if1.false) (asked c).generic-set-lists-lengths.ensures (told c).put-list.ensures
+    own_lengths room_counts _ (set-lengths _ _ _ _ (looked c).operation_of-named.ensures (named c).in-Two.is) (le-ltb _ 4 (long c).if-lengths-lt4.false) (asked c).generic_set_lists_lengths-answer.ensures (told c).put_list.ensures
 
 pub duthlan_large_lists_lengths_spec : {M : Type 1} → statement M
 duthlan_large_lists_lengths_spec =

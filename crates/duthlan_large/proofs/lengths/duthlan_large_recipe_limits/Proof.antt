@@ -9,13 +9,13 @@ use Rattle.duthlan_large.proofs.lengths.duthlan_large_recipe_limits.Tie as tie
 -- ---- places: the lengths told, measured, their places found enough
 
 abbrev told : tie.After-slice_known-2-1 → tie.After-put_limits
-told c = c.before.before
+told c = c
 
 abbrev asked : tie.After-slice_known-2-1 → tie.After-recipe_limits-answer
-asked c = (told c).before.before
+asked c = (told c)
 
 abbrev long : tie.After-slice_known-2-1 → tie.Else-limits-lt3
-long c = (asked c).before
+long c = (asked c)
 
 -- ---- needs
 
@@ -29,10 +29,10 @@ put_limits-requires : tie.Need-put_limits-requires
 put_limits-requires c κs = c.if-limits-lt3.false
 
 shape_of-limits : tie.Need-shape_of-limits
-shape_of-limits c = (told c).put-limits.auto.1.0
+shape_of-limits c = (told c).put_limits.auto.limits
 
 returns : tie.Need-returns
-returns c = own_lengths limit_counts _ refl (le-ltb _ 3 (long c).if1.false) (asked c).recipe-limits.ensures (told c).put-limits.ensures
+returns c = own_lengths limit_counts _ refl (le-ltb _ 3 (long c).if-limits-lt3.false) (asked c).recipe_limits-answer.ensures (told c).put_limits.ensures
 
 pub duthlan_large_recipe_limits_spec : {M : Type 1} → statement M
 duthlan_large_recipe_limits_spec =

@@ -5,8 +5,8 @@ use Rattle.entry.proofs.SizeLaws.{whole}
 use Rattle.entry.proofs.AnswerLaws.{value_ran}
 use Rattle.entry.proofs.EntryLaws.{any_value_decoded}
 use borrow.Author.Rules.{rules}
-use Rattle.entries.proofs.any_value_lem.run.Statement.{statement}
-use Rattle.entries.proofs.any_value_lem.run.Tie as tie
+use Rattle.entries.proofs.any_value.run.Statement.{statement}
+use Rattle.entries.proofs.any_value.run.Tie as tie
 
 slice_bounds-get_list-end : tie.Need-slice_bounds-get_list-end
 slice_bounds-get_list-end c = search rules
@@ -16,16 +16,16 @@ slice_bounds-get_list-end-2 c = search rules
 
 -- the places that are used below
 abbrev start-of-lv : tie.After-lv-1 → tie.Start
-start-of-lv p = p.before.before.before.before.before.before.before
+start-of-lv p = p
 
 abbrev start-of-lv2 : tie.After-lv-2-1 → tie.Start
 start-of-lv2 p = start-of-lv p.before.before.before
 
 abbrev general-array-any-value-arg-of-slice-known2 : tie.After-slice_known-2-1 → tie.After-general_array_any_value-arg-1
-general-array-any-value-arg-of-slice-known2 p = p.before.before.before.before.before
+general-array-any-value-arg-of-slice-known2 p = p
 
 abbrev get-list-of-general-array-any-value-arg : tie.After-general_array_any_value-arg-1 → tie.After-get_list
-get-list-of-general-array-any-value-arg p = p.before.before.before.before.before
+get-list-of-general-array-any-value-arg p = p
 
 abbrev get-list-of-slice-known2 : tie.After-slice_known-2-1 → tie.After-get_list
 get-list-of-slice-known2 p = get-list-of-general-array-any-value-arg (general-array-any-value-arg-of-slice-known2 p)
@@ -77,10 +77,9 @@ shape_of-out_rows c = c.general_array_any_value.auto.out_rows
 
 returns : tie.Need-returns
 returns c =
-    let k = c.before.before.before in
     let s = start-of-slice-known2 c in
-    let d = (get-list-of-slice-known2 c).get-list.ensures in
-    value_ran s.args.m s.args.v.now k.general_array_any_value.ensures k.general_array_any_value.auto.out_values s.requires.1
+    let d = (get-list-of-slice-known2 c).get_list.ensures in
+    value_ran s.args.m s.args.v.now c.general_array_any_value.ensures c.general_array_any_value.auto.out_values s.requires.1
     (any_value_decoded _ _ _ d.offsets d.values (length-take-le _ _ s.requires.1))
 
 pub run_spec : {M : Type 1} → statement M

@@ -12,16 +12,16 @@ use Rattle.entries.proofs.element.enter.Tie as tie
 
 -- the places that are used below
 abbrev run-of-put-values-arg2 : tie.After-put_values-arg-2-1 → tie.After-run-answer
-run-of-put-values-arg2 p = p.before.before.before.before.before.before
+run-of-put-values-arg2 p = p
 
 abbrev else1-of-put-values-arg2 : tie.After-put_values-arg-2-1 → tie.Else-k-ne0
-else1-of-put-values-arg2 p = p.before.before.before.before.before.before.before.before.before
+else1-of-put-values-arg2 p = p
 
 abbrev shared-slice-known5-of-else1 : tie.Else-k-ne0 → tie.After-shared_slice_known-5-1
-shared-slice-known5-of-else1 p = p.before.before.before.before.before.before
+shared-slice-known5-of-else1 p = p
 
 abbrev start-of-shared-slice-known5 : tie.After-shared_slice_known-5-1 → tie.Start
-start-of-shared-slice-known5 p = p.before.before.before.before.before
+start-of-shared-slice-known5 p = p
 
 abbrev start-of-else1 : tie.Else-k-ne0 → tie.Start
 start-of-else1 p = start-of-shared-slice-known5 (shared-slice-known5-of-else1 p)
@@ -33,10 +33,10 @@ abbrev else1-of-slice-known6 : tie.After-slice_known-6-1 → tie.Else-k-ne0
 else1-of-slice-known6 p = else1-of-put-values-arg2 p.before.before.before.before.before
 
 abbrev slice-known4-of-slice-known6 : tie.After-slice_known-6-1 → tie.After-slice_known-4-1
-slice-known4-of-slice-known6 p = p.before.before.before.before.before.before.before.before
+slice-known4-of-slice-known6 p = p
 
 abbrev element-refusal-of-slice-known4 : tie.After-slice_known-4-1 → tie.After-element_refusal-k
-element-refusal-of-slice-known4 p = p.before.before.before.before.before.before.before
+element-refusal-of-slice-known4 p = p
 
 abbrev element-refusal-of-slice-known6 : tie.After-slice_known-6-1 → tie.After-element_refusal-k
 element-refusal-of-slice-known6 p = element-refusal-of-slice-known4 (slice-known4-of-slice-known6 p)
@@ -51,7 +51,7 @@ abbrev arguments : tie.Else-k-ne0 → List Numbers
 arguments e = value_sizes (length (S e).args.indexes.now)
 
 abbrev outs : tie.Else-k-ne0 → List Numbers
-outs e = value_sizes (length (S e).args.out-values.now)
+outs e = value_sizes (length (S e).args.out_values.now)
 
 -- the sizes have passed
 passed : (e : tie.Else-k-ne0) → Sized ((lists e ++ arguments e) ++ outs e) (length (S e).args.counts.now) 16
@@ -68,9 +68,8 @@ slice_bounds-run-end c = search rules
 
 run-answer-requires : tie.Need-run-answer-requires
 run-answer-requires c κs =
-    let e = c.before.before in
-    let i = all_left (lists e ++ arguments e) (outs e) (passed e).fit in
-    (list-fits _ _ (all_left (lists e) (arguments e) i), (value_fits _ (all_right (lists e) (arguments e) i), value_fits _ (all_right (lists e ++ arguments e) (outs e) (passed e).fit)))
+    let i = all_left (lists c.before.before ++ arguments c.before.before) (outs c.before.before) (passed c.before.before).fit in
+    (list-fits _ _ (all_left (lists c.before.before) (arguments c.before.before) i), (value_fits _ (all_right (lists c.before.before) (arguments c.before.before) i), value_fits _ (all_right (lists c.before.before ++ arguments c.before.before) (outs c.before.before) (passed c.before.before).fit)))
 
 slice_bounds-put_values-end : tie.Need-slice_bounds-put_values-end
 slice_bounds-put_values-end c = search rules
@@ -79,13 +78,13 @@ put_values-requires : tie.Need-put_values-requires
 put_values-requires c κs =
     let e = else1-of-put-values-arg2 c in
     let r = run-of-put-values-arg2 c in
-    values_ready r.run-answer.ensures (rw r.run-answer.kept.1.1.1.1.1.1.1.1.1.1.0 (value_fits _ (all_right (lists e ++ arguments e) (outs e) (passed e).fit))) refl (passed e).counts
+    values_ready r.run-answer.ensures (rw r.run-answer.kept.1.1.1.1.1.1.1.1.1.1.0 (value_fits _ (all_right (lists e ++ arguments e) (outs e) (passed e).fit))) refl (passed e).counts-1
 
 shape_of-out_values : tie.Need-shape_of-out_values
 shape_of-out_values c = c.put_values.auto.out_values
 
 shape_of-out_rows : tie.Need-shape_of-out_rows
-shape_of-out_rows c = (run-of-slice-known6 c).run.auto.1.1.1.1.1.1.1.1.1.1.1.0
+shape_of-out_rows c = (run-of-slice-known6 c).run-answer.auto.out_rows
 
 shape_of-counts : tie.Need-shape_of-counts
 shape_of-counts c = c.put_values.auto.counts
@@ -93,7 +92,7 @@ shape_of-counts c = c.put_values.auto.counts
 returns : tie.Need-returns
 returns c =
     let e = else1-of-slice-known6 c in
-    value_as (called _ _ refl (element-refusal-of-slice-known6 c).element-refusal.ensures e.if-k-ne0.false) (value_returns (run-of-slice-known6 c).run.ensures c.put_values.ensures)
+    value_as (called _ _ refl (element-refusal-of-slice-known6 c).element_refusal-k.ensures e.if-k-ne0.false) (value_returns (run-of-slice-known6 c).run-answer.ensures c.put_values.ensures)
 
 pub enter_spec : {M : Type 1} → statement M
 enter_spec =

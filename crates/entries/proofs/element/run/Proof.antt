@@ -16,19 +16,19 @@ slice_bounds-get_list-end-2 c = search rules
 
 -- the places that are used below
 abbrev get-list-of-lo3 : tie.After-lo-3-1 → tie.After-get_list
-get-list-of-lo3 p = p.before.before.before.before.before.before
+get-list-of-lo3 p = p
 
 abbrev get-list-of-lv3 : tie.After-lv-3-1 → tie.After-get_list
-get-list-of-lv3 p = p.before.before.before.before.before.before.before
+get-list-of-lv3 p = p
 
 abbrev start-of-lv : tie.After-lv-1 → tie.Start
-start-of-lv p = p.before.before.before.before.before.before.before.before.before
+start-of-lv p = p
 
 abbrev general-array-element-arg-of-slice-known2 : tie.After-slice_known-2-1 → tie.After-general_array_element-arg-1
-general-array-element-arg-of-slice-known2 p = p.before.before.before.before.before
+general-array-element-arg-of-slice-known2 p = p
 
 abbrev get-values-of-general-array-element-arg : tie.After-general_array_element-arg-1 → tie.After-get_values
-get-values-of-general-array-element-arg p = p.before.before.before.before.before
+get-values-of-general-array-element-arg p = p
 
 abbrev get-values-of-slice-known2 : tie.After-slice_known-2-1 → tie.After-get_values
 get-values-of-slice-known2 p = get-values-of-general-array-element-arg (general-array-element-arg-of-slice-known2 p)
@@ -70,13 +70,13 @@ slice_bounds-lo-end : tie.Need-slice_bounds-lo-end
 slice_bounds-lo-end c = rw c.get_list.auto.o (start-of-li2 c).requires.0.offsets
 
 slice_bounds-general_array_element-end : tie.Need-slice_bounds-general_array_element-end
-slice_bounds-general_array_element-end c = sym (length-take-le _ _ (rw (get-list-of-lo3 c).get-list.auto.1.1.0 (start-of-lo3 c).requires.0.offsets))
+slice_bounds-general_array_element-end c = sym (length-take-le _ _ (rw (get-list-of-lo3 c).get_list.auto.o (start-of-lo3 c).requires.0.offsets))
 
 slice_bounds-lv-end : tie.Need-slice_bounds-lv-end
-slice_bounds-lv-end c = rw (get-list-of-lo3 c).get-list.auto.1.1.1.0 (start-of-lo3 c).requires.0.values
+slice_bounds-lv-end c = rw (get-list-of-lo3 c).get_list.auto.v (start-of-lo3 c).requires.0.values
 
 slice_bounds-general_array_element-end-2 : tie.Need-slice_bounds-general_array_element-end-2
-slice_bounds-general_array_element-end-2 c = sym (length-take-le _ _ (rw (get-list-of-lv3 c).get-list.auto.1.1.1.0 (start-of-lv3 c).requires.0.values))
+slice_bounds-general_array_element-end-2 c = sym (length-take-le _ _ (rw (get-list-of-lv3 c).get_list.auto.v (start-of-lv3 c).requires.0.values))
 
 slice_bounds-li-end : tie.Need-slice_bounds-li-end
 slice_bounds-li-end c = rw c.get_values.auto.v (start-of-lv3 c).requires.1.0
@@ -106,9 +106,9 @@ returns : tie.Need-returns
 returns c =
     let k = c.general_array_element in
     let s = start-of-slice-known2 c in
-    let d = (get-list-of-slice-known2 c).get-list.ensures in
+    let d = (get-list-of-slice-known2 c).get_list.ensures in
     value_ran s.args.m s.args.v.now k.ensures k.auto.out_values s.requires.1.1
-    (element_decoded _ _ _ d.offsets d.values (length-take-le _ _ s.requires.1.1) _ (get-values-of-slice-known2 c).get-values.ensures)
+    (element_decoded _ _ _ d.offsets d.values (length-take-le _ _ s.requires.1.1) _ (get-values-of-slice-known2 c).get_values.ensures)
 
 pub run_spec : {M : Type 1} → statement M
 run_spec =

@@ -17,10 +17,10 @@ slice_bounds-get_list-end-2 c = search rules
 
 -- the places that are used below
 abbrev run-of-slice-known4 : tie.After-slice_known-4-1 → tie.After-run
-run-of-slice-known4 p = p.before.before.before.before.before.before
+run-of-slice-known4 p = p
 
 abbrev start-of-lv : tie.After-lv-1 → tie.Start
-start-of-lv p = p.before.before.before.before.before.before.before.before
+start-of-lv p = p
 
 abbrev start-of-lv2 : tie.After-lv-2-1 → tie.Start
 start-of-lv2 p = start-of-lv p.before.before.before
@@ -38,10 +38,10 @@ abbrev start-of-run-arg2 : tie.After-run-arg-2-1 → tie.Start
 start-of-run-arg2 p = start-of-run-arg p.before
 
 abbrev run-arg3-of-slice-known4 : tie.After-slice_known-4-1 → tie.After-run-arg-3-1
-run-arg3-of-slice-known4 p = p.before.before.before.before.before.before.before.before
+run-arg3-of-slice-known4 p = p
 
 abbrev get-list-of-run-arg3 : tie.After-run-arg-3-1 → tie.After-get_list
-get-list-of-run-arg3 p = p.before.before.before.before.before.before.before
+get-list-of-run-arg3 p = p
 
 abbrev get-list-of-slice-known4 : tie.After-slice_known-4-1 → tie.After-get_list
 get-list-of-slice-known4 p = get-list-of-run-arg3 (run-arg3-of-slice-known4 p)
@@ -89,7 +89,7 @@ shape_of-o c =
     whole k.last.1.1.1.1.1.1.1.1.1.1.1.1.1.1.1.1.0 s.args.o.now s.args.mo s.requires.1.0 k.kept.1.1.1.1.1.1.1.1.1.1.1.1.1.1.1.1.0
 
 shape_of-out_rows : tie.Need-shape_of-out_rows
-shape_of-out_rows c = (run-of-slice-known4 c).run.auto.1.1.1.1.1.1.1.1.1.1.1.1.1.1.1.1.1.0
+shape_of-out_rows c = (run-of-slice-known4 c).run.auto.out_rows
 
 shape_of-v : tie.Need-shape_of-v
 shape_of-v c =
@@ -98,14 +98,14 @@ shape_of-v c =
     whole k.last.1.1.1.1.1.1.1.1.1.1.1.1.1.1.1.1.1.1.0 s.args.v.now s.args.mv s.requires.1.1 k.kept.1.1.1.1.1.1.1.1.1.1.1.1.1.1.1.1.1.1.0
 
 shape_of-out_elements : tie.Need-shape_of-out_elements
-shape_of-out_elements c = (run-of-slice-known4 c).run.auto.1.1.1.1.1.1.1.1.1.1.1.1.1.1.1.1.1.1.1.0
+shape_of-out_elements c = (run-of-slice-known4 c).run.auto.out_elements
 
 returns : tie.Need-returns
 unfolding call_of
 returns c =
     let k = (run-of-slice-known4 c).run in
     let s = start-of-slice-known4 c in
-    let d = (get-list-of-slice-known4 c).get-list.ensures in
+    let d = (get-list-of-slice-known4 c).get_list.ensures in
     list_ran s.args.mo s.args.mv s.args.o.now s.args.v.now k.ensures k.kept.1.1.1.1.1.1.1.1.1.1.1.1.1.1.1.1.0 k.kept.1.1.1.1.1.1.1.1.1.1.1.1.1.1.1.1.1.1.0 s.requires.1.0 s.requires.1.1
     (unary_decoded _ _ _ d.offsets d.values (length-take-le _ _ s.requires.1.1) s.args.op _ (length-take-le _ _ s.requires.1.0))
 

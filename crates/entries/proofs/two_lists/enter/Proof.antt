@@ -13,22 +13,22 @@ use Rattle.entries.proofs.two_lists.enter.Tie as tie
 
 -- the places that are used below
 abbrev put-list-of-slice-known10 : tie.After-slice_known-in-Two-5-1 → tie.After-put_list
-put-list-of-slice-known10 p = p.before.before.before.before.before.before
+put-list-of-slice-known10 p = p
 
 abbrev out-elements-of-put-list-arg3 : tie.After-put_list-arg-in-Two-2-1 → tie.After-out_elements-1
-out-elements-of-put-list-arg3 p = p.before.before.before.before.before.before
+out-elements-of-put-list-arg3 p = p
 
 abbrev run-of-out-elements : tie.After-out_elements-1 → tie.After-run-answer
-run-of-out-elements p = p.before.before.before.before.before
+run-of-out-elements p = p
 
 abbrev run-of-put-list-arg3 : tie.After-put_list-arg-in-Two-2-1 → tie.After-run-answer
 run-of-put-list-arg3 p = run-of-out-elements (out-elements-of-put-list-arg3 p)
 
 abbrev slice-known6-of-put-list-arg3 : tie.After-put_list-arg-in-Two-2-1 → tie.After-slice_known-in-Two-1
-slice-known6-of-put-list-arg3 p = p.before.before.before.before.before.before.before.before
+slice-known6-of-put-list-arg3 p = p
 
 abbrev else1-of-slice-known6 : tie.After-slice_known-in-Two-1 → tie.Else-k-ne0
-else1-of-slice-known6 p = p.before.before.before.before.before.before.before.before
+else1-of-slice-known6 p = p
 
 abbrev else1-of-put-list-arg3 : tie.After-put_list-arg-in-Two-2-1 → tie.Else-k-ne0
 else1-of-put-list-arg3 p = else1-of-slice-known6 (slice-known6-of-put-list-arg3 p)
@@ -37,13 +37,13 @@ abbrev run-of-slice-known10 : tie.After-slice_known-in-Two-5-1 → tie.After-run
 run-of-slice-known10 p = run-of-put-list-arg3 p.before.before.before.before.before.before.before
 
 abbrev slice-known4-of-else1 : tie.Else-k-ne0 → tie.After-slice_known-4-1
-slice-known4-of-else1 p = p.before.before.before.before.before
+slice-known4-of-else1 p = p
 
 abbrev shared-slice-known6-of-slice-known4 : tie.After-slice_known-4-1 → tie.After-shared_slice_known-6-1
-shared-slice-known6-of-slice-known4 p = p.before.before.before.before.before.before
+shared-slice-known6-of-slice-known4 p = p
 
 abbrev start-of-shared-slice-known6 : tie.After-shared_slice_known-6-1 → tie.Start
-start-of-shared-slice-known6 p = p.before.before.before.before.before.before
+start-of-shared-slice-known6 p = p
 
 abbrev start-of-else1 : tie.Else-k-ne0 → tie.Start
 start-of-else1 p = start-of-shared-slice-known6 (shared-slice-known6-of-slice-known4 (slice-known4-of-else1 p))
@@ -52,40 +52,40 @@ abbrev else1-of-slice-known10 : tie.After-slice_known-in-Two-5-1 → tie.Else-k-
 else1-of-slice-known10 p = else1-of-put-list-arg3 p.before.before.before.before.before.before.before
 
 abbrev put-list-arg2-of-slice-known10 : tie.After-slice_known-in-Two-5-1 → tie.After-put_list-arg-in-Two-1
-put-list-arg2-of-slice-known10 p = p.before.before.before.before.before.before.before.before
+put-list-arg2-of-slice-known10 p = p
 
 abbrev out-rows-of-put-list-arg2 : tie.After-put_list-arg-in-Two-1 → tie.After-out_rows-1
-out-rows-of-put-list-arg2 p = p.before.before.before.before.before.before.before.before
+out-rows-of-put-list-arg2 p = p
 
 abbrev lists-refusal-of-out-rows : tie.After-out_rows-1 → tie.After-lists_refusal-k
-lists-refusal-of-out-rows p = p.before.before.before.before.before.before.before.before
+lists-refusal-of-out-rows p = p
 
 abbrev lists-refusal-of-slice-known10 : tie.After-slice_known-in-Two-5-1 → tie.After-lists_refusal-k
 lists-refusal-of-slice-known10 p = lists-refusal-of-out-rows (out-rows-of-put-list-arg2 (put-list-arg2-of-slice-known10 p))
 
 abbrev put-list-arg-of-slice-known10 : tie.After-slice_known-in-Two-5-1 → tie.After-put_list-arg-1
-put-list-arg-of-slice-known10 p = p.before.before.before.before.before.before.before.before.before
+put-list-arg-of-slice-known10 p = p
 
 abbrev run-of-put-list-arg : tie.After-put_list-arg-1 → tie.After-run-answer
-run-of-put-list-arg p = p.before.before.before.before.before.before.before.before.before
+run-of-put-list-arg p = p
 
 abbrev named-of-run : tie.After-run-answer → tie.In-Two-2
-named-of-run p = p.before.before.before.before.before.before.before
+named-of-run p = p
 
 abbrev named-of-slice-known10 : tie.After-slice_known-in-Two-5-1 → tie.In-Two-2
 named-of-slice-known10 p = named-of-run (run-of-put-list-arg (put-list-arg-of-slice-known10 p))
 
 abbrev put-list-arg3-of-slice-known10 : tie.After-slice_known-in-Two-5-1 → tie.After-put_list-arg-in-Two-2-1
-put-list-arg3-of-slice-known10 p = p.before.before.before.before.before.before.before
+put-list-arg3-of-slice-known10 p = p
 
 abbrev v2-of-put-list-arg3 : tie.After-put_list-arg-in-Two-2-1 → tie.After-v-in-Two-1
-v2-of-put-list-arg3 p = p.before.before.before.before.before.before.before
+v2-of-put-list-arg3 p = p
 
 abbrev run-arg-of-v2 : tie.After-v-in-Two-1 → tie.After-run-arg-1
-run-arg-of-v2 p = p.before.before.before.before.before.before.before
+run-arg-of-v2 p = p
 
 abbrev operation-of-of-run-arg : tie.After-run-arg-1 → tie.After-operation_of-named
-operation-of-of-run-arg p = p.before.before.before.before.before
+operation-of-of-run-arg p = p
 
 abbrev operation-of-of-slice-known10 : tie.After-slice_known-in-Two-5-1 → tie.After-operation_of-named
 operation-of-of-slice-known10 p = operation-of-of-run-arg (run-arg-of-v2 (v2-of-put-list-arg3 (put-list-arg3-of-slice-known10 p)))
@@ -94,13 +94,13 @@ abbrev S : tie.Else-k-ne0 → tie.Start
 S e = start-of-else1 e
 
 abbrev lefts : tie.Else-k-ne0 → List Numbers
-lefts e = list_sizes (length (S e).args.l-offsets.now) (length (S e).args.l-values.now)
+lefts e = list_sizes (length (S e).args.l_offsets.now) (length (S e).args.l_values.now)
 
 abbrev rights : tie.Else-k-ne0 → List Numbers
-rights e = list_sizes (length (S e).args.r-offsets.now) (length (S e).args.r-values.now)
+rights e = list_sizes (length (S e).args.r_offsets.now) (length (S e).args.r_values.now)
 
 abbrev outs : tie.Else-k-ne0 → List Numbers
-outs e = list_sizes (length (S e).args.out-offsets.now) (length (S e).args.out-values.now)
+outs e = list_sizes (length (S e).args.out_offsets.now) (length (S e).args.out_values.now)
 
 -- the sizes have passed
 passed : (e : tie.Else-k-ne0) → Sized ((lefts e ++ rights e) ++ outs e) (length (S e).args.counts.now) 32
@@ -132,10 +132,9 @@ slice_bounds-run-end-in-Two c = search rules
 
 run-answer-requires : tie.Need-run-answer-requires
 run-answer-requires c κs =
-    let e = c.before.before.before.before in
-    let i = all_left (lefts e ++ rights e) (outs e) (passed e).fit in
-    let o = list-fits _ _ (all_right (lefts e ++ rights e) (outs e) (passed e).fit) in
-    (list-fits _ _ (all_left (lefts e) (rights e) i), (list-fits _ _ (all_right (lefts e) (rights e) i), (o.offsets, o.values)))
+    let i = all_left (lefts c.before.before.before.before ++ rights c.before.before.before.before) (outs c.before.before.before.before) (passed c.before.before.before.before).fit in
+    let o = list-fits _ _ (all_right (lefts c.before.before.before.before ++ rights c.before.before.before.before) (outs c.before.before.before.before) (passed c.before.before.before.before).fit) in
+    (list-fits _ _ (all_left (lefts c.before.before.before.before) (rights c.before.before.before.before) i), (list-fits _ _ (all_right (lefts c.before.before.before.before) (rights c.before.before.before.before) i), (o.offsets, o.values)))
 
 slice_bounds-put_list-end : tie.Need-slice_bounds-put_list-end
 slice_bounds-put_list-end c = search rules
@@ -147,8 +146,8 @@ put_list-requires : tie.Need-put_list-requires
 put_list-requires c κs =
     let e = else1-of-put-list-arg3 c in
     let o = list-fits _ _ (all_right (lefts e ++ rights e) (outs e) (passed e).fit) in
-    let r = (run-of-put-list-arg3 c).run in
-    ready r.ensures (rw r.kept.1.1.1.1.1.1.1.1.1.1.1.1.1.1.1.0 o.offsets) (rw r.kept.1.1.1.1.1.1.1.1.1.1.1.1.1.1.1.1.1.0 o.values) refl refl (passed e).counts
+    let r = (run-of-put-list-arg3 c).run-answer in
+    ready r.ensures (rw r.kept.1.1.1.1.1.1.1.1.1.1.1.1.1.1.1.0 o.offsets) (rw r.kept.1.1.1.1.1.1.1.1.1.1.1.1.1.1.1.1.1.0 o.values) refl refl (passed e).counts-1
 
 returns-in-One : tie.Need-returns-in-One
 returns-in-One c = list-refused 102 (no_operation _ _ (one_code _ _ _ _ c.operation_of-named.ensures c.in-One.is))
@@ -157,24 +156,24 @@ returns-in-None : tie.Need-returns-in-None
 returns-in-None c = list-refused 102 (no_operation _ _ (no_set-code _ _ _ _ c.operation_of-named.ensures c.in-None.is))
 
 shape_of-out_offsets : tie.Need-shape_of-out_offsets
-shape_of-out_offsets c = (put-list-of-slice-known10 c).put-list.auto.1.1.1.0
+shape_of-out_offsets c = (put-list-of-slice-known10 c).put_list.auto.out_offsets
 
 shape_of-out_rows : tie.Need-shape_of-out_rows
-shape_of-out_rows c = (run-of-slice-known10 c).run.auto.1.1.1.1.1.1.1.1.1.1.1.1.1.1.1.1.0
+shape_of-out_rows c = (run-of-slice-known10 c).run-answer.auto.out_rows
 
 shape_of-out_values : tie.Need-shape_of-out_values
-shape_of-out_values c = (put-list-of-slice-known10 c).put-list.auto.1.1.1.1.0
+shape_of-out_values c = (put-list-of-slice-known10 c).put_list.auto.out_values
 
 shape_of-out_elements : tie.Need-shape_of-out_elements
-shape_of-out_elements c = (run-of-slice-known10 c).run.auto.1.1.1.1.1.1.1.1.1.1.1.1.1.1.1.1.1.1.0
+shape_of-out_elements c = (run-of-slice-known10 c).run-answer.auto.out_elements
 
 shape_of-counts : tie.Need-shape_of-counts
-shape_of-counts c = (put-list-of-slice-known10 c).put-list.auto.1.1.1.1.1.0
+shape_of-counts c = (put-list-of-slice-known10 c).put_list.auto.counts
 
 returns-else-k-ne0 : tie.Need-returns-else-k-ne0
 returns-else-k-ne0 c =
     let e = else1-of-slice-known10 c in
-    list_as (called _ _ (set_code _ _ _ _ (operation-of-of-slice-known10 c).operation-of.ensures (named-of-slice-known10 c).named.given.1) (lists-refusal-of-slice-known10 c).lists-refusal.ensures e.if-k-ne0.false) (list_returns (run-of-slice-known10 c).run.ensures (put-list-of-slice-known10 c).put-list.ensures)
+    list_as (called _ _ (set_code _ _ _ _ (operation-of-of-slice-known10 c).operation_of-named.ensures (named-of-slice-known10 c).in-Two.is) (lists-refusal-of-slice-known10 c).lists_refusal-k.ensures e.if-k-ne0.false) (list_returns (run-of-slice-known10 c).run-answer.ensures (put-list-of-slice-known10 c).put_list.ensures)
 
 pub enter_spec : {M : Type 1} → statement M
 enter_spec =

@@ -18,15 +18,12 @@ enum_known-answer-in-Counts-1 c = search rules
 
 slice_bounds-encode_i64-end : tie.Need-slice_bounds-encode_i64-end
 slice_bounds-encode_i64-end c =
-    let a = c in
-    sym (length-take-le _ _ (counted-values a.answer-in-Counts-1.given.1 a.requires))
+    sym (length-take-le _ _ (counted-values c.in-Counts.is c.requires))
 
 encode_i64-requires : tie.Need-encode_i64-requires
 encode_i64-requires c κs =
-    let a = c.before in
-    let s = a.before.before.before.before in
-    let k = counted-values a.answer-in-Counts-1.given.1 s.requires in
-    rw (length-take-le _ _ k) (counted_value_bytes a.answer-in-Counts-1.given.1 s.requires)
+    let k = counted-values c.in-Counts.is c.requires in
+    rw (length-take-le _ _ k) (counted_value_bytes c.in-Counts.is c.requires)
 
 put_value_counts-requires : tie.Need-put_value_counts-requires
 put_value_counts-requires c κs = search rules
@@ -42,10 +39,7 @@ shape_of-counts c = search rules
 
 returns-in-Counts : tie.Need-returns-in-Counts
 returns-in-Counts c =
-    let n = c.before.before in
-    let v = n.before.before.before.before in
-    let a = v.before.before in
-    values-made a.answer-in-Counts-1.given.1 v.encode_i64.ensures n.put_value_counts.ensures
+    values-made c.in-Counts.is c.encode_i64.ensures c.put_value_counts.ensures
 
 pub put_values_spec : {M : Type 1} → statement M
 put_values_spec =

@@ -41,17 +41,17 @@ module _ (s : tie.Start) where
 -- the row is copied, and the fill is left
 module _ (c : tie.After-write_forward-k) where
   abbrev s₂ : tie.Start
-  s₂ = c.before.before.before.before.before.before
+  s₂ = c
 
   longer : s₂.args.n ≤ s₂.args.count
-  longer = let e = c.before.before.before in omega (arith, e)
+  longer = omega (arith, c)
 
   copied : Writing (es s₂) s₂.args.at s₂.args.out_values.now s₂.args.out_elements.now (replicate (s₂.args.count - s₂.args.n) (F s₂)) c.write_forward-k.result c.write_forward-k.new.1.1.1.1.1.0 c.write_forward-k.new.1.1.1.1.1.1.0
   copied = run_written (none s₂) (row s₂) _ (filled s₂ longer) c.write_forward-k.ensures
 
 module _ (c : tie.After-fill_cell) where
   abbrev w₂ : tie.After-write_forward-k
-  w₂ = c.before.before.before.before
+  w₂ = c
 
   -- the fill is the argument that is written
   fill_is : replicate ((s₂ w₂).args.count - (s₂ w₂).args.n) (F (s₂ w₂)) ≡ replicate ((s₂ w₂).args.count - (s₂ w₂).args.n) (elem_of c.fill_cell.result)
@@ -59,9 +59,7 @@ module _ (c : tie.After-fill_cell) where
 
 write_forward-requires : tie.Need-write_forward-requires
 write_forward-requires c κs =
-    let t = c.before.before in
-    let s = t.before.before.before in
-    (record { inside = omega (arith, t, s.requires.0.inside); bits = s.requires.0.bits }, last-room (none s) _ (cut s (omega (arith, t))) s.requires.1)
+    (record { inside = omega (arith, c, c.requires.0.inside); bits = c.requires.0.bits }, last-room (none c.before.before.before.before.before) _ (cut c.before.before.before.before.before (omega (arith, c))) c.requires.1)
 
 shape_of-out_values-then-count-n : tie.Need-shape_of-out_values-then-count-n
 shape_of-out_values-then-count-n c = search
@@ -71,16 +69,11 @@ shape_of-out_elements-then-count-n c = search
 
 returns-then-count-n : tie.Need-returns-then-count-n
 returns-then-count-n c =
-    let w = c.before.before.before in
-    let t = w.before.before.before in
-    let s = t.before.before.before in
-    last_written (none s) _ (cut s (omega (arith, t))) w.write_forward.ensures
+    last_written (none c.before.before.before.before.before.before.before.before.before) _ (cut c.before.before.before.before.before.before.before.before.before (omega (arith, c))) c.write_forward.ensures
 
 write_forward-k-requires : tie.Need-write_forward-k-requires
 write_forward-k-requires c κs =
-    let t = c.before.before in
-    let s = t.before.before.before in
-    (s.requires.0, run_room (none s) (row s) _ (filled s (omega (arith, t))) s.requires.1)
+    (c.requires.0, run_room (none c.before.before.before.before.before) (row c.before.before.before.before.before) _ (filled c.before.before.before.before.before (omega (arith, c))) c.requires.1)
 
 fill_cell-requires : tie.Need-fill_cell-requires
 fill_cell-requires c κs = search
@@ -89,7 +82,7 @@ overflow_sub-count : tie.Need-overflow_sub-count
 overflow_sub-count c = search rules
 
 write_fill-requires : tie.Need-write_fill-requires
-write_fill-requires c κs = let q = c.before.before in last-room (copied (w₂ q)) _ (fill_is q) (s₂ (w₂ q)).requires.1
+write_fill-requires c κs = last-room (copied (w₂ c.before.before)) _ (fill_is c.before.before) (s₂ (w₂ c.before.before)).requires.1
 
 shape_of-out_values : tie.Need-shape_of-out_values
 shape_of-out_values c = search rules
@@ -99,9 +92,7 @@ shape_of-out_elements c = search rules
 
 returns : tie.Need-returns
 returns c =
-    let w = c.before.before.before in
-    let q = w.before.before.before in
-    last_written (copied (w₂ q)) _ (fill_is q) w.write_fill.ensures
+    last_written (copied (w₂ c.before.before.before.before.before.before)) _ (fill_is c.before.before.before.before.before.before) c.write_fill.ensures
 
 pub write_resized_spec : {M : Type 1} → statement M
 write_resized_spec =

@@ -1,7 +1,7 @@
 use Rattle.grade_rows.proofs.CallLaws.{no_rows, rows_are}
 use borrow.Author.Rules.{rules}
-use Rattle.grade_rows.proofs.calls.rows_in_lem.Statement.{statement}
-use Rattle.grade_rows.proofs.calls.rows_in_lem.Tie as tie
+use Rattle.grade_rows.proofs.calls.rows_in.Statement.{statement}
+use Rattle.grade_rows.proofs.calls.rows_in.Tie as tie
 
 enum_told-1 : tie.Need-enum_told-1
 enum_told-1 c = search rules

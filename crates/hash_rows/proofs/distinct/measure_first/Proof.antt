@@ -11,7 +11,7 @@ returns-then-n-lt-FEW : tie.Need-returns-then-n-lt-FEW
 returns-then-n-lt-FEW c = (c.measure_distinct.ensures, c.requires.1.1.1)
 
 measure_distinct-requires-2 : tie.Need-measure_distinct-requires-2
-measure_distinct-requires-2 c κs = let s = c.before.before.before.before in (s.requires.0, (omega (arith, s.requires.1.0), s.requires.1.1))
+measure_distinct-requires-2 c κs = (c.requires.0, (omega (arith, c.requires.1.0), c.requires.1.1))
 
 shape_of-area : tie.Need-shape_of-area
 shape_of-area c = search

@@ -27,39 +27,36 @@ decreases-loop-left values elements estart a n area₀ o len₀ k₀ left₀ are
 
 loop-left-init : tie.Need-loop-left-init invariant-loop-left decreases-loop-left
 loop-left-init c =
-    let s = c.before.before in
-    let E = elem_at s.args.values.now (from s.args.estart s.args.elements.now) in
-    (omega (arith, ap length (later_all E s.args.a s.args.n)), omega arith, omega arith, table_none _ _ _ _ _ s.requires.1.1.0 s.requires.1.1.1, within_none _, refl)
+    let E = elem_at c.args.values.now (from c.args.estart c.args.elements.now) in
+    (omega (arith, ap length (later_all E c.args.a c.args.n)), omega arith, omega arith, table_none _ _ _ _ _ c.requires.1.1.0 c.requires.1.1.1, within_none _, refl)
 
 enter-new-requires : tie.Need-enter-new-requires invariant-loop-left decreases-loop-left
 enter-new-requires c κs =
-    let s = c.before.before.before.before.before in
-    (s.requires.0, (omega (arith, c.before), (s.requires.1.0, c.loop-left.invariant.3)))
+    (c.requires.0, (omega (arith, c), (c.requires.1.0, c.loop-left.invariant.3)))
 
 overflow_cast-len : tie.Need-overflow_cast-len invariant-loop-left decreases-loop-left
 overflow_cast-len c = tt
 
 overflow_add-len : tie.Need-overflow_add-len invariant-loop-left decreases-loop-left
-overflow_add-len c = omega (arith, c.before.before.before.before, bit_le c.enter-new.result)
+overflow_add-len c = omega (arith, c, bit_le c.enter-new.result)
 
 overflow_add-k : tie.Need-overflow_add-k invariant-loop-left decreases-loop-left
-overflow_add-k c = omega (arith, c.before.before.before.before)
+overflow_add-k c = omega (arith, c)
 
 overflow_sub-left : tie.Need-overflow_sub-left invariant-loop-left decreases-loop-left
-overflow_sub-left c = omega (arith, c.before.before.before.before)
+overflow_sub-left c = omega (arith, c)
 
 loop-left-smaller : tie.Need-loop-left-smaller invariant-loop-left decreases-loop-left
-loop-left-smaller c = omega (arith, c.before.before.before.before)
+loop-left-smaller c = omega (arith, c)
 
 loop-left-preserved : tie.Need-loop-left-preserved invariant-loop-left decreases-loop-left
 loop-left-preserved c =
-    let i = c.before.before.before.before in
-    let l = i.loop-left in
+    let l = c.loop-left in
     let a = c.args in
     let E = elem_at a.values.now (from a.estart a.elements.now) in
     let e = ap bit c.enter-new.ensures.0 in
-    let p = length-later E a.a l.k l.left i.loop-left-test.true in
-    (omega (arith, i), omega (arith, i), omega (arith, i, bit_le c.enter-new.result), c.enter-new.ensures.1.0, within_more l.invariant.4 c.enter-new.ensures.1.1, c.enter-new.auto.area ∙ l.invariant.5)
+    let p = length-later E a.a l.k l.left c.loop-left-test.true in
+    (omega (arith, c), omega (arith, c), omega (arith, c, bit_le c.enter-new.result), c.enter-new.ensures.1.0, within_more l.invariant.4 c.enter-new.ensures.1.1, c.enter-new.auto.area ∙ l.invariant.5)
 
 shape_of-area : tie.Need-shape_of-area invariant-loop-left decreases-loop-left
 shape_of-area c = c.loop-left.invariant.5

@@ -5,10 +5,10 @@ use Rattle.hash_rows.proofs.distinct.write_distinct.Statement.{statement}
 use Rattle.hash_rows.proofs.distinct.write_distinct.Tie as tie
 
 write_new-end-requires : tie.Need-write_new-end-requires
-write_new-end-requires c κs = let s = c.before.before.before.before.before.before in (s.requires.0, (s.requires.1.0, (s.requires.1.1.0, (omega (arith, s.requires.1.1.1.0), s.requires.1.1.1.1))))
+write_new-end-requires c κs = (c.requires.0, (c.requires.1.0, (c.requires.1.1.0, (omega (arith, c.requires.1.1.1.0), c.requires.1.1.1.1))))
 
 clear_tables-requires : tie.Need-clear_tables-requires
-clear_tables-requires c κs = let s = c.before.before.before.before.before.before.before.before.before.before.before.before.before in let f = c.write_new-end in (omega (arith, s.requires.1.1.1.0, f.auto.area), λ i p. f.ensures.1.1.above i (omega arith) ∙ s.requires.1.1.1.1 i (omega arith))
+clear_tables-requires c κs = let f = c.write_new-end in (omega (arith, c.requires.1.1.1.0, f.auto.area), λ i p. f.ensures.1.1.above i (omega arith) ∙ c.requires.1.1.1.1 i (omega arith))
 
 shape_of-out_values : tie.Need-shape_of-out_values
 shape_of-out_values c = search rules

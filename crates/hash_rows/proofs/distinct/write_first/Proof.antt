@@ -16,7 +16,7 @@ returns-then-n-lt-FEW : tie.Need-returns-then-n-lt-FEW
 returns-then-n-lt-FEW c = (c.write_distinct.ensures, c.requires.1.1.1.1)
 
 write_distinct-requires-2 : tie.Need-write_distinct-requires-2
-write_distinct-requires-2 c κs = let s = c.before.before.before.before.before.before.before in (s.requires.0, (s.requires.1.0, (omega (arith, s.requires.1.1.0), s.requires.1.1.1)))
+write_distinct-requires-2 c κs = (c.requires.0, (c.requires.1.0, (omega (arith, c.requires.1.1.0), c.requires.1.1.1)))
 
 shape_of-out_values : tie.Need-shape_of-out_values
 shape_of-out_values c = search

@@ -29,59 +29,51 @@ decreases-loop-left values elements estart a n out-values₀ out-elements₀ at 
 
 loop-left-init : tie.Need-loop-left-init invariant-loop-left decreases-loop-left
 loop-left-init c =
-    let s = c.before.before.before in
-    let E = elem_at s.args.values.now (from s.args.estart s.args.elements.now) in
-    (begun _ (later_all E s.args.a s.args.n), omega arith, table_none _ _ _ _ _ s.requires.1.1.1.0 s.requires.1.1.1.1, within_none _, refl)
+    let E = elem_at c.args.values.now (from c.args.estart c.args.elements.now) in
+    (begun _ (later_all E c.args.a c.args.n), omega arith, table_none _ _ _ _ _ c.requires.1.1.1.0 c.requires.1.1.1.1, within_none _, refl)
 
 enter-requires : tie.Need-enter-requires invariant-loop-left decreases-loop-left
 enter-requires c κs =
-    let s = c.before.before.before.before.before.before in
-    (s.requires.0, (omega (arith, c.before), (s.requires.1.1.0, c.loop-left.invariant.2)))
+    (c.requires.0, (omega (arith, c), (c.requires.1.1.0, c.loop-left.invariant.2)))
 
 overflow_add-i : tie.Need-overflow_add-i invariant-loop-left decreases-loop-left
-overflow_add-i c = omega (arith, c.before.before.before.before.before, c.requires.0.inside)
+overflow_add-i c = omega (arith, c, c.requires.0.inside)
 
 write_elem-requires : tie.Need-write_elem-requires invariant-loop-left decreases-loop-left
 write_elem-requires c κs =
-    let i = c.before.before.before.before.before.before.before in
-    let l = i.loop-left in
-    let s = c.before.before.before.before.before.before.before.before.before.before.before.before in
-    let E = elem_at s.args.values.now (from s.args.estart s.args.elements.now) in
-    let new = later_new E s.args.a l.k l.left i.loop-left-test.true (sym (turned_back c.enter.ensures.0) ∙ ap not c.if-enter.true) in
-    (omega (arith, i, s.requires.0.inside), (s.requires.0.bits, room l.invariant.0 _ _ new s.requires.1.0))
+    let l = c.loop-left in
+    let E = elem_at c.args.values.now (from c.args.estart c.args.elements.now) in
+    let new = later_new E c.args.a l.k l.left c.loop-left-test.true (sym (turned_back c.enter.ensures.0) ∙ ap not c.if-enter.true) in
+    (omega (arith, c, c.requires.0.inside), (c.requires.0.bits, room l.invariant.0 _ _ new c.requires.1.0))
 
 overflow_add-p : tie.Need-overflow_add-p invariant-loop-left decreases-loop-left
 overflow_add-p c =
-    let i = c.before.before.before.before.before.before.before.before.before.before.before in
-    let l = i.loop-left in
-    let s = c.before.before.before.before.before.before.before.before.before.before.before.before.before.before.before.before in
-    let E = elem_at s.args.values.now (from s.args.estart s.args.elements.now) in
-    let new = later_new E s.args.a l.k l.left i.loop-left-test.true (sym (turned_back c.enter.ensures.0) ∙ ap not c.if-enter.true) in
-    let r = room l.invariant.0 _ _ new s.requires.1.0 in
-    omega (arith, i, s)
+    let l = c.loop-left in
+    let E = elem_at c.args.values.now (from c.args.estart c.args.elements.now) in
+    let new = later_new E c.args.a l.k l.left c.loop-left-test.true (sym (turned_back c.enter.ensures.0) ∙ ap not c.if-enter.true) in
+    let r = room l.invariant.0 _ _ new c.requires.1.0 in
+    omega (arith, c, c)
 
 overflow_add-k : tie.Need-overflow_add-k invariant-loop-left decreases-loop-left
-overflow_add-k c = omega (arith, c.before.before.before.before.before)
+overflow_add-k c = omega (arith, c)
 
 overflow_sub-left : tie.Need-overflow_sub-left invariant-loop-left decreases-loop-left
-overflow_sub-left c = omega (arith, c.before.before.before.before.before)
+overflow_sub-left c = omega (arith, c)
 
 loop-left-smaller : tie.Need-loop-left-smaller invariant-loop-left decreases-loop-left
-loop-left-smaller c = omega (arith, c.before.before.before.before.before)
+loop-left-smaller c = omega (arith, c)
 
 loop-left-preserved : tie.Need-loop-left-preserved invariant-loop-left decreases-loop-left
 loop-left-preserved c =
-    let i = c.before.before.before.before.before in
-    let l = i.loop-left in
-    let s = c.before.before.before.before.before.before.before.before.before.before in
-    let E = elem_at s.args.values.now (from s.args.estart s.args.elements.now) in
+    let l = c.loop-left in
+    let E = elem_at c.args.values.now (from c.args.estart c.args.elements.now) in
     let n = c.enter in
     let among = sym (turned_back n.ensures.0) in (
       ⊎_elim
-          (λ w. rw w.9 (written l.invariant.0 _ _ (later_new E s.args.a l.k l.left i.loop-left-test.true (among ∙ ap not w.0.taken)) (w.7 ∙ w.3.ensures.0) (w.8 ∙ w.3.ensures.1)))
-          (λ w. rw (w.1, w.2, w.3) (skipped l.invariant.0 _ (later_old E s.args.a l.k l.left i.loop-left-test.true (among ∙ ap not w.0.left))))
+          (λ w. rw w.9 (written l.invariant.0 _ _ (later_new E c.args.a l.k l.left c.loop-left-test.true (among ∙ ap not w.0.taken)) (w.7 ∙ w.3.ensures.0) (w.8 ∙ w.3.ensures.1)))
+          (λ w. rw (w.1, w.2, w.3) (skipped l.invariant.0 _ (later_old E c.args.a l.k l.left c.loop-left-test.true (among ∙ ap not w.0.left))))
           c.if-enter.branch,
-      omega (arith, i),
+      omega (arith, c),
       n.ensures.1.0,
       within_more l.invariant.3 n.ensures.1.1,
       n.auto.area ∙ l.invariant.4,
@@ -99,9 +91,8 @@ shape_of-area c = c.loop-left.invariant.4
 returns : tie.Need-returns invariant-loop-left decreases-loop-left
 returns c =
     let l = c.loop-left in
-    let s = c.before.before.before.before.before in
-    let E = elem_at s.args.values.now (from s.args.estart s.args.elements.now) in
-    (done l.invariant.0 (later-none E s.args.a l.k l.left c.loop-left-test.false), (table_all l.invariant.2 (omega (arith, l.invariant.1, c.loop-left-test.false)), l.invariant.3))
+    let E = elem_at c.args.values.now (from c.args.estart c.args.elements.now) in
+    (done l.invariant.0 (later-none E c.args.a l.k l.left c.loop-left-test.false), (table_all l.invariant.2 (omega (arith, l.invariant.1, c.loop-left-test.false)), l.invariant.3))
 
 pub write_new_spec : {M : Type 1} → statement M
 write_new_spec =

@@ -24,16 +24,15 @@ returns-then-not-enter c =
     let O = tab (elem_at a.others.now (from a.ostart a.oelements.now)) a.b a.m in
     let E = elem_at a.values.now (from a.estart a.elements.now) in
     let e = c.enter.ensures in
-    (keeps_old a.shared O (tab E a.a a.k) (E (a.a + a.k)) (turned_back e.0) c.if-not-enter.true, e.1)
+    (keeps_old a.shared O (tab E a.a a.k) (E (a.a + a.k)) (turned_back e.0) c.if-not-enter.true-raw, e.1)
 
 overflow_add-a : tie.Need-overflow_add-a
 overflow_add-a c = search rules
 
 is_listed-found-requires : tie.Need-is_listed-found-requires
 is_listed-found-requires c κs =
-    let s = c.before.before.before.before.before.before.before.before.before in
     let e = c.enter in
-    (omega (arith, s.requires.0.inside, s.requires.1.1.0), (s.requires.0.bits, (s.requires.1.0, (s.requires.1.1.1.1.0, table_before s.requires.1.1.1.1.1.0 e.ensures.1.1 e.auto.area))))
+    (omega (arith, c.requires.0.inside, c.requires.1.1.0), (c.requires.0.bits, (c.requires.1.0, (c.requires.1.1.1.1.0, table_before c.requires.1.1.1.1.1.0 e.ensures.1.1 e.auto.area))))
 
 shape_of-area-then-shared : tie.Need-shape_of-area-then-shared
 shape_of-area-then-shared c = search rules
@@ -44,7 +43,7 @@ returns-then-shared c =
     let O = tab (elem_at a.others.now (from a.ostart a.oelements.now)) a.b a.m in
     let E = elem_at a.values.now (from a.estart a.elements.now) in
     let e = c.enter.ensures in
-    (keeps_shared a.shared O (tab E a.a a.k) (E (a.a + a.k)) (turned_back e.0) c.if-not-enter.false c.is_listed-found.ensures c.if-shared.true, e.1)
+    (keeps_shared a.shared O (tab E a.a a.k) (E (a.a + a.k)) (turned_back e.0) c.if-not-enter.false-raw c.is_listed-found.ensures c.if-shared.true, e.1)
 
 shape_of-area : tie.Need-shape_of-area
 shape_of-area c = search rules
@@ -55,7 +54,7 @@ returns c =
     let O = tab (elem_at a.others.now (from a.ostart a.oelements.now)) a.b a.m in
     let E = elem_at a.values.now (from a.estart a.elements.now) in
     let e = c.enter.ensures in
-    (keeps_new a.shared O (tab E a.a a.k) (E (a.a + a.k)) (turned_back e.0) c.if-not-enter.false c.is_listed-found.ensures c.if-shared.false, e.1)
+    (keeps_new a.shared O (tab E a.a a.k) (E (a.a + a.k)) (turned_back e.0) c.if-not-enter.false-raw c.is_listed-found.ensures c.if-shared.false, e.1)
 
 pub is_kept_spec : {M : Type 1} → statement M
 is_kept_spec =

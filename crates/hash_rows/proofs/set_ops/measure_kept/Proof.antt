@@ -28,42 +28,39 @@ decreases-loop-left values elements estart a n others oelements ostart b m share
 
 loop-left-init : tie.Need-loop-left-init invariant-loop-left decreases-loop-left
 loop-left-init c =
-    let s = c.before.before.before in
-    let a = s.args in
+    let a = c.args in
     let O = tab (elem_at a.others.now (from a.ostart a.oelements.now)) a.b a.m in
-    (omega (arith, ap length (kept_all a.shared O (elem_at a.values.now (from a.estart a.elements.now)) a.a a.n)), omega arith, omega arith, table_none _ _ _ _ _ s.requires.1.1.1.1.0 s.requires.1.1.1.1.1.1, within_none _, refl)
+    (omega (arith, ap length (kept_all a.shared O (elem_at a.values.now (from a.estart a.elements.now)) a.a a.n)), omega arith, omega arith, table_none _ _ _ _ _ c.requires.1.1.1.1.0 c.requires.1.1.1.1.1.1, within_none _, refl)
 
 is_kept-new-requires : tie.Need-is_kept-new-requires invariant-loop-left decreases-loop-left
 is_kept-new-requires c κs =
-    let s = c.before.before.before.before.before.before in
     let l = c.loop-left in
-    (s.requires.0, (s.requires.1.0, (omega (arith, c.before), (s.requires.1.1.0, (s.requires.1.1.1.0, (table_before s.requires.1.1.1.1.1.0 l.invariant.4 l.invariant.5, l.invariant.3))))))
+    (c.requires.0, (c.requires.1.0, (omega (arith, c), (c.requires.1.1.0, (c.requires.1.1.1.0, (table_before c.requires.1.1.1.1.1.0 l.invariant.4 l.invariant.5, l.invariant.3))))))
 
 overflow_cast-len : tie.Need-overflow_cast-len invariant-loop-left decreases-loop-left
 overflow_cast-len c = tt
 
 overflow_add-len : tie.Need-overflow_add-len invariant-loop-left decreases-loop-left
-overflow_add-len c = omega (arith, c.before.before.before.before, bit_le c.is_kept-new.result)
+overflow_add-len c = omega (arith, c, bit_le c.is_kept-new.result)
 
 overflow_add-k : tie.Need-overflow_add-k invariant-loop-left decreases-loop-left
-overflow_add-k c = omega (arith, c.before.before.before.before)
+overflow_add-k c = omega (arith, c)
 
 overflow_sub-left : tie.Need-overflow_sub-left invariant-loop-left decreases-loop-left
-overflow_sub-left c = omega (arith, c.before.before.before.before)
+overflow_sub-left c = omega (arith, c)
 
 loop-left-smaller : tie.Need-loop-left-smaller invariant-loop-left decreases-loop-left
-loop-left-smaller c = omega (arith, c.before.before.before.before)
+loop-left-smaller c = omega (arith, c)
 
 loop-left-preserved : tie.Need-loop-left-preserved invariant-loop-left decreases-loop-left
 loop-left-preserved c =
-    let i = c.before.before.before.before in
-    let l = i.loop-left in
+    let l = c.loop-left in
     let a = c.args in
     let O = tab (elem_at a.others.now (from a.ostart a.oelements.now)) a.b a.m in
     let E = elem_at a.values.now (from a.estart a.elements.now) in
     let e = c.is_kept-new.ensures in
-    let p = length-kept a.shared O E a.a l.k l.left i.loop-left-test.true e.0 in
-    (omega (arith, i), omega (arith, i), omega (arith, i, bit_le c.is_kept-new.result), e.1.0, within_more l.invariant.4 e.1.1, c.is_kept-new.auto.area ∙ l.invariant.5)
+    let p = length-kept a.shared O E a.a l.k l.left c.loop-left-test.true e.0 in
+    (omega (arith, c), omega (arith, c), omega (arith, c, bit_le c.is_kept-new.result), e.1.0, within_more l.invariant.4 e.1.1, c.is_kept-new.auto.area ∙ l.invariant.5)
 
 shape_of-area : tie.Need-shape_of-area invariant-loop-left decreases-loop-left
 shape_of-area c = c.loop-left.invariant.5

@@ -5,20 +5,18 @@ use Rattle.hash_rows.proofs.set_ops.measure_shared.Statement.{statement}
 use Rattle.hash_rows.proofs.set_ops.measure_shared.Tie as tie
 
 measure_new-requires : tie.Need-measure_new-requires
-measure_new-requires c κs = let s = c.before.before.before.before in (s.requires.1.0, (s.requires.1.1.1.0, (omega (arith, s.requires.1.1.1.1.0), s.requires.1.1.1.1.1)))
+measure_new-requires c κs = (c.requires.1.0, (c.requires.1.1.1.0, (omega (arith, c.requires.1.1.1.1.0), c.requires.1.1.1.1.1)))
 
 measure_kept-len-requires : tie.Need-measure_kept-len-requires
 measure_kept-len-requires c κs =
-    let s = c.before.before.before.before.before.before.before.before in
     let f = c.measure_new in
-    (s.requires.0, (s.requires.1.0, (s.requires.1.1.0, (s.requires.1.1.1.0, (omega (arith, s.requires.1.1.1.1.0, f.auto.area), (f.ensures.1.0, λ i p. f.ensures.1.1.above i (omega arith) ∙ s.requires.1.1.1.1.1 i (omega arith)))))))
+    (c.requires.0, (c.requires.1.0, (c.requires.1.1.0, (c.requires.1.1.1.0, (omega (arith, c.requires.1.1.1.1.0, f.auto.area), (f.ensures.1.0, λ i p. f.ensures.1.1.above i (omega arith) ∙ c.requires.1.1.1.1.1 i (omega arith)))))))
 
 clear_tables-requires : tie.Need-clear_tables-requires
 clear_tables-requires c κs =
-    let s = c.before.before.before.before.before.before.before.before.before.before.before.before in
     let f = c.measure_new in
     let g = c.measure_kept-len in
-    (omega (arith, s.requires.1.1.1.1.0, f.auto.area, g.auto.area), λ i p. g.ensures.1.above i (omega arith) ∙ f.ensures.1.1.above i (omega arith) ∙ s.requires.1.1.1.1.1 i (omega arith))
+    (omega (arith, c.requires.1.1.1.1.0, f.auto.area, g.auto.area), λ i p. g.ensures.1.above i (omega arith) ∙ f.ensures.1.1.above i (omega arith) ∙ c.requires.1.1.1.1.1 i (omega arith))
 
 shape_of-area : tie.Need-shape_of-area
 shape_of-area c = search rules

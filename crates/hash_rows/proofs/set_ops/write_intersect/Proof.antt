@@ -12,11 +12,10 @@ use Rattle.hash_rows.proofs.set_ops.write_intersect.Tie as tie
 
 write_shared-requires : tie.Need-write_shared-requires
 write_shared-requires c κs =
-    let s = c.before.before.before.before.before.before.before.before in
-    let l = tab (elem_at s.args.lvalues.now (from s.args.lstart s.args.lelements.now)) s.args.a s.args.n in
-    let r = tab (elem_at s.args.rvalues.now (from s.args.rstart s.args.relements.now)) s.args.b s.args.m in
-    let e = intersect_right l r (omega (arith, c.if-n-m.true, length-tab (elem_at s.args.lvalues.now (from s.args.lstart s.args.lelements.now)) s.args.a s.args.n, length-tab (elem_at s.args.rvalues.now (from s.args.rstart s.args.relements.now)) s.args.b s.args.m)) in
-    (s.requires.1.0, (s.requires.0, (rw e at s.requires.1.1.0, (s.requires.1.1.1.1.0, (s.requires.1.1.1.0, (omega (arith, s.requires.1.1.1.1.1.0), s.requires.1.1.1.1.1.1))))))
+    let l = tab (elem_at c.args.lvalues.now (from c.args.lstart c.args.lelements.now)) c.args.a c.args.n in
+    let r = tab (elem_at c.args.rvalues.now (from c.args.rstart c.args.relements.now)) c.args.b c.args.m in
+    let e = intersect_right l r (omega (arith, c.if-n-m.true, length-tab (elem_at c.args.lvalues.now (from c.args.lstart c.args.lelements.now)) c.args.a c.args.n, length-tab (elem_at c.args.rvalues.now (from c.args.rstart c.args.relements.now)) c.args.b c.args.m)) in
+    (c.requires.1.0, (c.requires.0, (rw e at c.requires.1.1.0, (c.requires.1.1.1.1.0, (c.requires.1.1.1.0, (omega (arith, c.requires.1.1.1.1.1.0), c.requires.1.1.1.1.1.1))))))
 
 shape_of-out_values-then-n-m : tie.Need-shape_of-out_values-then-n-m
 shape_of-out_values-then-n-m c = search rules
@@ -29,18 +28,16 @@ shape_of-area-then-n-m c = search rules
 
 returns-then-n-m : tie.Need-returns-then-n-m
 returns-then-n-m c =
-    let s = c.before.before.before.before.before.before.before.before.before.before.before.before.before.before in
-    let l = tab (elem_at s.args.lvalues.now (from s.args.lstart s.args.lelements.now)) s.args.a s.args.n in
-    let r = tab (elem_at s.args.rvalues.now (from s.args.rstart s.args.relements.now)) s.args.b s.args.m in
-    (rw (intersect_right l r (omega (arith, c.if-n-m.true, length-tab (elem_at s.args.lvalues.now (from s.args.lstart s.args.lelements.now)) s.args.a s.args.n, length-tab (elem_at s.args.rvalues.now (from s.args.rstart s.args.relements.now)) s.args.b s.args.m))) c.write_shared.ensures.0, c.write_shared.ensures.1)
+    let l = tab (elem_at c.args.lvalues.now (from c.args.lstart c.args.lelements.now)) c.args.a c.args.n in
+    let r = tab (elem_at c.args.rvalues.now (from c.args.rstart c.args.relements.now)) c.args.b c.args.m in
+    (rw (intersect_right l r (omega (arith, c.if-n-m.true, length-tab (elem_at c.args.lvalues.now (from c.args.lstart c.args.lelements.now)) c.args.a c.args.n, length-tab (elem_at c.args.rvalues.now (from c.args.rstart c.args.relements.now)) c.args.b c.args.m))) c.write_shared.ensures.0, c.write_shared.ensures.1)
 
 write_shared-requires-2 : tie.Need-write_shared-requires-2
 write_shared-requires-2 c κs =
-    let s = c.before.before.before.before.before.before.before.before in
-    let l = tab (elem_at s.args.lvalues.now (from s.args.lstart s.args.lelements.now)) s.args.a s.args.n in
-    let r = tab (elem_at s.args.rvalues.now (from s.args.rstart s.args.relements.now)) s.args.b s.args.m in
-    let e = intersect_left l r (omega (arith, c.if-n-m.false, length-tab (elem_at s.args.lvalues.now (from s.args.lstart s.args.lelements.now)) s.args.a s.args.n, length-tab (elem_at s.args.rvalues.now (from s.args.rstart s.args.relements.now)) s.args.b s.args.m)) in
-    (s.requires.0, (s.requires.1.0, (rw e at s.requires.1.1.0, (s.requires.1.1.1.0, (s.requires.1.1.1.1.0, (omega (arith, s.requires.1.1.1.1.1.0), s.requires.1.1.1.1.1.1))))))
+    let l = tab (elem_at c.args.lvalues.now (from c.args.lstart c.args.lelements.now)) c.args.a c.args.n in
+    let r = tab (elem_at c.args.rvalues.now (from c.args.rstart c.args.relements.now)) c.args.b c.args.m in
+    let e = intersect_left l r (omega (arith, c.if-n-m.false, length-tab (elem_at c.args.lvalues.now (from c.args.lstart c.args.lelements.now)) c.args.a c.args.n, length-tab (elem_at c.args.rvalues.now (from c.args.rstart c.args.relements.now)) c.args.b c.args.m)) in
+    (c.requires.0, (c.requires.1.0, (rw e at c.requires.1.1.0, (c.requires.1.1.1.0, (c.requires.1.1.1.1.0, (omega (arith, c.requires.1.1.1.1.1.0), c.requires.1.1.1.1.1.1))))))
 
 shape_of-out_values : tie.Need-shape_of-out_values
 shape_of-out_values c = search rules
@@ -53,10 +50,9 @@ shape_of-area c = search rules
 
 returns : tie.Need-returns
 returns c =
-    let s = c.before.before.before.before.before.before.before.before.before.before.before.before.before.before in
-    let l = tab (elem_at s.args.lvalues.now (from s.args.lstart s.args.lelements.now)) s.args.a s.args.n in
-    let r = tab (elem_at s.args.rvalues.now (from s.args.rstart s.args.relements.now)) s.args.b s.args.m in
-    (rw (intersect_left l r (omega (arith, c.if-n-m.false, length-tab (elem_at s.args.lvalues.now (from s.args.lstart s.args.lelements.now)) s.args.a s.args.n, length-tab (elem_at s.args.rvalues.now (from s.args.rstart s.args.relements.now)) s.args.b s.args.m))) c.write_shared-2.ensures.0, c.write_shared-2.ensures.1)
+    let l = tab (elem_at c.args.lvalues.now (from c.args.lstart c.args.lelements.now)) c.args.a c.args.n in
+    let r = tab (elem_at c.args.rvalues.now (from c.args.rstart c.args.relements.now)) c.args.b c.args.m in
+    (rw (intersect_left l r (omega (arith, c.if-n-m.false, length-tab (elem_at c.args.lvalues.now (from c.args.lstart c.args.lelements.now)) c.args.a c.args.n, length-tab (elem_at c.args.rvalues.now (from c.args.rstart c.args.relements.now)) c.args.b c.args.m))) c.write_shared-2.ensures.0, c.write_shared-2.ensures.1)
 
 pub write_intersect_spec : {M : Type 1} → statement M
 write_intersect_spec =

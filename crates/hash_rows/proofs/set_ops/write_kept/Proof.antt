@@ -29,64 +29,56 @@ decreases-loop-left values elements estart a n others oelements ostart b m share
 
 loop-left-init : tie.Need-loop-left-init invariant-loop-left decreases-loop-left
 loop-left-init c =
-    let s = c.before.before.before.before in
-    let O = tab (elem_at s.args.others.now (from s.args.ostart s.args.oelements.now)) s.args.b s.args.m in
-    let E = elem_at s.args.values.now (from s.args.estart s.args.elements.now) in
-    (begun _ (kept_all s.args.shared O E s.args.a s.args.n), omega arith, table_none _ _ _ _ _ s.requires.1.1.1.1.1.0 s.requires.1.1.1.1.1.1.1, within_none _, refl)
+    let O = tab (elem_at c.args.others.now (from c.args.ostart c.args.oelements.now)) c.args.b c.args.m in
+    let E = elem_at c.args.values.now (from c.args.estart c.args.elements.now) in
+    (begun _ (kept_all c.args.shared O E c.args.a c.args.n), omega arith, table_none _ _ _ _ _ c.requires.1.1.1.1.1.0 c.requires.1.1.1.1.1.1.1, within_none _, refl)
 
 is_kept-requires : tie.Need-is_kept-requires invariant-loop-left decreases-loop-left
 is_kept-requires c κs =
-    let s = c.before.before.before.before.before.before.before in
     let l = c.loop-left in
-    (s.requires.0, (s.requires.1.0, (omega (arith, c.before), (s.requires.1.1.1.0, (s.requires.1.1.1.1.0, (table_before s.requires.1.1.1.1.1.1.0 l.invariant.3 l.invariant.4, l.invariant.2))))))
+    (c.requires.0, (c.requires.1.0, (omega (arith, c), (c.requires.1.1.1.0, (c.requires.1.1.1.1.0, (table_before c.requires.1.1.1.1.1.1.0 l.invariant.3 l.invariant.4, l.invariant.2))))))
 
 overflow_add-i : tie.Need-overflow_add-i invariant-loop-left decreases-loop-left
-overflow_add-i c = omega (arith, c.before.before.before.before.before, c.requires.0.inside)
+overflow_add-i c = omega (arith, c, c.requires.0.inside)
 
 write_elem-requires : tie.Need-write_elem-requires invariant-loop-left decreases-loop-left
 write_elem-requires c κs =
-    let i = c.before.before.before.before.before.before.before in
-    let l = i.loop-left in
-    let s = c.before.before.before.before.before.before.before.before.before.before.before.before.before in
-    let O = tab (elem_at s.args.others.now (from s.args.ostart s.args.oelements.now)) s.args.b s.args.m in
-    let E = elem_at s.args.values.now (from s.args.estart s.args.elements.now) in
-    let new = kept-taken s.args.shared O E s.args.a l.k l.left i.loop-left-test.true c.is_kept.ensures.0 c.if-is_kept.true in
-    (omega (arith, i, s.requires.0.inside), (s.requires.0.bits, room l.invariant.0 _ _ new s.requires.1.1.0))
+    let l = c.loop-left in
+    let O = tab (elem_at c.args.others.now (from c.args.ostart c.args.oelements.now)) c.args.b c.args.m in
+    let E = elem_at c.args.values.now (from c.args.estart c.args.elements.now) in
+    let new = kept-taken c.args.shared O E c.args.a l.k l.left c.loop-left-test.true c.is_kept.ensures.0 c.if-is_kept.true in
+    (omega (arith, c, c.requires.0.inside), (c.requires.0.bits, room l.invariant.0 _ _ new c.requires.1.1.0))
 
 overflow_add-p : tie.Need-overflow_add-p invariant-loop-left decreases-loop-left
 overflow_add-p c =
-    let i = c.before.before.before.before.before.before.before.before.before.before.before in
-    let l = i.loop-left in
-    let s = c.before.before.before.before.before.before.before.before.before.before.before.before.before.before.before.before.before in
-    let O = tab (elem_at s.args.others.now (from s.args.ostart s.args.oelements.now)) s.args.b s.args.m in
-    let E = elem_at s.args.values.now (from s.args.estart s.args.elements.now) in
-    let new = kept-taken s.args.shared O E s.args.a l.k l.left i.loop-left-test.true c.is_kept.ensures.0 c.if-is_kept.true in
-    let r = room l.invariant.0 _ _ new s.requires.1.1.0 in
-    omega (arith, i, s)
+    let l = c.loop-left in
+    let O = tab (elem_at c.args.others.now (from c.args.ostart c.args.oelements.now)) c.args.b c.args.m in
+    let E = elem_at c.args.values.now (from c.args.estart c.args.elements.now) in
+    let new = kept-taken c.args.shared O E c.args.a l.k l.left c.loop-left-test.true c.is_kept.ensures.0 c.if-is_kept.true in
+    let r = room l.invariant.0 _ _ new c.requires.1.1.0 in
+    omega (arith, c, c)
 
 overflow_add-k : tie.Need-overflow_add-k invariant-loop-left decreases-loop-left
-overflow_add-k c = omega (arith, c.before.before.before.before.before)
+overflow_add-k c = omega (arith, c)
 
 overflow_sub-left : tie.Need-overflow_sub-left invariant-loop-left decreases-loop-left
-overflow_sub-left c = omega (arith, c.before.before.before.before.before)
+overflow_sub-left c = omega (arith, c)
 
 loop-left-smaller : tie.Need-loop-left-smaller invariant-loop-left decreases-loop-left
-loop-left-smaller c = omega (arith, c.before.before.before.before.before)
+loop-left-smaller c = omega (arith, c)
 
 loop-left-preserved : tie.Need-loop-left-preserved invariant-loop-left decreases-loop-left
 loop-left-preserved c =
-    let i = c.before.before.before.before.before in
-    let l = i.loop-left in
-    let s = c.before.before.before.before.before.before.before.before.before.before.before in
-    let O = tab (elem_at s.args.others.now (from s.args.ostart s.args.oelements.now)) s.args.b s.args.m in
-    let E = elem_at s.args.values.now (from s.args.estart s.args.elements.now) in
+    let l = c.loop-left in
+    let O = tab (elem_at c.args.others.now (from c.args.ostart c.args.oelements.now)) c.args.b c.args.m in
+    let E = elem_at c.args.values.now (from c.args.estart c.args.elements.now) in
     let n = c.is_kept in
     let keeps = n.ensures.0 in (
       ⊎_elim
-          (λ w. rw w.9 (written l.invariant.0 _ _ (kept-taken s.args.shared O E s.args.a l.k l.left i.loop-left-test.true keeps w.0.taken) (w.7 ∙ w.3.ensures.0) (w.8 ∙ w.3.ensures.1)))
-          (λ w. rw (w.1, w.2, w.3) (skipped l.invariant.0 _ (kept_passed s.args.shared O E s.args.a l.k l.left i.loop-left-test.true keeps w.0.left)))
+          (λ w. rw w.9 (written l.invariant.0 _ _ (kept-taken c.args.shared O E c.args.a l.k l.left c.loop-left-test.true keeps w.0.taken) (w.7 ∙ w.3.ensures.0) (w.8 ∙ w.3.ensures.1)))
+          (λ w. rw (w.1, w.2, w.3) (skipped l.invariant.0 _ (kept_passed c.args.shared O E c.args.a l.k l.left c.loop-left-test.true keeps w.0.left)))
           c.if-is_kept.branch,
-      omega (arith, i),
+      omega (arith, c),
       n.ensures.1.0,
       within_more l.invariant.3 n.ensures.1.1,
       n.auto.area ∙ l.invariant.4,
@@ -104,10 +96,9 @@ shape_of-area c = c.loop-left.invariant.4
 returns : tie.Need-returns invariant-loop-left decreases-loop-left
 returns c =
     let l = c.loop-left in
-    let s = c.before.before.before.before.before.before in
-    let O = tab (elem_at s.args.others.now (from s.args.ostart s.args.oelements.now)) s.args.b s.args.m in
-    let E = elem_at s.args.values.now (from s.args.estart s.args.elements.now) in
-    (done l.invariant.0 (kept-none s.args.shared O E s.args.a l.k l.left c.loop-left-test.false), l.invariant.3)
+    let O = tab (elem_at c.args.others.now (from c.args.ostart c.args.oelements.now)) c.args.b c.args.m in
+    let E = elem_at c.args.values.now (from c.args.estart c.args.elements.now) in
+    (done l.invariant.0 (kept-none c.args.shared O E c.args.a l.k l.left c.loop-left-test.false), l.invariant.3)
 
 pub write_kept_spec : {M : Type 1} → statement M
 write_kept_spec =

@@ -5,20 +5,18 @@ use Rattle.hash_rows.proofs.set_ops.write_shared.Statement.{statement}
 use Rattle.hash_rows.proofs.set_ops.write_shared.Tie as tie
 
 measure_new-requires : tie.Need-measure_new-requires
-measure_new-requires c κs = let s = c.before.before.before.before.before in (s.requires.1.0, (s.requires.1.1.1.1.0, (omega (arith, s.requires.1.1.1.1.1.0), s.requires.1.1.1.1.1.1)))
+measure_new-requires c κs = (c.requires.1.0, (c.requires.1.1.1.1.0, (omega (arith, c.requires.1.1.1.1.1.0), c.requires.1.1.1.1.1.1)))
 
 write_kept-end-requires : tie.Need-write_kept-end-requires
 write_kept-end-requires c κs =
-    let s = c.before.before.before.before.before.before.before.before.before.before.before in
     let f = c.measure_new in
-    (s.requires.0, (s.requires.1.0, (s.requires.1.1.0, (s.requires.1.1.1.0, (s.requires.1.1.1.1.0, (omega (arith, s.requires.1.1.1.1.1.0, f.auto.area), (f.ensures.1.0, λ i p. f.ensures.1.1.above i (omega arith) ∙ s.requires.1.1.1.1.1.1 i (omega arith))))))))
+    (c.requires.0, (c.requires.1.0, (c.requires.1.1.0, (c.requires.1.1.1.0, (c.requires.1.1.1.1.0, (omega (arith, c.requires.1.1.1.1.1.0, f.auto.area), (f.ensures.1.0, λ i p. f.ensures.1.1.above i (omega arith) ∙ c.requires.1.1.1.1.1.1 i (omega arith))))))))
 
 clear_tables-requires : tie.Need-clear_tables-requires
 clear_tables-requires c κs =
-    let s = c.before.before.before.before.before.before.before.before.before.before.before.before.before.before.before.before.before.before in
     let f = c.measure_new in
     let g = c.before.before.before.before.before.before.write-Kept in
-    (omega (arith, s.requires.1.1.1.1.1.0, f.auto.area, g.auto.1.1.1.1.1.1.1.1.1.1.1.1.1.1.0), λ i p. g.ensures.1.above i (omega arith) ∙ f.ensures.1.1.above i (omega arith) ∙ s.requires.1.1.1.1.1.1 i (omega arith))
+    (omega (arith, c.requires.1.1.1.1.1.0, f.auto.area, g.auto.1.1.1.1.1.1.1.1.1.1.1.1.1.1.0), λ i p. g.ensures.1.above i (omega arith) ∙ f.ensures.1.1.above i (omega arith) ∙ c.requires.1.1.1.1.1.1 i (omega arith))
 
 shape_of-out_values : tie.Need-shape_of-out_values
 shape_of-out_values c = search rules

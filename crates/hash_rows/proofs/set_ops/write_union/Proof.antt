@@ -14,25 +14,22 @@ use Rattle.hash_rows.proofs.set_ops.write_union.Tie as tie
 
 write_new-next-requires : tie.Need-write_new-next-requires
 write_new-next-requires c κs =
-    let s = c.before.before.before.before.before.before.before in
-    let l = tab (elem_at s.args.lvalues.now (from s.args.lstart s.args.lelements.now)) s.args.a s.args.n in
-    let r = tab (elem_at s.args.rvalues.now (from s.args.rstart s.args.relements.now)) s.args.b s.args.m in
-    (s.requires.0, (place-first (distinct l) (kept false l [] r) (rw (union_distinct l r) at s.requires.1.1.0), (s.requires.1.1.1.0, (omega (arith, s.requires.1.1.1.1.1.0), s.requires.1.1.1.1.1.1))))
+    let l = tab (elem_at c.args.lvalues.now (from c.args.lstart c.args.lelements.now)) c.args.a c.args.n in
+    let r = tab (elem_at c.args.rvalues.now (from c.args.rstart c.args.relements.now)) c.args.b c.args.m in
+    (c.requires.0, (place-first (distinct l) (kept false l [] r) (rw (union_distinct l r) at c.requires.1.1.0), (c.requires.1.1.1.0, (omega (arith, c.requires.1.1.1.1.1.0), c.requires.1.1.1.1.1.1))))
 
 write_kept-end-requires : tie.Need-write_kept-end-requires
 write_kept-end-requires c κs =
-    let s = c.before.before.before.before.before.before.before.before.before.before.before.before.before.before.before.before in
     let f = c.write_new-next in
-    let l = tab (elem_at s.args.lvalues.now (from s.args.lstart s.args.lelements.now)) s.args.a s.args.n in
-    let r = tab (elem_at s.args.rvalues.now (from s.args.rstart s.args.relements.now)) s.args.b s.args.m in
-    (s.requires.1.0, (s.requires.0, (place_then (distinct l) (kept false l [] r) f.ensures.0 (rw (union_distinct l r) at s.requires.1.1.0), (s.requires.1.1.1.1.0, (s.requires.1.1.1.0, (omega (arith, s.requires.1.1.1.1.1.0, f.auto.area), (f.ensures.1.0, λ i p. f.ensures.1.1.above i (omega arith) ∙ s.requires.1.1.1.1.1.1 i (omega arith))))))))
+    let l = tab (elem_at c.args.lvalues.now (from c.args.lstart c.args.lelements.now)) c.args.a c.args.n in
+    let r = tab (elem_at c.args.rvalues.now (from c.args.rstart c.args.relements.now)) c.args.b c.args.m in
+    (c.requires.1.0, (c.requires.0, (place_then (distinct l) (kept false l [] r) f.ensures.0 (rw (union_distinct l r) at c.requires.1.1.0), (c.requires.1.1.1.1.0, (c.requires.1.1.1.0, (omega (arith, c.requires.1.1.1.1.1.0, f.auto.area), (f.ensures.1.0, λ i p. f.ensures.1.1.above i (omega arith) ∙ c.requires.1.1.1.1.1.1 i (omega arith))))))))
 
 clear_tables-requires : tie.Need-clear_tables-requires
 clear_tables-requires c κs =
-    let s = c.before.before.before.before.before.before.before.before.before.before.before.before.before.before.before.before.before.before.before.before.before.before.before in
     let f = c.write_new-next in
     let g = c.before.before.before.before.before.before.write-Kept in
-    (omega (arith, s.requires.1.1.1.1.1.0, f.auto.area, g.auto.1.1.1.1.1.1.1.1.1.1.1.1.1.1.0), λ i p. g.ensures.1.above i (omega arith) ∙ f.ensures.1.1.above i (omega arith) ∙ s.requires.1.1.1.1.1.1 i (omega arith))
+    (omega (arith, c.requires.1.1.1.1.1.0, f.auto.area, g.auto.1.1.1.1.1.1.1.1.1.1.1.1.1.1.0), λ i p. g.ensures.1.above i (omega arith) ∙ f.ensures.1.1.above i (omega arith) ∙ c.requires.1.1.1.1.1.1 i (omega arith))
 
 shape_of-out_values : tie.Need-shape_of-out_values
 shape_of-out_values c = search rules
@@ -45,9 +42,8 @@ shape_of-area c = search rules
 
 returns : tie.Need-returns
 returns c =
-    let s = c.before.before.before.before.before.before.before.before.before.before.before.before.before.before.before.before.before.before.before.before.before.before.before.before.before.before in
-    let l = tab (elem_at s.args.lvalues.now (from s.args.lstart s.args.lelements.now)) s.args.a s.args.n in
-    let r = tab (elem_at s.args.rvalues.now (from s.args.rstart s.args.relements.now)) s.args.b s.args.m in
+    let l = tab (elem_at c.args.lvalues.now (from c.args.lstart c.args.lelements.now)) c.args.a c.args.n in
+    let r = tab (elem_at c.args.rvalues.now (from c.args.rstart c.args.relements.now)) c.args.b c.args.m in
     (rw (union_distinct l r) (written_then (distinct l) (kept false l [] r) c.write_new-next.ensures.0 c.before.before.before.before.before.before.before.before.before.write-Kept.ensures.0), c.clear_tables.ensures)
 
 pub write_union_spec : {M : Type 1} → statement M

@@ -23,16 +23,16 @@ R s = let a = s.args in room (length a.out_offsets.now) (length a.out_rows.now) 
 -- ---- places: what is written, the refusals passed, the area cleared, the start
 
 abbrev wrote : tie.After-slice_known-7-1 → tie.After-after_three
-wrote c = c.before.before.before.before.before.before.before.before
+wrote c = c
 
 abbrev passed : tie.After-slice_known-7-1 → tie.Else-k-ne0
-passed c = (wrote c).before.before.before.before.before.before
+passed c = (wrote c)
 
 abbrev clears : tie.After-list_refusal-k → tie.After-clear_area
-clears f = f.before.before.before
+clears f = f
 
 abbrev S : tie.After-list_refusal-k → tie.Start
-S f = f.before.before.before.before.before.before.before.before.before.before
+S f = f
 
 -- ---- needs
 
@@ -43,43 +43,39 @@ list_refusal-k-requires : tie.Need-list_refusal-k-requires
 list_refusal-k-requires c κs = search
 
 shape_of-area-then-k-ne0 : tie.Need-shape_of-area-then-k-ne0
-shape_of-area-then-k-ne0 c = (clears c.before).clear-area.auto.0
+shape_of-area-then-k-ne0 c = (clears c.before).clear_area.auto.area
 
 returns-then-k-ne0 : tie.Need-returns-then-k-ne0
 returns-then-k-ne0 c =
-    let f = c.before in
-    let s = S f in
-    refused_cleared _ (distinct_early (C s) (length s.args.area.now) (R s) _ f.list_refusal-k.ensures c.if-k-ne0.true) (clears f).clear-area.ensures
+    let s = S c.before in
+    refused_cleared _ (distinct_early (C s) (length s.args.area.now) (R s) _ c.list_refusal-k.ensures c.if-k-ne0.true) (clears c.before).clear_area.ensures
 
 after_three-requires : tie.Need-after_three-requires
 after_three-requires c κs =
-    let e = c.before.before.before.before.before in
-    let f = e.before in
-    let r = readable (C (S f)) (sym f.list_refusal-k.ensures ∙ e.if-k-ne0.false) in
-    (r, (r, (refl, cleared (length (S f).args.area.now) (clears f).clear-area.ensures)))
+    let r = readable (C (S c.before.before.before.before.before.before)) (sym c.list_refusal-k.ensures ∙ c.if-k-ne0.false) in
+    (r, (r, (refl, cleared (length (S c.before.before.before.before.before.before).args.area.now) (clears c.before.before.before.before.before.before).clear_area.ensures)))
 
 shape_of-out_offsets : tie.Need-shape_of-out_offsets
-shape_of-out_offsets c = (wrote c).after-three.auto.1.1.1.1.1.1.1.1.1.1.1.1.1.0
+shape_of-out_offsets c = (wrote c).after_three.auto.out_offsets
 
 shape_of-out_rows : tie.Need-shape_of-out_rows
-shape_of-out_rows c = (wrote c).after-three.auto.1.1.1.1.1.1.1.1.1.1.1.1.1.1.0
+shape_of-out_rows c = (wrote c).after_three.auto.out_rows
 
 shape_of-out_values : tie.Need-shape_of-out_values
-shape_of-out_values c = (wrote c).after-three.auto.1.1.1.1.1.1.1.1.1.1.1.1.1.1.1.0
+shape_of-out_values c = (wrote c).after_three.auto.out_values
 
 shape_of-out_elements : tie.Need-shape_of-out_elements
-shape_of-out_elements c = (wrote c).after-three.auto.1.1.1.1.1.1.1.1.1.1.1.1.1.1.1.1.0
+shape_of-out_elements c = (wrote c).after_three.auto.out_elements
 
 shape_of-area : tie.Need-shape_of-area
-shape_of-area c = (wrote c).after-three.auto.1.1.1.1.1.1.1.1.1.1.1.1.1.1.1.1.1.0 ∙ (clears (passed c).before).clear-area.auto.0
+shape_of-area c = (wrote c).after_three.auto.area ∙ (clears (passed c)).clear_area.auto.area
 
 returns : tie.Need-returns
 returns c =
     let e = passed c in
-    let f = e.before in
-    let s = S f in
-    let w = (wrote c).after-three in
-    walked (distinct_goes (C s) (length s.args.area.now) (R s) _ f.list_refusal-k.ensures e.if-k-ne0.false ∙ ap (λ (j : ℕ). hash_after Distinct (C s) (C s) j (R s)) (sym (clears f).clear-area.kept.0)) w.ensures.0 w.ensures.1 (w.kept.1.1.1.1.1.1.1.1.1.1.1.1.1.1.1.1.1.0 ∙ (clears f).clear-area.kept.0)
+    let s = S e in
+    let w = (wrote c).after_three in
+    walked (distinct_goes (C s) (length s.args.area.now) (R s) _ e.list_refusal-k.ensures e.if-k-ne0.false ∙ ap (λ (j : ℕ). hash_after Distinct (C s) (C s) j (R s)) (sym (clears e).clear_area.kept.0)) w.ensures.0 w.ensures.1 (w.kept.1.1.1.1.1.1.1.1.1.1.1.1.1.1.1.1.1.0 ∙ (clears e).clear_area.kept.0)
 
 pub general_array_distinct_hashed_spec : {M : Type 1} → statement M
 general_array_distinct_hashed_spec =

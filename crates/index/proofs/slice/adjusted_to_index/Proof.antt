@@ -4,26 +4,24 @@ use Rattle.index.proofs.slice.adjusted_to_index.Statement.{statement}
 use Rattle.index.proofs.slice.adjusted_to_index.Tie as tie
 
 overflow_add-result : tie.Need-overflow_add-result
-overflow_add-result c = let s = c.before in laws.from-end-fits w32 _ _ s.ranges.index s.ranges.len s.requires c.if-index-lt0.true
+overflow_add-result c = laws.from-end-fits w32 _ _ c.ranges.index c.ranges.len c.requires c.if-index-lt0.true
 
 returns-then-index-lt0 : tie.Need-returns-then-index-lt0
 returns-then-index-lt0 c =
-    let s = c.before in
-    laws.to_back w32 _ _ s.ranges.index s.ranges.len (laws.row_some w32 _ _ s.ranges.index s.ranges.len s.requires) c.if-index-lt0.true
+    laws.to_back w32 _ _ c.ranges.index c.ranges.len (laws.row_some w32 _ _ c.ranges.index c.ranges.len c.requires) c.if-index-lt0.true
 
 overflow_sub-result : tie.Need-overflow_sub-result
-overflow_sub-result c = let s = c.before.before in laws.last_fits w32 _ _ s.ranges.index s.ranges.len s.requires
+overflow_sub-result c = laws.last_fits w32 _ _ c.ranges.index c.ranges.len c.requires
 
 returns-then-len-index : tie.Need-returns-then-len-index
-returns-then-len-index c = let s = c.before.before in laws.to_last w32 _ _ s.ranges.index s.ranges.len s.requires c.if-len-index.true
+returns-then-len-index c = laws.to_last w32 _ _ c.ranges.index c.ranges.len c.requires c.if-len-index.true
 
 overflow_sub-result-2 : tie.Need-overflow_sub-result-2
-overflow_sub-result-2 c = let s = c.before.before in laws.natural-fits w32 _ _ s.ranges.index s.ranges.len c.if-index-lt0.false
+overflow_sub-result-2 c = laws.natural-fits w32 _ _ c.ranges.index c.ranges.len c.if-index-lt0.false
 
 returns : tie.Need-returns
 returns c =
-    let s = c.before.before in
-    laws.to_on w32 _ _ s.ranges.index s.ranges.len c.if-index-lt0.false (laws.row_some w32 _ _ s.ranges.index s.ranges.len s.requires) c.if-len-index.false
+    laws.to_on w32 _ _ c.ranges.index c.ranges.len c.if-index-lt0.false (laws.row_some w32 _ _ c.ranges.index c.ranges.len c.requires) c.if-len-index.false
 
 pub adjusted_to_index_spec : {M : Type 1} → statement M
 adjusted_to_index_spec =

@@ -42,7 +42,7 @@ module _ (c : tie.After-fits_i32) where
 
 module _ (c : tie.Else-not-fits_i32) where
   from-fit : fits narrow c.args.from ≡ true
-  from-fit = sym (from-fits c.before) ∙ not-false _ c.if-not-fits_i32.false
+  from-fit = sym (from-fits c.before) ∙ not-false _ c.if-not-fits_i32.false-raw
 
   from-small : SFits w32 c.args.from
   from-small = fits_signed narrow refl w32 (omega arith) _ from-fit
@@ -53,10 +53,10 @@ module _ (c : tie.After-fits_i32-2) where
 
 module _ (c : tie.Else-not-fits_i32-2) where
   abbrev asked : tie.Start
-  asked = c.before.before.before.before.before
+  asked = c
 
   to-fit : fits narrow asked.args.to ≡ true
-  to-fit = sym (to-fits c.before) ∙ not-false _ c.if-not-fits_i32-2.false
+  to-fit = sym (to-fits c.before) ∙ not-false _ c.if-not-fits_i32-2.false-raw
 
   to-small : SFits w32 asked.args.to
   to-small = fits_signed narrow refl w32 (omega arith) _ to-fit
@@ -65,7 +65,7 @@ module _ (c : tie.Else-not-fits_i32-2) where
 
 module _ (c : tie.After-adjusted_to_index-last) where
   abbrev fitting : tie.Else-not-fits_i32-2
-  fitting = c.before.before
+  fitting = c
 
   abbrev start : tie.Start
   start = asked fitting
@@ -92,7 +92,7 @@ module _ (c : tie.After-adjusted_to_index-last) where
 
 module _ (c : tie.Else-last-lt0) where
   abbrev places : tie.After-adjusted_to_index-last
-  places = c.before.before
+  places = c
 
   first-inside : le_z (pos (start places).args.len) places.adjusted_from_index-first.result ≡ false
   first-inside = rw (read_len (start places), read_first places) at c.if-n-first.false
@@ -109,13 +109,13 @@ fits_i32-requires : tie.Need-fits_i32-requires
 fits_i32-requires c κs = search
 
 returns-then-not-fits_i32 : tie.Need-returns-then-not-fits_i32
-returns-then-not-fits_i32 c = let f = c.before in plan_from-unfit narrow _ _ _ _ (some f.before) (sym (from-fits f) ∙ not-true _ c.if-not-fits_i32.true)
+returns-then-not-fits_i32 c = plan_from-unfit narrow _ _ _ _ (some c.before.before) (sym (from-fits c.before) ∙ not-true _ c.if-not-fits_i32.true-raw)
 
 fits_i32-requires-2 : tie.Need-fits_i32-requires-2
 fits_i32-requires-2 c κs = search
 
 returns-then-not-fits_i32-2 : tie.Need-returns-then-not-fits_i32-2
-returns-then-not-fits_i32-2 c = let f = c.before in plan_to-unfit narrow _ _ _ _ (some f.before.before.before) (sym (to-fits f) ∙ not-true _ c.if-not-fits_i32-2.true)
+returns-then-not-fits_i32-2 c = plan_to-unfit narrow _ _ _ _ (some c.before.before.before.before) (sym (to-fits c.before) ∙ not-true _ c.if-not-fits_i32-2.true-raw)
 
 overflow_cast-n : tie.Need-overflow_cast-n
 overflow_cast-n c = record { sfits = omega (arith, (asked c).requires) }
@@ -136,32 +136,28 @@ adjusted_to_index-last-requires c κs = rw (read_len (asked c.before)) (some c.b
 
 returns-then-n-first : tie.Need-returns-then-n-first
 returns-then-n-first c =
-    let p = c.before in
-    plan_from_past narrow _ _ _ _ (full p) (from_fitting p) (to-fit (fitting p)) _ _ (first_is p) (last_is p) (rw (read_len (start p), read_first p) at c.if-n-first.true)
+    plan_from_past narrow _ _ _ _ (full c.before) (from_fitting c.before) (to-fit (fitting c.before)) _ _ (first_is c.before) (last_is c.before) (rw (read_len (start c.before), read_first c.before) at c.if-n-first.true)
 
 returns-then-last-lt0 : tie.Need-returns-then-last-lt0
 returns-then-last-lt0 c =
-    let p = c.before.before in
-    plan_to_before narrow _ _ _ _ (full p) (from_fitting p) (to-fit (fitting p)) _ _ (first_is p) (last_is p) (rw (read_last p) at c.if-last-lt0.true)
+    plan_to_before narrow _ _ _ _ (full c.before.before) (from_fitting c.before.before) (to-fit (fitting c.before.before)) _ _ (first_is c.before.before) (last_is c.before.before) (rw (read_last c.before.before) at c.if-last-lt0.true)
 
 stride_of-requires : tie.Need-stride_of-requires
 stride_of-requires c κs = search
 
 plan_steps-requires : tie.Need-plan_steps-requires
 plan_steps-requires c κs =
-    let e = c.before in
-    let p = places e in
+    let p = places c.before in
     rw (read_first p, read_last p)
-    (first_placed narrow _ _ _ (start p).pre (first_is p) (first-inside e), last_placed narrow _ _ _ (start p).pre (last_is p) (last-natural e))
+    (first_placed narrow _ _ _ (start p).requires (first_is p) (first-inside c.before), last_placed narrow _ _ _ (start p).requires (last_is p) (last-natural c.before))
 
 returns : tie.Need-returns
 returns c =
     let r = c.stride_of in
-    let e = c.before.before in
-    let p = places e in
+    let p = places c.before.before in
     rw (← r.ensures)
     ((rw (read_first p, read_last p, read_back w64 r.result (record { sfits = r.type_inv })) at c.plan_steps.ensures)
-    ∙ plan_between narrow _ _ _ _ (full p) (from_fitting p) (to-fit (fitting p)) _ _ (first_is p) (last_is p) (first-inside e) (last-natural e))
+    ∙ plan_between narrow _ _ _ _ (full p) (from_fitting p) (to-fit (fitting p)) _ _ (first_is p) (last_is p) (first-inside c.before.before) (last-natural c.before.before))
 
 pub compute_slice_plan_spec : {M : Type 1} → statement M
 compute_slice_plan_spec =

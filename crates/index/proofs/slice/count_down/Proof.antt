@@ -16,40 +16,37 @@ most = omega arith
 -- ---- one by one
 
 steps_of-requires : tie.Need-steps_of-requires
-steps_of-requires c κs = let s = c.before in laws.alone_asks narrow w32 within _ _ s.ranges.distance s.ranges.stride s.requires.0 s.requires.1
+steps_of-requires c κs = laws.alone_asks narrow w32 within _ _ c.ranges.distance c.ranges.stride c.requires.0 c.requires.1
 
 overflow_add-result : tie.Need-overflow_add-result
-overflow_add-result c = let s = c.before.before in laws.alone_fits narrow w32 within _ _ s.ranges.distance s.ranges.stride s.requires.0 s.requires.1 _ (record { sfits = c.steps_of.type_inv }) c.steps_of.ensures
+overflow_add-result c = laws.alone_fits narrow w32 within _ _ c.ranges.distance c.ranges.stride c.requires.0 c.requires.1 _ (record { sfits = c.steps_of.type_inv }) c.steps_of.ensures
 
 returns-then-stride-ltminus268435456 : tie.Need-returns-then-stride-ltminus268435456
-returns-then-stride-ltminus268435456 c = let s = c.before.before in laws.alone_counts narrow w32 within _ _ s.ranges.distance s.ranges.stride s.requires.0 s.requires.1 _ (record { sfits = c.steps_of.type_inv }) c.steps_of.ensures
+returns-then-stride-ltminus268435456 c = laws.alone_counts narrow w32 within _ _ c.ranges.distance c.ranges.stride c.requires.0 c.requires.1 _ (record { sfits = c.steps_of.type_inv }) c.steps_of.ensures
 
 -- ---- eight at once
 
 overflow_mul-eight : tie.Need-overflow_mul-eight
-overflow_mul-eight c = let s = c.before in laws.eight_fits narrow w32 within _ _ s.ranges.distance s.ranges.stride s.requires.0 s.requires.1 268435455 most c.if-stride-ltminus268435456.false
+overflow_mul-eight c = laws.eight_fits narrow w32 within _ _ c.ranges.distance c.ranges.stride c.requires.0 c.requires.1 268435455 most c.if-stride-ltminus268435456.false
 
 steps_of-many-requires : tie.Need-steps_of-many-requires
-steps_of-many-requires c κs = let s = c.before in laws.eight_asks narrow w32 within _ _ s.ranges.distance s.ranges.stride s.requires.0 s.requires.1 268435455 most c.if-stride-ltminus268435456.false
+steps_of-many-requires c κs = laws.eight_asks narrow w32 within _ _ c.ranges.distance c.ranges.stride c.requires.0 c.requires.1 268435455 most c.if-stride-ltminus268435456.false
 
 overflow_mul-rest : tie.Need-overflow_mul-rest
 overflow_mul-rest c =
-    let s = c.before.before in
-    laws.product_fits narrow w32 within _ _ s.ranges.distance s.ranges.stride s.requires.0 s.requires.1 268435455 most c.if-stride-ltminus268435456.false _ (record { sfits = c.steps_of-many.type_inv }) c.steps_of-many.ensures
+    laws.product_fits narrow w32 within _ _ c.ranges.distance c.ranges.stride c.requires.0 c.requires.1 268435455 most c.if-stride-ltminus268435456.false _ (record { sfits = c.steps_of-many.type_inv }) c.steps_of-many.ensures
 
 overflow_add-rest : tie.Need-overflow_add-rest
 overflow_add-rest c =
-    let s = c.before.before in
-    laws.rest_fits narrow w32 within _ _ s.ranges.distance s.ranges.stride s.requires.0 s.requires.1 268435455 most c.if-stride-ltminus268435456.false _ (record { sfits = c.steps_of-many.type_inv }) c.steps_of-many.ensures
+    laws.rest_fits narrow w32 within _ _ c.ranges.distance c.ranges.stride c.requires.0 c.requires.1 268435455 most c.if-stride-ltminus268435456.false _ (record { sfits = c.steps_of-many.type_inv }) c.steps_of-many.ensures
 
 steps_of-few-requires : tie.Need-steps_of-few-requires
 steps_of-few-requires c κs =
-    let s = c.before.before in
-    laws.rest_asks narrow w32 within _ _ s.ranges.distance s.ranges.stride s.requires.0 s.requires.1 268435455 most c.if-stride-ltminus268435456.false _ (record { sfits = c.steps_of-many.type_inv }) c.steps_of-many.ensures
+    laws.rest_asks narrow w32 within _ _ c.ranges.distance c.ranges.stride c.requires.0 c.requires.1 268435455 most c.if-stride-ltminus268435456.false _ (record { sfits = c.steps_of-many.type_inv }) c.steps_of-many.ensures
 
 module _ (c : tie.After-steps_of-few) where
   abbrev s : tie.Start
-  s = c.before.before.before
+  s = c
 
   all : laws.Counted narrow w32 within _ _ s.ranges.distance s.ranges.stride s.requires.0 s.requires.1 268435455 most c.if-stride-ltminus268435456.false c.steps_of-many.result c.steps_of-few.result
   all =

@@ -12,37 +12,34 @@ within : narrow.offset < 2 ^ hbits w32
 within = omega arith
 
 overflow_sub-from : tie.Need-overflow_sub-from
-overflow_sub-from c = let s = c.before in laws.down_distance narrow w32 within _ _ _ s.ranges.from s.ranges.to s.ranges.stride s.requires c.if-stride-lt0.true
+overflow_sub-from c = laws.down_distance narrow w32 within _ _ _ c.ranges.from c.ranges.to c.ranges.stride c.requires c.if-stride-lt0.true
 
 count_down-requires : tie.Need-count_down-requires
-count_down-requires c κs = let s = c.before in laws.down_asks narrow w32 within _ _ _ s.ranges.from s.ranges.to s.ranges.stride s.requires c.if-stride-lt0.true
+count_down-requires c κs = laws.down_asks narrow w32 within _ _ _ c.ranges.from c.ranges.to c.ranges.stride c.requires c.if-stride-lt0.true
 
 returns-then-stride-lt0 : tie.Need-returns-then-stride-lt0
 returns-then-stride-lt0 c =
-    let s = c.before.before in
-    laws.down-counts narrow w32 within _ _ _ s.ranges.from s.ranges.to s.ranges.stride s.requires c.if-stride-lt0.true _ (record { sfits = c.count_down.type_inv }) c.count_down.ensures
+    laws.down-counts narrow w32 within _ _ _ c.ranges.from c.ranges.to c.ranges.stride c.requires c.if-stride-lt0.true _ (record { sfits = c.count_down.type_inv }) c.count_down.ensures
 
 overflow_sub-distance : tie.Need-overflow_sub-distance
-overflow_sub-distance c = let s = c.before in laws.up_distance narrow w32 within _ _ _ s.ranges.from s.ranges.to s.ranges.stride s.requires c.if-stride-lt0.false
+overflow_sub-distance c = laws.up_distance narrow w32 within _ _ _ c.ranges.from c.ranges.to c.ranges.stride c.requires c.if-stride-lt0.false
 
 overflow_add-result : tie.Need-overflow_add-result
-overflow_add-result c = let s = c.before.before in laws.single_fits narrow w32 within _ _ _ s.ranges.from s.ranges.to s.ranges.stride s.requires c.if-stride-lt0.false
+overflow_add-result c = laws.single_fits narrow w32 within _ _ _ c.ranges.from c.ranges.to c.ranges.stride c.requires c.if-stride-lt0.false
 
 returns-then-stride-eq1 : tie.Need-returns-then-stride-eq1
 returns-then-stride-eq1 c =
-    let s = c.before.before in
-    laws.single_counts narrow w32 within _ _ _ s.ranges.from s.ranges.to s.ranges.stride s.requires c.if-stride-lt0.false (ap (to_z w32) c.if-stride-eq1.true)
+    laws.single_counts narrow w32 within _ _ _ c.ranges.from c.ranges.to c.ranges.stride c.requires c.if-stride-lt0.false (ap (to_z w32) c.if-stride-eq1.true)
 
 overflow_sub-stride : tie.Need-overflow_sub-stride
-overflow_sub-stride c = let s = c.before.before in laws.turn_fits narrow w32 within _ _ _ s.ranges.from s.ranges.to s.ranges.stride s.requires c.if-stride-lt0.false
+overflow_sub-stride c = laws.turn_fits narrow w32 within _ _ _ c.ranges.from c.ranges.to c.ranges.stride c.requires c.if-stride-lt0.false
 
 count_down-requires-2 : tie.Need-count_down-requires-2
-count_down-requires-2 c κs = let s = c.before.before in laws.up_asks narrow w32 within _ _ _ s.ranges.from s.ranges.to s.ranges.stride s.requires c.if-stride-lt0.false
+count_down-requires-2 c κs = laws.up_asks narrow w32 within _ _ _ c.ranges.from c.ranges.to c.ranges.stride c.requires c.if-stride-lt0.false
 
 returns : tie.Need-returns
 returns c =
-    let s = c.before.before.before in
-    laws.up_counts narrow w32 within _ _ _ s.ranges.from s.ranges.to s.ranges.stride s.requires c.if-stride-lt0.false _ (record { sfits = c.count_down-2.type_inv }) c.count_down-2.ensures
+    laws.up_counts narrow w32 within _ _ _ c.ranges.from c.ranges.to c.ranges.stride c.requires c.if-stride-lt0.false _ (record { sfits = c.count_down-2.type_inv }) c.count_down-2.ensures
 
 pub count_steps_spec : {M : Type 1} → statement M
 count_steps_spec =

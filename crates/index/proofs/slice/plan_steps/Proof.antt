@@ -33,10 +33,10 @@ module _ (s : tie.Start) where
 some : (c : tie.Else-stride-eq0) → is_zero c.args.stride ≡ false
 some c = bits-some _ c.if-stride-eq0.false
 
-direction : (c : tie.After-is_against) → let s = c.before.before in c.is_against.result ≡ against (count s.args.from) (count s.args.to) s.args.stride
-direction c = let s = c.before.before in rw (read_from s, read_to s, read_stride s) at c.is_against.ensures
+direction : (c : tie.After-is_against) → c.is_against.result ≡ against (count c.args.from) (count c.args.to) c.args.stride
+direction c = rw (read_from c.before.before, read_to c.before.before, read_stride c.before.before) at c.is_against.ensures
 
-not_against : (c : tie.Else-is_against) → let s = c.before.before.before in against (count s.args.from) (count s.args.to) s.args.stride ≡ false
+not_against : (c : tie.Else-is_against) → against (count c.args.from) (count c.args.to) c.args.stride ≡ false
 not_against c = sym (direction c.before) ∙ c.if-is_against.false
 
 size : (c : tie.After-fits_i32) → c.fits_i32.result ≡ fits narrow c.args.stride
@@ -44,10 +44,10 @@ size c = rw (read_stride c.before.before.before.before) at c.fits_i32.ensures
 
 module _ (c : tie.Else-not-fits_i32) where
   abbrev start : tie.Start
-  start = c.before.before.before.before.before
+  start = c
 
   stride_fits : fits narrow start.args.stride ≡ true
-  stride_fits = sym (size c.before) ∙ not-false _ c.if-not-fits_i32.false
+  stride_fits = sym (size c.before) ∙ not-false _ c.if-not-fits_i32.false-raw
 
   read_by : to_z w32 (of_z w32 start.args.stride) ≡ start.args.stride
   read_by = read_back w32 _ (fits_signed narrow refl w32 (omega arith) _ stride_fits)
@@ -70,7 +70,7 @@ fits_i32-requires : tie.Need-fits_i32-requires
 fits_i32-requires c κs = search
 
 returns-then-not-fits_i32 : tie.Need-returns-then-not-fits_i32
-returns-then-not-fits_i32 c = stride_unfit narrow _ _ _ (some c.before.before.before.before) (not_against c.before.before) (sym (size c.before) ∙ not-true _ c.if-not-fits_i32.true)
+returns-then-not-fits_i32 c = stride_unfit narrow _ _ _ (some c.before.before.before.before) (not_against c.before.before) (sym (size c.before) ∙ not-true _ c.if-not-fits_i32.true-raw)
 
 overflow_cast-stride : tie.Need-overflow_cast-stride
 overflow_cast-stride c = rw (read_stride (start c)) (fits_signed narrow refl w32 (omega arith) _ (stride_fits c))
@@ -94,9 +94,8 @@ overflow_cast-result-2 c = rw (read_count c) (casts w32 c.count_steps-count.resu
 
 returns : tie.Need-returns
 returns c =
-    let e = c.before in
-    let s = start e in
-    rw (read_from s, read_stride s, read_count c, many c) (stride_steps narrow _ _ _ (suits e) (stride_fits e))
+    let s = start c.before in
+    rw (read_from s, read_stride s, read_count c, many c) (stride_steps narrow _ _ _ (suits c.before) (stride_fits c.before))
 
 pub plan_steps_spec : {M : Type 1} → statement M
 plan_steps_spec =

@@ -22,25 +22,22 @@ loop-left-init : tie.Need-loop-left-init invariant-loop-left decreases-loop-left
 loop-left-init c = laws.count_begun narrow w32 within _ _ c.ranges.distance c.ranges.stride c.requires.0 c.requires.1
 
 overflow_add-left : tie.Need-overflow_add-left invariant-loop-left decreases-loop-left
-overflow_add-left c = let s = c.before in laws.count_fits narrow w32 within _ _ s.ranges.distance s.ranges.stride s.requires.0 s.requires.1 c.loop-left.invariant
-
-overflow_add-left : tie.Need-overflow_add-left invariant-loop-left decreases-loop-left
-overflow_add-left c = let l = c.before in let s = l.before in laws.count_fits narrow w32 within _ _ s.ranges.distance s.ranges.stride s.requires.0 s.requires.1 l.loop-left.invariant
-
-overflow_add-taken : tie.Need-overflow_add-taken invariant-loop-left decreases-loop-left
-overflow_add-taken c = let l = c.before in let s = l.before in laws.count_room narrow w32 within _ _ s.ranges.distance s.ranges.stride s.requires.0 s.requires.1 l.loop-left.invariant c.loop-left-test.true
-
-loop-left-smaller : tie.Need-loop-left-smaller invariant-loop-left decreases-loop-left
-loop-left-smaller c = let l = c.before in let s = l.before in laws.count_less narrow w32 within _ _ s.ranges.distance s.ranges.stride s.requires.0 s.requires.1 l.loop-left.invariant c.loop-left-test.true
-
-loop-left-preserved : tie.Need-loop-left-preserved invariant-loop-left decreases-loop-left
-loop-left-preserved c = let l = c.before in let s = l.before in laws.count-more narrow w32 within _ _ s.ranges.distance s.ranges.stride s.requires.0 s.requires.1 l.loop-left.invariant c.loop-left-test.true
-
-returns : tie.Need-returns invariant-loop-left decreases-loop-left
-returns c = let l = c.before in let s = l.before in laws.count_done narrow w32 within _ _ s.ranges.distance s.ranges.stride s.requires.0 s.requires.1 l.loop-left.invariant c.loop-left-test.false
+overflow_add-left c = laws.count_fits narrow w32 within _ _ c.ranges.distance c.ranges.stride c.requires.0 c.requires.1 c.loop-left.invariant
 
 overflow_add-left-in-loop-left : tie.Need-overflow_add-left-in-loop-left invariant-loop-left decreases-loop-left
-overflow_add-left-in-loop-left c = search rules
+overflow_add-left-in-loop-left c = laws.count_fits narrow w32 within _ _ c.ranges.distance c.ranges.stride c.requires.0 c.requires.1 c.loop-left.invariant
+
+overflow_add-taken : tie.Need-overflow_add-taken invariant-loop-left decreases-loop-left
+overflow_add-taken c = laws.count_room narrow w32 within _ _ c.ranges.distance c.ranges.stride c.requires.0 c.requires.1 c.loop-left.invariant c.loop-left-test.true
+
+loop-left-smaller : tie.Need-loop-left-smaller invariant-loop-left decreases-loop-left
+loop-left-smaller c = laws.count_less narrow w32 within _ _ c.ranges.distance c.ranges.stride c.requires.0 c.requires.1 c.loop-left.invariant c.loop-left-test.true
+
+loop-left-preserved : tie.Need-loop-left-preserved invariant-loop-left decreases-loop-left
+loop-left-preserved c = laws.count-more narrow w32 within _ _ c.ranges.distance c.ranges.stride c.requires.0 c.requires.1 c.loop-left.invariant c.loop-left-test.true
+
+returns : tie.Need-returns invariant-loop-left decreases-loop-left
+returns c = laws.count_done narrow w32 within _ _ c.ranges.distance c.ranges.stride c.requires.0 c.requires.1 c.loop-left.invariant c.loop-left-test.false
 
 pub steps_of_spec : {M : Type 1} → statement M
 steps_of_spec =

@@ -23,39 +23,37 @@ decreases-loop-left values elements estart a n len₀ k₀ left₀ len k left = 
 
 loop-left-init : tie.Need-loop-left-init invariant-loop-left decreases-loop-left
 loop-left-init c =
-    let s = c.before in
-    (omega (arith, ap length (later_all (elem_at s.args.values.now (from s.args.estart s.args.elements.now)) s.args.a s.args.n)), omega arith, omega arith)
+    (omega (arith, ap length (later_all (elem_at c.args.values.now (from c.args.estart c.args.elements.now)) c.args.a c.args.n)), omega arith, omega arith)
 
 overflow_add-a : tie.Need-overflow_add-a invariant-loop-left decreases-loop-left
 overflow_add-a c = omega (arith, c.requires.inside)
 
 is_among-new-requires : tie.Need-is_among-new-requires invariant-loop-left decreases-loop-left
-is_among-new-requires c κs = let s = c.before.before.before in (omega (arith, s.requires.inside), (s.requires.bits, (omega (arith, s.requires.inside), s.requires.bits)))
+is_among-new-requires c κs = (omega (arith, c.requires.inside), (c.requires.bits, (omega (arith, c.requires.inside), c.requires.bits)))
 
 overflow_cast-len : tie.Need-overflow_cast-len invariant-loop-left decreases-loop-left
 overflow_cast-len c = tt
 
 overflow_add-len : tie.Need-overflow_add-len invariant-loop-left decreases-loop-left
-overflow_add-len c = omega (arith, c.before, bit_le (not c.is_among-new.result))
+overflow_add-len c = omega (arith, c, bit_le (not c.is_among-new.result))
 
 overflow_add-k : tie.Need-overflow_add-k invariant-loop-left decreases-loop-left
-overflow_add-k c = omega (arith, c.before)
+overflow_add-k c = omega (arith, c)
 
 overflow_sub-left : tie.Need-overflow_sub-left invariant-loop-left decreases-loop-left
-overflow_sub-left c = omega (arith, c.before)
+overflow_sub-left c = omega (arith, c)
 
 loop-left-smaller : tie.Need-loop-left-smaller invariant-loop-left decreases-loop-left
-loop-left-smaller c = omega (arith, c.before)
+loop-left-smaller c = omega (arith, c)
 
 loop-left-preserved : tie.Need-loop-left-preserved invariant-loop-left decreases-loop-left
 loop-left-preserved c =
-    let i = c.before in
-    let l = i.loop-left in
+    let l = c.loop-left in
     let a = c.args in
     let E = elem_at a.values.now (from a.estart a.elements.now) in
     let e : bit (not c.is_among-new.result) ≡ bit (not (is_in (E (a.a + l.k)) (tab E a.a l.k))) = ap (λ (t : Bool). bit (not t)) c.is_among-new.ensures in
-    let p = length-later E a.a l.k l.left i.loop-left-test.true in
-    (omega (arith, i), omega (arith, i), omega (arith, i, bit_le (not c.is_among-new.result)))
+    let p = length-later E a.a l.k l.left c.loop-left-test.true in
+    (omega (arith, c), omega (arith, c), omega (arith, c, bit_le (not c.is_among-new.result)))
 
 returns : tie.Need-returns invariant-loop-left decreases-loop-left
 returns c =

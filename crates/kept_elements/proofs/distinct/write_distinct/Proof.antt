@@ -23,57 +23,48 @@ decreases-loop-left values elements estart a n out-values₀ out-elements₀ at 
 
 loop-left-init : tie.Need-loop-left-init invariant-loop-left decreases-loop-left
 loop-left-init c =
-    let s = c.before.before in
-    (begun _ (later_all (elem_at s.args.values.now (from s.args.estart s.args.elements.now)) s.args.a s.args.n), omega arith)
+    (begun _ (later_all (elem_at c.args.values.now (from c.args.estart c.args.elements.now)) c.args.a c.args.n), omega arith)
 
 overflow_add-i : tie.Need-overflow_add-i invariant-loop-left decreases-loop-left
 overflow_add-i c = omega (arith, c.requires.0.inside)
 
 is_among-requires : tie.Need-is_among-requires invariant-loop-left decreases-loop-left
-is_among-requires c κs = let s = c.before.before.before.before in (omega (arith, s.requires.0.inside), (s.requires.0.bits, (omega (arith, s.requires.0.inside), s.requires.0.bits)))
+is_among-requires c κs = (omega (arith, c.requires.0.inside), (c.requires.0.bits, (omega (arith, c.requires.0.inside), c.requires.0.bits)))
 
 write_elem-requires : tie.Need-write_elem-requires invariant-loop-left decreases-loop-left
 write_elem-requires c κs =
-    let t = c.before.before in
-    let i = t.before.before in
-    let l = i.loop-left in
-    let s = i.before.before.before.before in
-    let E = elem_at s.args.values.now (from s.args.estart s.args.elements.now) in
-    let new = later_new E s.args.a l.k l.left i.loop-left-test.true (sym t.is_among.ensures ∙ not-true _ t.if-not-is_among.true) in
-    (omega (arith, i, s.requires.0.inside), (s.requires.0.bits, room l.invariant.0 _ _ new s.requires.1))
+    let l = c.loop-left in
+    let E = elem_at c.args.values.now (from c.args.estart c.args.elements.now) in
+    let new = later_new E c.args.a l.k l.left c.loop-left-test.true (sym c.is_among.ensures ∙ not-true _ c.if-not-is_among.true-raw) in
+    (omega (arith, c, c.requires.0.inside), (c.requires.0.bits, room l.invariant.0 _ _ new c.requires.1))
 
 overflow_add-p : tie.Need-overflow_add-p invariant-loop-left decreases-loop-left
 overflow_add-p c =
-    let t = c.before.before.before.before.before.before in
-    let i = t.before.before in
-    let l = i.loop-left in
-    let s = i.before.before.before.before in
-    let E = elem_at s.args.values.now (from s.args.estart s.args.elements.now) in
-    let new = later_new E s.args.a l.k l.left i.loop-left-test.true (sym t.is_among.ensures ∙ not-true _ t.if-not-is_among.true) in
-    let r = room l.invariant.0 _ _ new s.requires.1 in
-    omega (arith, i, s)
+    let l = c.loop-left in
+    let E = elem_at c.args.values.now (from c.args.estart c.args.elements.now) in
+    let new = later_new E c.args.a l.k l.left c.loop-left-test.true (sym c.is_among.ensures ∙ not-true _ c.if-not-is_among.true-raw) in
+    let r = room l.invariant.0 _ _ new c.requires.1 in
+    omega (arith, c, c)
 
 overflow_add-k : tie.Need-overflow_add-k invariant-loop-left decreases-loop-left
-overflow_add-k c = omega (arith, c.before.before)
+overflow_add-k c = omega (arith, c)
 
 overflow_sub-left : tie.Need-overflow_sub-left invariant-loop-left decreases-loop-left
-overflow_sub-left c = omega (arith, c.before.before)
+overflow_sub-left c = omega (arith, c)
 
 loop-left-smaller : tie.Need-loop-left-smaller invariant-loop-left decreases-loop-left
-loop-left-smaller c = omega (arith, c.before.before)
+loop-left-smaller c = omega (arith, c)
 
 loop-left-preserved : tie.Need-loop-left-preserved invariant-loop-left decreases-loop-left
 loop-left-preserved c =
-    let i = c.before.before in
-    let l = i.loop-left in
-    let s = i.before.before.before.before in
-    let E = elem_at s.args.values.now (from s.args.estart s.args.elements.now) in
+    let l = c.loop-left in
+    let E = elem_at c.args.values.now (from c.args.estart c.args.elements.now) in
     let among = sym c.is_among.ensures in (
       ⊎_elim
-          (λ w. rw w.9 (written l.invariant.0 _ _ (later_new E s.args.a l.k l.left i.loop-left-test.true (among ∙ not-true _ w.0.taken)) (w.7 ∙ w.3.ensures.0) (w.8 ∙ w.3.ensures.1)))
-          (λ w. rw (w.1, w.2, w.3) (skipped l.invariant.0 _ (later_old E s.args.a l.k l.left i.loop-left-test.true (among ∙ not-false _ w.0.left))))
+          (λ w. rw w.9 (written l.invariant.0 _ _ (later_new E c.args.a l.k l.left c.loop-left-test.true (among ∙ not-true _ w.0.taken)) (w.7 ∙ w.3.ensures.0) (w.8 ∙ w.3.ensures.1)))
+          (λ w. rw (w.1, w.2, w.3) (skipped l.invariant.0 _ (later_old E c.args.a l.k l.left c.loop-left-test.true (among ∙ not-false _ w.0.left))))
           c.if-not-is_among.branch,
-      omega (arith, i),
+      omega (arith, c),
     )
 
 shape_of-out_values : tie.Need-shape_of-out_values invariant-loop-left decreases-loop-left
@@ -85,9 +76,8 @@ shape_of-out_elements c = c.loop-left.invariant.0.le
 returns : tie.Need-returns invariant-loop-left decreases-loop-left
 returns c =
     let l = c.loop-left in
-    let s = c.before.before.before.before in
-    let E = elem_at s.args.values.now (from s.args.estart s.args.elements.now) in
-    done l.invariant.0 (later-none E s.args.a l.k l.left c.loop-left-test.false)
+    let E = elem_at c.args.values.now (from c.args.estart c.args.elements.now) in
+    done l.invariant.0 (later-none E c.args.a l.k l.left c.loop-left-test.false)
 
 pub write_distinct_spec : {M : Type 1} → statement M
 write_distinct_spec =

@@ -25,24 +25,21 @@ returns-then-is_among c =
 
 is_among-found-requires : tie.Need-is_among-found-requires
 is_among-found-requires c κs =
-    let s = c.before.before.before.before in
-    (omega (arith, s.requires.0.inside), (s.requires.0.bits, (s.requires.1.inside, s.requires.1.bits)))
+    (omega (arith, c.requires.0.inside), (c.requires.0.bits, (c.requires.1.inside, c.requires.1.bits)))
 
 returns-then-shared : tie.Need-returns-then-shared
 returns-then-shared c =
-    let f = c.before.before in
-    let a = f.args in
+    let a = c.args in
     let O = tab (elem_at a.others.now (from a.ostart a.oelements.now)) a.b a.m in
     let E = elem_at a.values.now (from a.estart a.elements.now) in
-    keeps_shared a.shared O (tab E a.a a.k) (E (a.a + a.k)) f.is_among.ensures f.if-is_among.false c.is_among-found.ensures c.if-shared.true
+    keeps_shared a.shared O (tab E a.a a.k) (E (a.a + a.k)) c.is_among.ensures c.if-is_among.false c.is_among-found.ensures c.if-shared.true
 
 returns : tie.Need-returns
 returns c =
-    let f = c.before.before in
-    let a = f.args in
+    let a = c.args in
     let O = tab (elem_at a.others.now (from a.ostart a.oelements.now)) a.b a.m in
     let E = elem_at a.values.now (from a.estart a.elements.now) in
-    keeps_new a.shared O (tab E a.a a.k) (E (a.a + a.k)) f.is_among.ensures f.if-is_among.false c.is_among-found.ensures c.if-shared.false
+    keeps_new a.shared O (tab E a.a a.k) (E (a.a + a.k)) c.is_among.ensures c.if-is_among.false c.is_among-found.ensures c.if-shared.false
 
 pub is_kept_spec : {M : Type 1} → statement M
 is_kept_spec =

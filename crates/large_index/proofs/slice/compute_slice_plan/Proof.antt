@@ -27,7 +27,7 @@ some c = omega (arith, c)
 
 module _ (c : tie.After-adjusted_to_index-last) where
   abbrev start : tie.Start
-  start = c.before.before.before
+  start = c
 
   full : 0 < start.args.len
   full = some c.before.before
@@ -48,7 +48,7 @@ module _ (c : tie.After-adjusted_to_index-last) where
 
 module _ (c : tie.Else-last-lt0) where
   abbrev places : tie.After-adjusted_to_index-last
-  places = c.before.before
+  places = c
 
   first-inside : le_z (pos (start places).args.len) places.adjusted_from_index-first.result ≡ false
   first-inside = rw (read_len (start places), read_first places) at c.if-n-first.false
@@ -75,34 +75,30 @@ adjusted_to_index-last-requires c κs = rw (read_len c.before.before) (some c.be
 returns-then-n-first : tie.Need-returns-then-n-first
 unfolding fits
 returns-then-n-first c =
-    let p = c.before in
-    plan_from_past wide _ _ _ _ (full p) refl refl _ _ (first_is p) (last_is p) (rw (read_len (start p), read_first p) at c.if-n-first.true)
+    plan_from_past wide _ _ _ _ (full c.before) refl refl _ _ (first_is c.before) (last_is c.before) (rw (read_len (start c.before), read_first c.before) at c.if-n-first.true)
 
 returns-then-last-lt0 : tie.Need-returns-then-last-lt0
 unfolding fits
 returns-then-last-lt0 c =
-    let p = c.before.before in
-    plan_to_before wide _ _ _ _ (full p) refl refl _ _ (first_is p) (last_is p) (rw (read_last p) at c.if-last-lt0.true)
+    plan_to_before wide _ _ _ _ (full c.before.before) refl refl _ _ (first_is c.before.before) (last_is c.before.before) (rw (read_last c.before.before) at c.if-last-lt0.true)
 
 stride_of-requires : tie.Need-stride_of-requires
 stride_of-requires c κs = search
 
 plan_steps-requires : tie.Need-plan_steps-requires
 plan_steps-requires c κs =
-    let e = c.before in
-    let p = places e in
+    let p = places c.before in
     rw (read_first p, read_last p)
-    (first_placed wide _ _ _ (start p).pre (first_is p) (first-inside e), last_placed wide _ _ _ (start p).pre (last_is p) (last-natural e))
+    (first_placed wide _ _ _ (start p).requires (first_is p) (first-inside c.before), last_placed wide _ _ _ (start p).requires (last_is p) (last-natural c.before))
 
 returns : tie.Need-returns
 unfolding fits
 returns c =
     let r = c.stride_of in
-    let e = c.before.before in
-    let p = places e in
+    let p = places c.before.before in
     rw (← r.ensures)
     ((rw (read_first p, read_last p, read_back w64 r.result (record { sfits = r.type_inv })) at c.plan_steps.ensures)
-    ∙ plan_between wide _ _ _ _ (full p) refl refl _ _ (first_is p) (last_is p) (first-inside e) (last-natural e))
+    ∙ plan_between wide _ _ _ _ (full p) refl refl _ _ (first_is p) (last_is p) (first-inside c.before.before) (last-natural c.before.before))
 
 pub compute_slice_plan_spec : {M : Type 1} → statement M
 compute_slice_plan_spec =

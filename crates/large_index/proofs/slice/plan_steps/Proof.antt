@@ -30,11 +30,11 @@ module _ (s : tie.Start) where
 some : (c : tie.Else-stride-eq0) → is_zero c.args.stride ≡ false
 some c = bits-some _ c.if-stride-eq0.false
 
-direction : (c : tie.After-is_against) → let s = c.before.before in c.is_against.result ≡ against (count s.args.from) (count s.args.to) s.args.stride
-direction c = let s = c.before.before in rw (read_from s, read_to s, read_stride s) at c.is_against.ensures
+direction : (c : tie.After-is_against) → c.is_against.result ≡ against (count c.args.from) (count c.args.to) c.args.stride
+direction c = rw (read_from c.before.before, read_to c.before.before, read_stride c.before.before) at c.is_against.ensures
 
 abbrev start : tie.Else-is_against → tie.Start
-start c = c.before.before.before
+start c = c
 
 suits : (c : tie.Else-is_against) → let s = start c in Suits wide s.args.from s.args.to s.args.stride
 suits c =

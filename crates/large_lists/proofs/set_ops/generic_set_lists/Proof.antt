@@ -4,7 +4,7 @@ use Rattle.large_lists.proofs.set_ops.generic_set_lists.Tie as tie
 
 -- the walk, from where it has returned
 abbrev ran : tie.After-out_offsets-1 → tie.After-run
-ran c = c.before.before.before.before.before.before.before
+ran c = c
 
 slice_bounds-run-end : tie.Need-slice_bounds-run-end
 slice_bounds-run-end c = refl
@@ -19,16 +19,16 @@ run-requires : tie.Need-run-requires
 run-requires c κs = tt
 
 shape_of-out_offsets : tie.Need-shape_of-out_offsets
-shape_of-out_offsets c = (ran c).run.auto.1.1.1.1.1.1.1.1.1.1.1.1.1.1.1.1.1.1.1.1.0
+shape_of-out_offsets c = (ran c).run.auto.out_large
 
 shape_of-out_rows : tie.Need-shape_of-out_rows
-shape_of-out_rows c = (ran c).run.auto.1.1.1.1.1.1.1.1.1.1.1.1.1.1.0
+shape_of-out_rows c = (ran c).run.auto.out_rows
 
 shape_of-out_values : tie.Need-shape_of-out_values
-shape_of-out_values c = (ran c).run.auto.1.1.1.1.1.1.1.1.1.1.1.1.1.1.1.0
+shape_of-out_values c = (ran c).run.auto.out_values
 
 shape_of-out_elements : tie.Need-shape_of-out_elements
-shape_of-out_elements c = (ran c).run.auto.1.1.1.1.1.1.1.1.1.1.1.1.1.1.1.1.0
+shape_of-out_elements c = (ran c).run.auto.out_elements
 
 returns : tie.Need-returns
 returns c = (ran c).run.ensures

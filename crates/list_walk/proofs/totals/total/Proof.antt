@@ -29,7 +29,7 @@ Z s = arguments s.args.zs.now (from s.args.zstart s.args.zbits.now)
 -- ---- places: the start, from what comes before the match
 
 abbrev S : tie.After-shared_slice_known-5-1 → tie.Start
-S k = k.before.before.before.before.before
+S k = k
 
 -- ---- needs
 
@@ -88,9 +88,8 @@ measure_rows-requires-in-Remove c κs = let s = S c.before in (s.requires.0, rem
 returns-in-Plain : tie.Need-returns-in-Plain
 unfolding let_through
 returns-in-Plain c =
-    let o = c.before in
-    let s = S o.before in
-    (plain-total (N s) s.args.op (C s) (X s) (Y s) (Z s) o.in-Plain.u c.measure_rows.result o.in-Plain.is c.measure_rows.ensures.0, c.measure_rows.ensures.1)
+    let s = S c.before.before in
+    (plain-total (N s) s.args.op (C s) (X s) (Y s) (Z s) c.in-Plain.u c.measure_rows.result c.in-Plain.is c.measure_rows.ensures.0, c.measure_rows.ensures.1)
 
 returns-in-Slice : tie.Need-returns-in-Slice
 returns-in-Slice c =

@@ -29,10 +29,8 @@ returns-in-Null-element c = null_length _ _ (unmatched _ _ c.in-Null-element.is)
 
 returns-in-Value-element : tie.Need-returns-in-Value-element
 returns-in-Value-element c =
-    let l = c.before in
-    let k = l.before.before in
-    let a = k.args in
-    removed-length _ _ a.element l.limit_of.result (matched _ _ _ _ _ l.in-Value-element.is k.in-Value.is (rw (back64 _ k.in-Value.known_told-1-own.given.0.1) at l.limit_of.ensures)) _ c.measure_removed.ensures
+    let a = c.args in
+    removed-length _ _ a.element c.limit_of.result (matched _ _ _ _ _ c.in-Value-element.is c.in-Value.is (rw (back64 _ c.in-Value.known_told-1-own.given.0.1) at c.limit_of.ensures)) _ c.measure_removed.ensures
 
 pub measure_row_spec : {M : Type 1} → statement M
 measure_row_spec =

@@ -15,16 +15,15 @@ use Rattle.match_rows.proofs.remove.put_row.Tie as tie
 -- ---- places: the start, from the limit read and from what comes after
 
 abbrev start : tie.After-limit_of → tie.Start
-start l = l.before.before.before.before.before.before
+start l = l
 
 abbrev limited : tie.After-slice_known-in-Value-element-1 → tie.After-limit_of
-limited p = p.before.before.before.before.before.before
+limited p = p
 
 -- the row that is made
 row_is : (l : tie.After-limit_of) → let a = (start l).args in let es = tab (elem_at a.values.now (from a.estart a.elements.now)) a.a a.len in row_made (op_made (remove_op a.element a.limit-1) es) ≡ list_row (removed l.limit_of.result (elem_of a.element) es)
 row_is l =
-    let k = l.before.before in
-    removed-made _ _ _ _ (matched _ _ _ _ _ l.in-Value-element.is k.in-Value.is (rw (back64 _ k.in-Value.known_told-1-own.given.0.1) at l.limit_of.ensures))
+    removed-made _ _ _ _ (matched _ _ _ _ _ l.in-Value-element.is l.in-Value.is (rw (back64 _ l.in-Value.known_told-1-own.given.0.1) at l.limit_of.ensures))
 
 enum_told-1 : tie.Need-enum_told-1
 enum_told-1 c = search
@@ -48,7 +47,7 @@ limit_of-requires : tie.Need-limit_of-requires
 limit_of-requires c κs = search
 
 write_removed-next-requires : tie.Need-write_removed-next-requires
-write_removed-next-requires c κs = let l = c.before.before in ((start l).requires.0, list-room _ _ _ _ (row_is l) (start l).requires.1)
+write_removed-next-requires c κs = ((start c.before.before).requires.0, list-room _ _ _ _ (row_is c.before.before) (start c.before.before).requires.1)
 
 push_bit-requires-in-Value-element : tie.Need-push_bit-requires-in-Value-element
 push_bit-requires-in-Value-element c κs = omega (arith, (start (limited c.before)).requires.1.rows)
@@ -76,8 +75,7 @@ shape_of-out_elements c = search
 
 returns-in-Value-element : tie.Need-returns-in-Value-element
 returns-in-Value-element c =
-    let p = c.before.before.before.before in
-    list_put _ _ _ _ (row_is (limited p)) c.push_bit-in-Value-element.ensures p.write_removed-next.ensures
+    list_put _ _ _ _ (row_is (limited c.before.before.before.before)) c.push_bit-in-Value-element.ensures c.write_removed-next.ensures
 
 pub put_row_spec : {M : Type 1} → statement M
 put_row_spec =

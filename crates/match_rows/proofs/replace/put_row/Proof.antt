@@ -15,10 +15,10 @@ use Rattle.match_rows.proofs.replace.put_row.Tie as tie
 -- ---- places: the start, from the limit read and from what comes after
 
 abbrev start : tie.After-limit_of → tie.Start
-start l = l.before.before.before.before.before
+start l = l
 
 abbrev limited : tie.After-slice_known-in-Value-1 → tie.After-limit_of
-limited p = p.before.before.before.before.before.before
+limited p = p
 
 -- the row that is made
 row_is : (l : tie.After-limit_of) → let a = (start l).args in let es = tab (elem_at a.values.now (from a.estart a.elements.now)) a.a a.len in row_made (op_made (replace_op a.needle a.to a.limit-1) es) ≡ list_row (replaced l.limit_of.result (elem_of a.needle) (elem_of a.to) es)
@@ -37,7 +37,7 @@ limit_of-requires : tie.Need-limit_of-requires
 limit_of-requires c κs = search
 
 write_replaced-next-requires : tie.Need-write_replaced-next-requires
-write_replaced-next-requires c κs = let l = c.before.before in ((start l).requires.0, list-room _ _ _ _ (row_is l) (start l).requires.1)
+write_replaced-next-requires c κs = ((start c.before.before).requires.0, list-room _ _ _ _ (row_is c.before.before) (start c.before.before).requires.1)
 
 push_bit-requires-in-Value : tie.Need-push_bit-requires-in-Value
 push_bit-requires-in-Value c κs = omega (arith, (start (limited c.before)).requires.1.rows)
@@ -59,8 +59,7 @@ shape_of-out_elements c = search
 
 returns-in-Value : tie.Need-returns-in-Value
 returns-in-Value c =
-    let p = c.before.before.before.before in
-    list_put _ _ _ _ (row_is (limited p)) c.push_bit-in-Value.ensures p.write_replaced-next.ensures
+    list_put _ _ _ _ (row_is (limited c.before.before.before.before)) c.push_bit-in-Value.ensures c.write_replaced-next.ensures
 
 pub put_row_spec : {M : Type 1} → statement M
 put_row_spec =

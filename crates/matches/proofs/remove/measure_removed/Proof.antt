@@ -23,7 +23,7 @@ decreases-loop-most values elements estart a n element limit p₀ left₀ most�
 
 module _ (l : tie.At-loop-most invariant-loop-most decreases-loop-most) where
   abbrev s : tie.Start invariant-loop-most decreases-loop-most
-  s = l.before.before
+  s = l
 
   abbrev E : ℕ → Elem
   E = elem_at s.args.values.now (from s.args.estart s.args.elements.now)
@@ -38,13 +38,13 @@ module _ (l : tie.At-loop-most invariant-loop-most decreases-loop-most) where
 -- a run without a match comes next
 module _ (c : tie.After-before_match-run invariant-loop-most decreases-loop-most) where
   abbrev l₁ : tie.At-loop-most invariant-loop-most decreases-loop-most
-  l₁ = c.before.before
+  l₁ = c
 
   abbrev run : ℕ
   run = c.before_match-run.result
 
   some : 0 < l₁.loop-most.most
-  some = omega (arith, c.before)
+  some = omega (arith, c)
 
   few : run ≤ l₁.loop-most.left
   few = c.before_match-run.ensures.inside
@@ -72,13 +72,13 @@ loop-most-init : tie.Need-loop-most-init invariant-loop-most decreases-loop-most
 loop-most-init c = (omega arith, refl, omega arith)
 
 before_match-run-requires : tie.Need-before_match-run-requires invariant-loop-most decreases-loop-most
-before_match-run-requires c κs = let p = (s c.before).pre in record { inside = omega (arith, c, p.inside); bits = p.bits }
+before_match-run-requires c κs = let p = (s c.before).requires in record { inside = omega (arith, c, p.inside); bits = p.bits }
 
 overflow_add-kept : tie.Need-overflow_add-kept invariant-loop-most decreases-loop-most
 overflow_add-kept c = omega (arith, few c, l₁ c, s (l₁ c))
 
 returns-then-run-left : tie.Need-returns-then-run-left invariant-loop-most decreases-loop-most
-returns-then-run-left c = let m = c.before in omega (arith, all m c.if-run-left.true, (l₁ m).loop.invariant.0)
+returns-then-run-left c = omega (arith, all c.before c.if-run-left.true, (l₁ c.before).loop-most.invariant.0)
 
 overflow_add-p : tie.Need-overflow_add-p invariant-loop-most decreases-loop-most
 overflow_add-p c = omega (arith, less c, l₂ c)
@@ -93,21 +93,20 @@ overflow_sub-left : tie.Need-overflow_sub-left invariant-loop-most decreases-loo
 overflow_sub-left c = omega (arith, less c)
 
 overflow_sub-most : tie.Need-overflow_sub-most invariant-loop-most decreases-loop-most
-overflow_sub-most c = omega (arith, c.before.before)
+overflow_sub-most c = omega (arith, c)
 
 loop-most-smaller : tie.Need-loop-most-smaller invariant-loop-most decreases-loop-most
-loop-most-smaller c = omega (arith, c.before.before)
+loop-most-smaller c = omega (arith, c)
 
 loop-most-preserved : tie.Need-loop-most-preserved invariant-loop-most decreases-loop-most
-loop-most-preserved c = (omega (arith, next c.before c.if-run-left.false, (l₂ c).loop.invariant.0), omega (arith, less c, l₂ c), omega (arith, less c, l₂ c))
+loop-most-preserved c = (omega (arith, next c.before c.if-run-left.false, (l₂ c).loop-most.invariant.0), omega (arith, less c, l₂ c), omega (arith, less c, l₂ c))
 
 overflow_add-result : tie.Need-overflow_add-result invariant-loop-most decreases-loop-most
 overflow_add-result c = omega arith
 
 returns : tie.Need-returns invariant-loop-most decreases-loop-most
 returns c =
-    let l = c.before in
-    omega (arith, l.loop-most.invariant.0, ap length (removed_spent (F l) l.loop-most.most (tab (E l) l.loop-most.p l.loop-most.left) (omega arith)), length-tab (E l) l.loop-most.p l.loop-most.left)
+    omega (arith, c.loop-most.invariant.0, ap length (removed_spent (F c.before) c.loop-most.most (tab (E c.before) c.loop-most.p c.loop-most.left) (omega arith)), length-tab (E c.before) c.loop-most.p c.loop-most.left)
 
 pub measure_removed_spec : {M : Type 1} → statement M
 measure_removed_spec =

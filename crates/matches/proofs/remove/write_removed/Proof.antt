@@ -24,7 +24,7 @@ decreases-loop-most values elements estart a n element limit out-values₀ out-e
 
 module _ (l : tie.At-loop-most invariant-loop-most decreases-loop-most) where
   abbrev s : tie.Start invariant-loop-most decreases-loop-most
-  s = l.before.before.before
+  s = l
 
   abbrev E : ℕ → Elem
   E = elem_at s.args.values.now (from s.args.estart s.args.elements.now)
@@ -42,13 +42,13 @@ module _ (l : tie.At-loop-most invariant-loop-most decreases-loop-most) where
 -- a run without a match comes next
 module _ (c : tie.After-before_match-run invariant-loop-most decreases-loop-most) where
   abbrev l₁ : tie.At-loop-most invariant-loop-most decreases-loop-most
-  l₁ = c.before.before
+  l₁ = c
 
   abbrev run : ℕ
   run = c.before_match-run.result
 
   some : 0 < l₁.loop-most.most
-  some = omega (arith, c.before)
+  some = omega (arith, c)
 
   few : run ≤ l₁.loop-most.left
   few = c.before_match-run.ensures.inside
@@ -64,20 +64,18 @@ module _ (c : tie.After-before_match-run invariant-loop-most decreases-loop-most
 
 -- the run is written, and it was the last
 last : (c : tie.Then-run-left invariant-loop-most decreases-loop-most)
-    → let w = c.before.before.before.before in
-    let l = l₁ w.before.before.before in Writesˡ (es l) (s l).args.at (s l).args.out-values.now w.write_forward-k.new.1.1.1.1.1.0 (s l).args.out-elements.now w.write_forward-k.new.1.1.1.1.1.1.0 w.write_forward-k.result
+    → 
+    let l = l₁ c.before.before.before.before.before.before.before in Writesˡ (es l) (s l).args.at (s l).args.out_values.now c.write_forward-k.new.1.1.1.1.1.0 (s l).args.out_elements.now c.write_forward-k.new.1.1.1.1.1.1.0 c.write_forward-k.result
 last c =
-    let w = c.before.before.before.before in
-    let m = w.before.before.before in
-    last_written (l₁ m).loop.invariant.0 _ (all m c.if-run-left.true) w.write_forward-k.ensures
+    last_written (l₁ c.before.before.before.before.before.before.before).loop-most.invariant.0 _ (all c.before.before.before.before.before.before.before c.if-run-left.true) c.write_forward-k.ensures
 
 -- the run is written, and a match comes next
 module _ (c : tie.Else-run-left invariant-loop-most decreases-loop-most) where
   abbrev w₁ : tie.After-write_forward-k invariant-loop-most decreases-loop-most
-  w₁ = c.before.before.before.before
+  w₁ = c
 
   abbrev m₁ : tie.After-before_match-run invariant-loop-most decreases-loop-most
-  m₁ = w₁.before.before.before
+  m₁ = w₁
 
   abbrev l₂ : tie.At-loop-most invariant-loop-most decreases-loop-most
   l₂ = l₁ m₁
@@ -85,35 +83,33 @@ module _ (c : tie.Else-run-left invariant-loop-most decreases-loop-most) where
   less : run m₁ < l₂.loop-most.left
   less = let f = few m₁ in let e = c.if-run-left.false in omega arith
 
-  copied : Writing (es l₂) (s l₂).args.at (s l₂).args.out-values.now (s l₂).args.out-elements.now (removed (l₂.loop-most.most - 1) (F l₂) (tab (E l₂) (l₂.loop-most.p + (run m₁ + 1)) (l₂.loop-most.left - (run m₁ + 1)))) w₁.write_forward-k.result w₁.write_forward-k.last.1.1.1.1.1.0 w₁.write_forward-k.last.1.1.1.1.1.1.0
+  copied : Writing (es l₂) (s l₂).args.at (s l₂).args.out_values.now (s l₂).args.out_elements.now (removed (l₂.loop-most.most - 1) (F l₂) (tab (E l₂) (l₂.loop-most.p + (run m₁ + 1)) (l₂.loop-most.left - (run m₁ + 1)))) w₁.write_forward-k.result w₁.write_forward-k.last.1.1.1.1.1.0 w₁.write_forward-k.last.1.1.1.1.1.1.0
   copied = run_written l₂.loop-most.invariant.0 (tab (E l₂) l₂.loop-most.p (run m₁)) _ (next m₁ c.if-run-left.false) w₁.write_forward-k.ensures
 
 -- the limit is spent: the rest is copied
 module _ (c : tie.After-loop-most invariant-loop-most decreases-loop-most) where
   abbrev l₃ : tie.At-loop-most invariant-loop-most decreases-loop-most
-  l₃ = c.before
+  l₃ = c
 
   spent : rest l₃ ≡ tab (E l₃) l₃.loop-most.p l₃.loop-most.left
   spent = removed_spent (F l₃) l₃.loop-most.most _ (omega (arith, c.loop-most-test.false))
 
 rest_copied : (c : tie.After-write_forward invariant-loop-most decreases-loop-most)
-    → let l = c.before.before.before.before in Writesˡ (es l) (s l).args.at (s l).args.out-values.now c.write_forward.new.1.1.1.1.1.0 (s l).args.out-elements.now c.write_forward.new.1.1.1.1.1.1.0 c.write_forward.result
+    → Writesˡ (es c.before.before.before.before) (s c.before.before.before.before).args.at (s c.before.before.before.before).args.out_values.now c.write_forward.new.1.1.1.1.1.0 (s c.before.before.before.before).args.out_elements.now c.write_forward.new.1.1.1.1.1.1.0 c.write_forward.result
 rest_copied c =
-    let o = c.before.before.before in
-    last_written (l₃ o).loop.invariant.0 _ (spent o) c.write_forward.ensures
+    last_written (l₃ c.before.before.before).loop-most.invariant.0 _ (spent c.before.before.before) c.write_forward.ensures
 
 loop-most-init : tie.Need-loop-most-init invariant-loop-most decreases-loop-most
 loop-most-init c = (begun _ refl, refl)
 
 before_match-run-requires : tie.Need-before_match-run-requires invariant-loop-most decreases-loop-most
-before_match-run-requires c κs = let p = (s c.before).pre.0 in record { inside = omega (arith, c, p.inside); bits = p.bits }
+before_match-run-requires c κs = let p = (s c.before).requires.0 in record { inside = omega (arith, c, p.inside); bits = p.bits }
 
 write_forward-k-requires : tie.Need-write_forward-k-requires invariant-loop-most decreases-loop-most
 write_forward-k-requires c κs =
-    let m = c.before.before in
-    let l = l₁ m in
-    let p = (s l).pre in
-    (record { inside = omega (arith, few m, l, p.0.inside); bits = p.0.bits }, run_room l.loop-most.invariant.0 _ _ (before m) p.1)
+    let l = l₁ c.before.before in
+    let p = (s l).requires in
+    (record { inside = omega (arith, few c.before.before, l, p.0.inside); bits = p.0.bits }, run_room l.loop-most.invariant.0 _ _ (before c.before.before) p.1)
 
 shape_of-out_values-then-run-left : tie.Need-shape_of-out_values-then-run-left invariant-loop-most decreases-loop-most
 shape_of-out_values-then-run-left c = values_length (last c)
@@ -137,20 +133,19 @@ overflow_sub-left : tie.Need-overflow_sub-left invariant-loop-most decreases-loo
 overflow_sub-left c = omega (arith, less c)
 
 overflow_sub-most : tie.Need-overflow_sub-most invariant-loop-most decreases-loop-most
-overflow_sub-most c = omega (arith, (m₁ c).before)
+overflow_sub-most c = omega (arith, (m₁ c))
 
 loop-most-smaller : tie.Need-loop-most-smaller invariant-loop-most decreases-loop-most
-loop-most-smaller c = omega (arith, (m₁ c).before)
+loop-most-smaller c = omega (arith, (m₁ c))
 
 loop-most-preserved : tie.Need-loop-most-preserved invariant-loop-most decreases-loop-most
 loop-most-preserved c = (copied c, omega (arith, less c, l₂ c))
 
 write_forward-requires : tie.Need-write_forward-requires invariant-loop-most decreases-loop-most
 write_forward-requires c κs =
-    let o = c.before.before in
-    let l = l₃ o in
-    let p = (s l).pre in
-    (record { inside = omega (arith, l, p.0.inside); bits = p.0.bits }, last-room l.loop-most.invariant.0 _ (spent o) p.1)
+    let l = l₃ c.before.before in
+    let p = (s l).requires in
+    (record { inside = omega (arith, l, p.0.inside); bits = p.0.bits }, last-room l.loop-most.invariant.0 _ (spent c.before.before) p.1)
 
 shape_of-out_values : tie.Need-shape_of-out_values invariant-loop-most decreases-loop-most
 shape_of-out_values c = values_length (rest_copied c.before.before.before)

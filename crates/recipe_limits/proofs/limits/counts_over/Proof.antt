@@ -15,13 +15,13 @@ decreases-loop-left rows rstart n args bits start a most sum₀ r₀ left₀ sum
 -- ---- places: the start, a turn, and the walk there
 
 abbrev S : tie.At-loop-left invariant-loop-left decreases-loop-left → tie.Start invariant-loop-left decreases-loop-left
-S l = l.before.before.before
+S l = l
 
 abbrev turn : tie.After-plus-sum invariant-loop-left decreases-loop-left → tie.In-loop-left invariant-loop-left decreases-loop-left
-turn c = c.before.before
+turn c = c
 
 abbrev walk : tie.After-plus-sum invariant-loop-left decreases-loop-left → tie.At-loop-left invariant-loop-left decreases-loop-left
-walk c = (turn c).before
+walk c = (turn c)
 
 -- ---- needs
 
@@ -30,24 +30,23 @@ loop-left-init c = counts_begun _ _ _
 
 count_at-count-requires : tie.Need-count_at-count-requires invariant-loop-left decreases-loop-left
 count_at-count-requires c κs =
-    let l = c.before in
-    let p = (S l).requires in
-    (p.0, (p.1.0, (p.1.1, omega (arith, l.loop-left.invariant.rows, c.loop-left-test.true))))
+    let p = (S c.before).requires in
+    (p.0, (p.1.0, (p.1.1, omega (arith, c.loop-left.invariant.rows, c.loop-left-test.true))))
 
 plus-sum-requires : tie.Need-plus-sum-requires invariant-loop-left decreases-loop-left
 plus-sum-requires c κs = c.loop-left.invariant.small
 
 overflow_add-r : tie.Need-overflow_add-r invariant-loop-left decreases-loop-left
-overflow_add-r c = omega (arith, (walk c).loop.invariant.rows, (turn c).loop-test.true)
+overflow_add-r c = omega (arith, (walk c).loop-left.invariant.rows, (turn c).loop-left-test.true)
 
 overflow_sub-left : tie.Need-overflow_sub-left invariant-loop-left decreases-loop-left
-overflow_sub-left c = omega (arith, (turn c).loop-test.true)
+overflow_sub-left c = omega (arith, (turn c).loop-left-test.true)
 
 loop-left-smaller : tie.Need-loop-left-smaller invariant-loop-left decreases-loop-left
-loop-left-smaller c = omega (arith, (turn c).loop-test.true)
+loop-left-smaller c = omega (arith, (turn c).loop-left-test.true)
 
 loop-left-preserved : tie.Need-loop-left-preserved invariant-loop-left decreases-loop-left
-loop-left-preserved c = counts-more _ _ _ (walk c).loop.invariant _ _ (turn c).loop-test.true c.count_at-count.ensures c.plus-sum.ensures
+loop-left-preserved c = counts-more _ _ _ (walk c).loop-left.invariant _ _ (turn c).loop-left-test.true c.count_at-count.ensures c.plus-sum.ensures
 
 returns : tie.Need-returns invariant-loop-left decreases-loop-left
 unfolding counts_from

@@ -7,13 +7,13 @@ overflow_sub-most : tie.Need-overflow_sub-most
 overflow_sub-most c = omega arith
 
 returns-then-most-a : tie.Need-returns-then-most-a
-returns-then-most-a c = let s = c.before in sum-cut s.args.most s.args.a s.args.b (omega (arith, c.if-most-a.true)) s.requires
+returns-then-most-a c = sum-cut c.args.most c.args.a c.args.b (omega (arith, c.if-most-a.true)) c.requires
 
 overflow_add-result : tie.Need-overflow_add-result
 overflow_add-result c = omega arith
 
 returns : tie.Need-returns
-returns c = let s = c.before in sum_fits s.args.most s.args.a s.args.b (omega (arith, c.if-most-a.false)) s.requires
+returns c = sum_fits c.args.most c.args.a c.args.b (omega (arith, c.if-most-a.false)) c.requires
 
 pub plus_spec : {M : Type 1} → statement M
 plus_spec =

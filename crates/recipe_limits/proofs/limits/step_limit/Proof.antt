@@ -7,10 +7,10 @@ use Rattle.recipe_limits.proofs.limits.step_limit.Tie as tie
 -- ---- places: the start, for resize and for other steps
 
 abbrev S : tie.Then-code-eq6 → tie.Start
-S c = c.before.before.before
+S c = c
 
 abbrev other : tie.Else-code-eq6 → tie.Start
-other c = c.before.before.before
+other c = c
 
 -- ---- needs
 

@@ -18,7 +18,7 @@ returns-in-Null : tie.Need-returns-in-Null
 returns-in-Null c = rw c.in-Null.is c.before_null.ensures
 
 returns-in-Value : tie.Need-returns-in-Value
-returns-in-Value c = let k = c.before in rw k.in-Value.is (rw (back64 _ k.in-Value.known_told-1-own.given.0.1) at c.before_equal.ensures)
+returns-in-Value c = rw c.in-Value.is (rw (back64 _ c.in-Value.known_told-1-own.given.0.1) at c.before_equal.ensures)
 
 pub before_each_spec : {M : Type 1} → statement M
 before_each_spec =

@@ -23,16 +23,16 @@ decreases-loop-r values elements estart a n v r₀ r = n - r
 -- ---- places: the loop and the start, from the values before the next equal one
 
 abbrev turn : tie.After-before_value-r invariant-loop-r decreases-loop-r → tie.At-loop-r invariant-loop-r decreases-loop-r
-turn b = b.before.before
+turn b = b
 
 abbrev start : tie.After-before_value-r invariant-loop-r decreases-loop-r → tie.Start invariant-loop-r decreases-loop-r
-start b = (turn b).before.before
+start b = (turn b)
 
 -- the values that differ are passed
-passed : (b : tie.After-before_value-r invariant-loop-r decreases-loop-r) → let a = (start b).args in (i : ℕ) → i < (turn b).loop.r + b.before_value-r.result → same_elem (elem_at a.values.now (from a.estart a.elements.now) (a.a + i)) (val a.v) ≡ false
+passed : (b : tie.After-before_value-r invariant-loop-r decreases-loop-r) → let a = (start b).args in (i : ℕ) → i < (turn b).loop-r.r + b.before_value-r.result → same_elem (elem_at a.values.now (from a.estart a.elements.now) (a.a + i)) (val a.v) ≡ false
 passed b =
     let f = (start b).ranges.v.sfits in
-    none_more _ _ _ _ _ _ _ (rw (back64 _ f) at (turn b).loop.invariant.1) (rw (back64 _ f) at b.before_value-r.ensures)
+    none_more _ _ _ _ _ _ _ (rw (back64 _ f) at (turn b).loop-r.invariant.1) (rw (back64 _ f) at b.before_value-r.ensures)
 
 loop-r-init : tie.Need-loop-r-init invariant-loop-r decreases-loop-r
 loop-r-init c = (omega arith, below_none _)
@@ -51,36 +51,35 @@ overflow_add-r c = omega (arith, c.before_value-r.ensures.inside)
 
 returns-then-r-n : tie.Need-returns-then-r-n invariant-loop-r decreases-loop-r
 unfolding elem_of
-returns-then-r-n c = let b = c.before in record { inside = omega (arith, c.if-r-n.true); none = passed b; found = λ h. let z : ⊥ = omega (arith, c.if-r-n.true) in absurd z }
+returns-then-r-n c = record { inside = omega (arith, c.if-r-n.true); none = passed c.before; found = λ h. let z : ⊥ = omega (arith, c.if-r-n.true) in absurd z }
 
 overflow_add-a-in-loop-r : tie.Need-overflow_add-a-in-loop-r invariant-loop-r decreases-loop-r
-overflow_add-a-in-loop-r c = let b = c.before in omega (arith, b.before_value-r.ensures.inside, (start b).requires.inside)
+overflow_add-a-in-loop-r c = omega (arith, c.before_value-r.ensures.inside, (start c.before).requires.inside)
 
 compare_element_to_list-requires : tie.Need-compare_element_to_list-requires invariant-loop-r decreases-loop-r
-compare_element_to_list-requires c κs = let b = c.before in (omega (arith, b.before_value-r.ensures.inside, (start b).requires.inside, c.if-r-n.false), (start b).requires.bits)
+compare_element_to_list-requires c κs = (omega (arith, c.before_value-r.ensures.inside, (start c.before).requires.inside, c.if-r-n.false), (start c.before).requires.bits)
 
 returns-then-compare_element_to_list : tie.Need-returns-then-compare_element_to_list invariant-loop-r decreases-loop-r
 unfolding elem_of
 returns-then-compare_element_to_list c =
-    let b = c.before.before.before in
     record {
-      inside = omega (arith, b.before_value-r.ensures.inside);
-      none = passed b;
-      found = λ h. sym (rw (back64 _ (start b).ranges.v.sfits) at c.compare_element_to_list.ensures) ∙ c.if-compare_element_to_list.true;
+      inside = omega (arith, c.before_value-r.ensures.inside);
+      none = passed c.before.before.before;
+      found = λ h. sym (rw (back64 _ (start c.before.before.before).ranges.v.sfits) at c.compare_element_to_list.ensures) ∙ c.if-compare_element_to_list.true;
     }
 
 overflow_add-r-in-loop-r : tie.Need-overflow_add-r-in-loop-r invariant-loop-r decreases-loop-r
-overflow_add-r-in-loop-r c = let b = c.before.before.before in omega (arith, b.before_value-r.ensures.inside, c.if-r-n.false)
+overflow_add-r-in-loop-r c = omega (arith, c.before_value-r.ensures.inside, c.if-r-n.false)
 
 loop-r-smaller : tie.Need-loop-r-smaller invariant-loop-r decreases-loop-r
-loop-r-smaller c = let b = c.before.before.before in omega (arith, b.loop-r-test.true, b.before_value-r.ensures.inside)
+loop-r-smaller c = omega (arith, c.loop-r-test.true, c.before_value-r.ensures.inside)
 
 loop-r-preserved : tie.Need-loop-r-preserved invariant-loop-r decreases-loop-r
 unfolding elem_of
 loop-r-preserved c =
-    let b = c.before.before.before in (
-      omega (arith, b.before_value-r.ensures.inside, c.if-r-n.false),
-      rw (back64 _ (start b).ranges.v.sfits) (below_more _ _ (passed b) (sym (rw (back64 _ (start b).ranges.v.sfits) at c.compare_element_to_list.ensures) ∙ c.if-compare_element_to_list.false)),
+    (
+      omega (arith, c.before_value-r.ensures.inside, c.if-r-n.false),
+      rw (back64 _ (start c.before.before.before).ranges.v.sfits) (below_more _ _ (passed c.before.before.before) (sym (rw (back64 _ (start c.before.before.before).ranges.v.sfits) at c.compare_element_to_list.ensures) ∙ c.if-compare_element_to_list.false)),
     )
 
 returns : tie.Need-returns invariant-loop-r decreases-loop-r

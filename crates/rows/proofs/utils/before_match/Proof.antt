@@ -42,14 +42,13 @@ returns-in-Null c =
 returns-in-Value : tie.Need-returns-in-Value
 unfolding elem_of
 returns-in-Value c =
-    let k = c.before in
-    let a = k.args in
-    let b = rw (back64 _ k.in-Value.known_told-1-own.given.0.1) at c.before_value.ensures in
-    rw k.in-Value.is
+    let a = c.args in
+    let b = rw (back64 _ c.in-Value.known_told-1-own.given.0.1) at c.before_value.ensures in
+    rw c.in-Value.is
     (record {
       inside = b.inside;
-      none = λ i h. sym (plain_value a.values.now (from a.estart a.elements.now) (none_null k.before) (a.a + i) _) ∙ b.none i h;
-      found = λ h. sym (plain_value a.values.now (from a.estart a.elements.now) (none_null k.before) (a.a + _) _) ∙ b.found h;
+      none = λ i h. sym (plain_value a.values.now (from a.estart a.elements.now) (none_null c.before.before) (a.a + i) _) ∙ b.none i h;
+      found = λ h. sym (plain_value a.values.now (from a.estart a.elements.now) (none_null c.before.before) (a.a + _) _) ∙ b.found h;
     })
 
 pub before_match_spec : {M : Type 1} → statement M

@@ -24,7 +24,7 @@ overflow_add-a : tie.Need-overflow_add-a invariant-loop-r decreases-loop-r
 overflow_add-a c = omega (arith, c.requires.inside)
 
 compare_element_to_list-requires : tie.Need-compare_element_to_list-requires invariant-loop-r decreases-loop-r
-compare_element_to_list-requires c κs = let s = c.before.before.before in (omega (arith, s.requires.inside), s.requires.bits)
+compare_element_to_list-requires c κs = (omega (arith, c.requires.inside), c.requires.bits)
 
 returns-then-compare_element_to_list : tie.Need-returns-then-compare_element_to_list invariant-loop-r decreases-loop-r
 returns-then-compare_element_to_list c =
@@ -38,7 +38,7 @@ loop-r-smaller : tie.Need-loop-r-smaller invariant-loop-r decreases-loop-r
 loop-r-smaller c = omega (arith, c.loop-r-test.true)
 
 loop-r-preserved : tie.Need-loop-r-preserved invariant-loop-r decreases-loop-r
-loop-r-preserved c = (omega (arith, c.before.before), below_more _ _ c.loop-r.invariant.1 (sym c.compare_element_to_list.ensures ∙ c.if-compare_element_to_list.false))
+loop-r-preserved c = (omega (arith, c), below_more _ _ c.loop-r.invariant.1 (sym c.compare_element_to_list.ensures ∙ c.if-compare_element_to_list.false))
 
 returns : tie.Need-returns invariant-loop-r decreases-loop-r
 returns c = let l = c.loop-r in record { inside = l.invariant.0; none = l.invariant.1; found = λ h. let z : ⊥ = omega arith in absurd z }

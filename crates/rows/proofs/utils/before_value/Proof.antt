@@ -36,11 +36,10 @@ bounds-values-a c = search rules
 returns-then-values-a : tie.Need-returns-then-values-a invariant-loop-r decreases-loop-r
 returns-then-values-a c =
     let l = c.loop-r in
-    let s = c.before.before.before.before in
     record {
       inside = l.invariant.0;
-      none = rw (back64 _ s.ranges.v.sfits) at l.invariant.1;
-      found = λ h. sym (eq_bits _ _ (record { sfits = c.t10-1.given }) s.ranges.v) ∙ eq-eqb _ _ c.if-values-a.true;
+      none = rw (back64 _ c.ranges.v.sfits) at l.invariant.1;
+      found = λ h. sym (eq_bits _ _ (record { sfits = c.t10-1.given }) c.ranges.v) ∙ eq-eqb _ _ c.if-values-a.true;
     }
 
 overflow_add-r : tie.Need-overflow_add-r invariant-loop-r decreases-loop-r
@@ -51,10 +50,10 @@ loop-r-smaller c = search rules
 
 loop-r-preserved : tie.Need-loop-r-preserved invariant-loop-r decreases-loop-r
 loop-r-preserved c =
-    let s = c.before.before.before.before in (
-      omega (arith, c.before.before),
+    (
+      omega (arith, c),
       below_more _ _ c.loop-r.invariant.1
-          (rw (back64 _ s.ranges.v.sfits) (sym (eq_bits _ _ (record { sfits = c.t10-1.given }) s.ranges.v) ∙ ne_eqb _ _ c.if-values-a.false)),
+          (rw (back64 _ c.ranges.v.sfits) (sym (eq_bits _ _ (record { sfits = c.t10-1.given }) c.ranges.v) ∙ ne_eqb _ _ c.if-values-a.false)),
     )
 
 returns : tie.Need-returns invariant-loop-r decreases-loop-r

@@ -20,8 +20,7 @@ enum_known-cell c = search
 returns-then-not-valid : tie.Need-returns-then-not-valid
 unfolding elem_of
 returns-then-not-valid c =
-    let e = c.before in
-    rw (e.in-Value.is, elem_null _ _ _ (sym e.is_valid-valid.ensures ∙ not-true _ c.if-not-valid.true)) (null_same _)
+    rw (c.in-Value.is, elem_null _ _ _ (sym c.is_valid-valid.ensures ∙ not-true _ c.if-not-valid.true-raw)) (null_same _)
 
 offset_bounds-values-i : tie.Need-offset_bounds-values-i
 offset_bounds-values-i c = search rules
@@ -39,10 +38,8 @@ returns-in-Null c = rw (c.in-Null.is, ← same_null, is_val_elem, ← c.is_valid
 returns-else-not-valid : tie.Need-returns-else-not-valid
 unfolding elem_of
 returns-else-not-valid c =
-    let t = c.before.before in
-    let e = t.before in
-    rw (e.in-Value.is, elem_valid _ _ _ (sym e.is_valid-valid.ensures ∙ not-false _ t.if-not-valid.false))
-    (rw (back64 _ c.same_value-arg-1.given, back64 _ t.in-Value.known_told-1-own.given.0.1) at c.same_value.ensures ∙ value_same _ _)
+    rw (c.in-Value.is, elem_valid _ _ _ (sym c.is_valid-valid.ensures ∙ not-false _ c.if-not-valid.false-raw))
+    (rw (back64 _ c.same_value-arg-1.given, back64 _ c.in-Value.known_told-1-own.given.0.1) at c.same_value.ensures ∙ value_same _ _)
 
 pub compare_element_to_list_spec : {M : Type 1} → statement M
 compare_element_to_list_spec =

@@ -23,7 +23,7 @@ shape_of-out_elements-in-Null c = search
 
 returns-in-Null : tie.Need-returns-in-Null
 unfolding elem_of
-returns-in-Null c = let w = c.before.before.before in rw w.in-Null.is w.write_null.ensures
+returns-in-Null c = rw c.in-Null.is c.write_null.ensures
 
 shape_of-out_values-in-Value : tie.Need-shape_of-out_values-in-Value
 shape_of-out_values-in-Value c = search
@@ -33,9 +33,8 @@ shape_of-out_elements-in-Value c = search
 
 returns-in-Value : tie.Need-returns-in-Value
 unfolding elem_of
-returns-in-Value c = let w = c.before.before.before in
-    let k = w.before.before.before in
-    rw k.in-Value.is (rw (back64 _ k.in-Value.known_told-1-own.given.0.1) at w.write_value.ensures)
+returns-in-Value c = 
+    rw c.in-Value.is (rw (back64 _ c.in-Value.known_told-1-own.given.0.1) at c.write_value.ensures)
 
 pub write_cell_spec : {M : Type 1} → statement M
 write_cell_spec =

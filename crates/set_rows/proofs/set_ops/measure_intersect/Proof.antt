@@ -45,17 +45,13 @@ start_from-start-requires c κs = search
 
 measure_kept-requires : tie.Need-measure_kept-requires
 measure_kept-requires c κs =
-    let s = c.before.before.before.before.before.before.before.before in
-    let a = s.args in
-    let t = c.before.before in
-    (right_source a.lvalues.now (from a.lstart a.lelements.now) a.a a.n a.rvalues.now (from a.rstart a.relements.now) a.b a.m s.requires.0 s.requires.1 t.longer-walked.ensures t.if-n-m.true c.start_from-start.ensures c.bits_from-bits.ensures, s.requires.0)
+    let a = c.args in
+    (right_source a.lvalues.now (from a.lstart a.lelements.now) a.a a.n a.rvalues.now (from a.rstart a.relements.now) a.b a.m c.requires.0 c.requires.1 c.longer-walked.ensures c.if-n-m.true c.start_from-start.ensures c.bits_from-bits.ensures, c.requires.0)
 
 returns-then-n-m : tie.Need-returns-then-n-m
 returns-then-n-m c =
-    let s = c.before.before.before.before.before.before.before.before.before in
-    let a = s.args in
-    let t = c.before.before.before in
-    rw (right_walked a.lvalues.now (from a.lstart a.lelements.now) a.a a.n a.rvalues.now (from a.rstart a.relements.now) a.b a.m s.requires.0 s.requires.1 t.longer-walked.ensures t.if-n-m.true c.start_from-start.ensures c.bits_from-bits.ensures) c.measure_kept.ensures
+    let a = c.args in
+    rw (right_walked a.lvalues.now (from a.lstart a.lelements.now) a.a a.n a.rvalues.now (from a.rstart a.relements.now) a.b a.m c.requires.0 c.requires.1 c.longer-walked.ensures c.if-n-m.true c.start_from-start.ensures c.bits_from-bits.ensures) c.measure_kept.ensures
 
 bits_from-bits-requires-2 : tie.Need-bits_from-bits-requires-2
 bits_from-bits-requires-2 c κs = search rules
@@ -65,17 +61,13 @@ start_from-start-requires-2 c κs = search
 
 measure_kept-requires-2 : tie.Need-measure_kept-requires-2
 measure_kept-requires-2 c κs =
-    let s = c.before.before.before.before.before.before.before.before in
-    let a = s.args in
-    let t = c.before.before in
-    (left_source a.lvalues.now (from a.lstart a.lelements.now) a.a a.n a.rvalues.now (from a.rstart a.relements.now) a.b a.m s.requires.0 s.requires.1 t.longer-walked.ensures t.if-n-m.false c.start_from-start-2.ensures c.bits_from-bits-2.ensures, s.requires.1)
+    let a = c.args in
+    (left_source a.lvalues.now (from a.lstart a.lelements.now) a.a a.n a.rvalues.now (from a.rstart a.relements.now) a.b a.m c.requires.0 c.requires.1 c.longer-walked.ensures c.if-n-m.false c.start_from-start-2.ensures c.bits_from-bits-2.ensures, c.requires.1)
 
 returns : tie.Need-returns
 returns c =
-    let s = c.before.before.before.before.before.before.before.before.before in
-    let a = s.args in
-    let t = c.before.before.before in
-    rw (left_walked a.lvalues.now (from a.lstart a.lelements.now) a.a a.n a.rvalues.now (from a.rstart a.relements.now) a.b a.m s.requires.0 s.requires.1 t.longer-walked.ensures t.if-n-m.false c.start_from-start-2.ensures c.bits_from-bits-2.ensures) c.measure_kept-2.ensures
+    let a = c.args in
+    rw (left_walked a.lvalues.now (from a.lstart a.lelements.now) a.a a.n a.rvalues.now (from a.rstart a.relements.now) a.b a.m c.requires.0 c.requires.1 c.longer-walked.ensures c.if-n-m.false c.start_from-start-2.ensures c.bits_from-bits-2.ensures) c.measure_kept-2.ensures
 
 pub measure_intersect_spec : {M : Type 1} → statement M
 measure_intersect_spec =

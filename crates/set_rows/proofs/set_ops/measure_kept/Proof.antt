@@ -30,33 +30,31 @@ loop-left-init c =
 
 is_kept-new-requires : tie.Need-is_kept-new-requires invariant-loop-left decreases-loop-left
 is_kept-new-requires c κs =
-    let s = c.before.before.before.before in
-    (record { inside = omega (arith, s.requires.0.inside); bits = s.requires.0.bits }, s.requires.1)
+    (record { inside = omega (arith, c.requires.0.inside); bits = c.requires.0.bits }, c.requires.1)
 
 overflow_cast-len : tie.Need-overflow_cast-len invariant-loop-left decreases-loop-left
 overflow_cast-len c = tt
 
 overflow_add-len : tie.Need-overflow_add-len invariant-loop-left decreases-loop-left
-overflow_add-len c = omega (arith, c.before, bit_le c.is_kept-new.result)
+overflow_add-len c = omega (arith, c, bit_le c.is_kept-new.result)
 
 overflow_add-k : tie.Need-overflow_add-k invariant-loop-left decreases-loop-left
-overflow_add-k c = omega (arith, c.before)
+overflow_add-k c = omega (arith, c)
 
 overflow_sub-left : tie.Need-overflow_sub-left invariant-loop-left decreases-loop-left
-overflow_sub-left c = omega (arith, c.before)
+overflow_sub-left c = omega (arith, c)
 
 loop-left-smaller : tie.Need-loop-left-smaller invariant-loop-left decreases-loop-left
-loop-left-smaller c = omega (arith, c.before)
+loop-left-smaller c = omega (arith, c)
 
 loop-left-preserved : tie.Need-loop-left-preserved invariant-loop-left decreases-loop-left
 loop-left-preserved c =
-    let i = c.before in
-    let l = i.loop-left in
-    let a = i.args in
+    let l = c.loop-left in
+    let a = c.args in
     let O = tab (elem_at a.others.now (from a.ostart a.oelements.now)) a.b a.m in
     let E = elem_at a.values.now (from a.estart a.elements.now) in
-    let p = length-kept a.shared O E a.a l.k l.left i.loop-left-test.true c.is_kept-new.ensures in
-    (omega (arith, i), omega (arith, i), omega (arith, i, bit_le c.is_kept-new.result))
+    let p = length-kept a.shared O E a.a l.k l.left c.loop-left-test.true c.is_kept-new.ensures in
+    (omega (arith, c), omega (arith, c), omega (arith, c, bit_le c.is_kept-new.result))
 
 returns : tie.Need-returns invariant-loop-left decreases-loop-left
 returns c =

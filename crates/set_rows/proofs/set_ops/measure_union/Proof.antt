@@ -20,19 +20,17 @@ measure_kept-second-requires c κs = search
 overflow_add-result : tie.Need-overflow_add-result
 unfolding tab
 overflow_add-result c =
-    let s = c.before.before.before.before in
-    let L = elem_at s.args.lvalues.now (from s.args.lstart s.args.lelements.now) in
-    let R = elem_at s.args.rvalues.now (from s.args.rstart s.args.relements.now) in
-    let l = tab L s.args.a s.args.n in
-    let r = tab R s.args.b s.args.m in
-    omega (arith, s.requires.1.1, c.measure_kept-first.ensures, c.measure_kept-second.ensures, kept_le false [] [] l, kept_le false l [] r, length-tab L s.args.a s.args.n, length-tab R s.args.b s.args.m)
+    let L = elem_at c.args.lvalues.now (from c.args.lstart c.args.lelements.now) in
+    let R = elem_at c.args.rvalues.now (from c.args.rstart c.args.relements.now) in
+    let l = tab L c.args.a c.args.n in
+    let r = tab R c.args.b c.args.m in
+    omega (arith, c.requires.1.1, c.measure_kept-first.ensures, c.measure_kept-second.ensures, kept_le false [] [] l, kept_le false l [] r, length-tab L c.args.a c.args.n, length-tab R c.args.b c.args.m)
 
 returns : tie.Need-returns
 unfolding tab
 returns c =
-    let s = c.before.before.before.before in
-    let l = tab (elem_at s.args.lvalues.now (from s.args.lstart s.args.lelements.now)) s.args.a s.args.n in
-    let r = tab (elem_at s.args.rvalues.now (from s.args.rstart s.args.relements.now)) s.args.b s.args.m in
+    let l = tab (elem_at c.args.lvalues.now (from c.args.lstart c.args.lelements.now)) c.args.a c.args.n in
+    let r = tab (elem_at c.args.rvalues.now (from c.args.rstart c.args.relements.now)) c.args.b c.args.m in
     rw (union_kept l r, length-append) (omega (arith, c.measure_kept-first.ensures, c.measure_kept-second.ensures))
 
 pub measure_union_spec : {M : Type 1} → statement M

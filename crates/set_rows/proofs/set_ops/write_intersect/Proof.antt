@@ -45,22 +45,22 @@ start_from-start-requires c κs = search
 
 -- the places that are used below
 abbrev start-from-of-slice-known2 : tie.After-slice_known-then-n-m-1 → tie.After-start_from-start
-start-from-of-slice-known2 p = p.before.before.before.before.before.before
+start-from-of-slice-known2 p = p
 
 abbrev start-from2-of-slice-known3 : tie.After-slice_known-2-1 → tie.After-start_from-start-2
-start-from2-of-slice-known3 p = p.before.before.before.before.before.before
+start-from2-of-slice-known3 p = p
 
 abbrev then1-of-slice-known2 : tie.After-slice_known-then-n-m-1 → tie.Then-n-m
-then1-of-slice-known2 p = p.before.before.before.before.before.before.before.before
+then1-of-slice-known2 p = p
 
 abbrev else1-of-slice-known3 : tie.After-slice_known-2-1 → tie.Else-n-m
-else1-of-slice-known3 p = p.before.before.before.before.before.before.before.before
+else1-of-slice-known3 p = p
 
 abbrev longer-of-write-kept-arg2 : tie.After-write_kept-arg-then-n-m-1 → tie.After-longer-walked
-longer-of-write-kept-arg2 p = p.before.before.before.before.before
+longer-of-write-kept-arg2 p = p
 
 abbrev start-of-longer : tie.After-longer-walked → tie.Start
-start-of-longer p = p.before.before.before.before.before.before
+start-of-longer p = p
 
 abbrev start-of-write-kept-arg2 : tie.After-write_kept-arg-then-n-m-1 → tie.Start
 start-of-write-kept-arg2 p = start-of-longer (longer-of-write-kept-arg2 p)
@@ -78,10 +78,8 @@ write_kept-requires : tie.Need-write_kept-requires
 write_kept-requires c κs =
     let s = start-of-write-kept-arg2 c in
     let a = s.args in
-    let t = c.before.before.before.before in
-    let r = c.before.before in
-    let e = right_walked a.lvalues.now (from a.lstart a.lelements.now) a.a a.n a.rvalues.now (from a.rstart a.relements.now) a.b a.m s.requires.0 s.requires.1.0 t.longer-walked.ensures t.if-n-m.true r.start_from-start.ensures r.bits_from-bits.ensures in
-    (right_source a.lvalues.now (from a.lstart a.lelements.now) a.a a.n a.rvalues.now (from a.rstart a.relements.now) a.b a.m s.requires.0 s.requires.1.0 t.longer-walked.ensures t.if-n-m.true r.start_from-start.ensures r.bits_from-bits.ensures, (s.requires.0, rw e at s.requires.1.1))
+    let e = right_walked a.lvalues.now (from a.lstart a.lelements.now) a.a a.n a.rvalues.now (from a.rstart a.relements.now) a.b a.m s.requires.0 s.requires.1.0 c.longer-walked.ensures c.if-n-m.true c.start_from-start.ensures c.bits_from-bits.ensures in
+    (right_source a.lvalues.now (from a.lstart a.lelements.now) a.a a.n a.rvalues.now (from a.rstart a.relements.now) a.b a.m s.requires.0 s.requires.1.0 c.longer-walked.ensures c.if-n-m.true c.start_from-start.ensures c.bits_from-bits.ensures, (s.requires.0, rw e at s.requires.1.1))
 
 shape_of-out_values-then-n-m : tie.Need-shape_of-out_values-then-n-m
 shape_of-out_values-then-n-m c = search
@@ -108,10 +106,8 @@ write_kept-requires-2 : tie.Need-write_kept-requires-2
 write_kept-requires-2 c κs =
     let s = start-of-write-kept-arg4 c in
     let a = s.args in
-    let t = c.before.before.before.before in
-    let r = c.before.before in
-    let e = left_walked a.lvalues.now (from a.lstart a.lelements.now) a.a a.n a.rvalues.now (from a.rstart a.relements.now) a.b a.m s.requires.0 s.requires.1.0 t.longer-walked.ensures t.if-n-m.false r.start_from-start-2.ensures r.bits_from-bits-2.ensures in
-    (left_source a.lvalues.now (from a.lstart a.lelements.now) a.a a.n a.rvalues.now (from a.rstart a.relements.now) a.b a.m s.requires.0 s.requires.1.0 t.longer-walked.ensures t.if-n-m.false r.start_from-start-2.ensures r.bits_from-bits-2.ensures, (s.requires.1.0, rw e at s.requires.1.1))
+    let e = left_walked a.lvalues.now (from a.lstart a.lelements.now) a.a a.n a.rvalues.now (from a.rstart a.relements.now) a.b a.m s.requires.0 s.requires.1.0 c.longer-walked.ensures c.if-n-m.false c.start_from-start-2.ensures c.bits_from-bits-2.ensures in
+    (left_source a.lvalues.now (from a.lstart a.lelements.now) a.a a.n a.rvalues.now (from a.rstart a.relements.now) a.b a.m s.requires.0 s.requires.1.0 c.longer-walked.ensures c.if-n-m.false c.start_from-start-2.ensures c.bits_from-bits-2.ensures, (s.requires.1.0, rw e at s.requires.1.1))
 
 shape_of-out_values : tie.Need-shape_of-out_values
 shape_of-out_values c = search

@@ -9,7 +9,7 @@ use Rattle.slice_rows.proofs.plans.plan_at.Tie as tie
 
 returns-then-not-valid : tie.Need-returns-then-not-valid
 unfolding plan_at
-returns-then-not-valid c = rw (not-true c.args.valid c.if-not-valid.true)
+returns-then-not-valid c = rw (not-true c.args.valid c.if-not-valid.true-raw)
 
 offset_bounds-xs-r : tie.Need-offset_bounds-xs-r
 offset_bounds-xs-r c = omega (arith, c.requires.0)
@@ -33,8 +33,7 @@ returns : tie.Need-returns
 unfolding plan_at
 returns c =
     let s = c.stride_at in
-    let e = c.before.before.before.before in
-    rw (not-false e.args.valid e.if-not-valid.false, ← s.ensures)
+    rw (not-false c.args.valid c.if-not-valid.false-raw, ← s.ensures)
     (rw (back64 _ c.plan_of-arg-1.given, back64 _ c.plan_of-arg-2-1.given, read_back w64 s.result (record { sfits = s.type_inv })) at c.plan_of.ensures)
 
 pub plan_at_spec : {M : Type 1} → statement M

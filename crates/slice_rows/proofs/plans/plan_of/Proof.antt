@@ -19,16 +19,14 @@ compute_slice_plan-requires-in-Wide c κs = rw c.in-Wide.is at c.requires
 returns-in-Narrow : tie.Need-returns-in-Narrow
 unfolding stride_in
 returns-in-Narrow c =
-    let s = c.before.before in
     rw c.in-Narrow.is
-    (rw (read_back w64 s.args.from s.ranges.from, read_back w64 s.args.to s.ranges.to, read_back w64 s.args.stride s.ranges.stride) at c.compute_slice_plan.ensures)
+    (rw (read_back w64 c.args.from c.ranges.from, read_back w64 c.args.to c.ranges.to, read_back w64 c.args.stride c.ranges.stride) at c.compute_slice_plan.ensures)
 
 returns-in-Wide : tie.Need-returns-in-Wide
 unfolding stride_in
 returns-in-Wide c =
-    let s = c.before.before in
     rw c.in-Wide.is
-    (rw (read_back w64 s.args.from s.ranges.from, read_back w64 s.args.to s.ranges.to, read_back w64 s.args.stride s.ranges.stride) at c.compute_slice_plan-in-Wide.ensures)
+    (rw (read_back w64 c.args.from c.ranges.from, read_back w64 c.args.to c.ranges.to, read_back w64 c.args.stride c.ranges.stride) at c.compute_slice_plan-in-Wide.ensures)
 
 pub plan_of_spec : {M : Type 1} → statement M
 plan_of_spec =

@@ -21,10 +21,10 @@ Z s = from s.args.zstart s.args.zbits.now
 -- ---- places: the start, from the first word
 
 abbrev begun : tie.After-word_at-listed → tie.Start
-begun w = w.before.before.before.before.before
+begun w = w
 
 word_at-listed-requires : tie.Need-word_at-listed-requires
-word_at-listed-requires c κs = let s = c.before.before.before.before in (s.requires.0.rows, s.requires.1)
+word_at-listed-requires c κs = (c.requires.0.rows, c.requires.1)
 
 word_at-from-requires : tie.Need-word_at-from-requires
 word_at-from-requires c κs = let s = begun c in (s.requires.0.first, s.requires.1)

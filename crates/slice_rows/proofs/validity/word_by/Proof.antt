@@ -9,13 +9,13 @@ abbrev B : tie.Start → Bits
 B s = from s.args.start s.args.bits.now
 
 returns-then-not-by : tie.Need-returns-then-not-by
-returns-then-not-by c = let s = c.before.before in all_ones (valid_if s.args.by (B s)) s.args.r s.args.left (no_strides s.args.by (B s) (not-true s.args.by c.if-not-by.true))
+returns-then-not-by c = all_ones (valid_if c.args.by (B c.before.before)) c.args.r c.args.left (no_strides c.args.by (B c.before.before) (not-true c.args.by c.if-not-by.true-raw))
 
 word_at-requires : tie.Need-word_at-requires
-word_at-requires c κs = let s = c.before.before in (s.requires.0 (not-false s.args.by c.if-not-by.false), s.requires.1)
+word_at-requires c κs = (c.requires.0 (not-false c.args.by c.if-not-by.false-raw), c.requires.1)
 
 returns : tie.Need-returns
-returns c = let s = c.before.before.before in rw (by_strides s.args.by (B s) s.args.r _ (not-false s.args.by c.if-not-by.false)) c.word_at.ensures
+returns c = rw (by_strides c.args.by (B c.before.before.before) c.args.r _ (not-false c.args.by c.if-not-by.false-raw)) c.word_at.ensures
 
 pub word_by_spec : {M : Type 1} → statement M
 word_by_spec =

@@ -24,7 +24,7 @@ abbrev decreases-loop-left : tie.decreases-loop-left
 decreases-loop-left values a n start stride count out₀ at p₀ left₀ k₀ out p left k = left
 
 abbrev S : tie.At-loop-left invariant-loop-left decreases-loop-left → tie.Start invariant-loop-left decreases-loop-left
-S l = l.before.before
+S l = l
 
 abbrev E : tie.Start invariant-loop-left decreases-loop-left → ℕ → Elem
 E s i = val (get_or s.args.values.now i (pos 0))
@@ -38,13 +38,13 @@ module _ (l : tie.At-loop-left invariant-loop-left decreases-loop-left) where
   going = rw (read_stride (S l)) at l.loop-left.invariant
 
   below : l.loop-left.p < (S l).args.n
-  below = here going _ (S l).pre.1.0.reach (omega arith)
+  below = here going _ (S l).requires.1.0.reach (omega arith)
 
   inside : (S l).args.a + l.loop-left.p < length (S l).args.values.now
-  inside = omega (arith, below, (S l).pre.0)
+  inside = omega (arith, below, (S l).requires.0)
 
   room_at : l.loop-left.k < length l.loop-left.out
-  room_at = value_room_lem going (omega arith) (S l).pre.1.1
+  room_at = value_room_lem going (omega arith) (S l).requires.1.1
 
   -- the value at the place of the walk
   value_is_lem : let s = S l in taken s.args.start s.args.stride (tab (E s) s.args.a s.args.n) (s.args.count - (l.loop-left.left + 1)) ≡ E s (s.args.a + l.loop-left.p)
@@ -52,9 +52,8 @@ module _ (l : tie.At-loop-left invariant-loop-left decreases-loop-left) where
 
 returns-then-count-eq0 : tie.Need-returns-then-count-eq0 invariant-loop-left decreases-loop-left
 returns-then-count-eq0 c =
-    let s = c.before in
-    let a = s.args in
-    (stop (begin a.start a.stride a.count (tab (E s) a.a a.n) a.at a.out.now []) (omega (arith, c))).values
+    let a = c.args in
+    (stop (begin a.start a.stride a.count (tab (E c.before) a.a a.n) a.at a.out.now []) (omega (arith, c))).values
 
 overflow_sub-left : tie.Need-overflow_sub-left invariant-loop-left decreases-loop-left
 overflow_sub-left c = omega arith
@@ -74,36 +73,33 @@ bounds-values-i : tie.Need-bounds-values-i invariant-loop-left decreases-loop-le
 bounds-values-i c = inside c.before
 
 offset_bounds-out-k : tie.Need-offset_bounds-out-k invariant-loop-left decreases-loop-left
-offset_bounds-out-k c = let r = room_at c.before.before in omega (arith, c.before.before, S c.before.before)
+offset_bounds-out-k c = let r = room_at c.before.before in omega (arith, c, S c.before.before)
 
 bounds-out-k : tie.Need-bounds-out-k invariant-loop-left decreases-loop-left
 bounds-out-k c = room_at c.before.before
 
 overflow_add-k : tie.Need-overflow_add-k invariant-loop-left decreases-loop-left
-overflow_add-k c = let r = room_at c.before.before in omega (arith, c.before.before, S c.before.before)
+overflow_add-k c = let r = room_at c.before.before in omega (arith, c, S c.before.before)
 
 overflow_sub-left-in-loop-left : tie.Need-overflow_sub-left-in-loop-left invariant-loop-left decreases-loop-left
-overflow_sub-left-in-loop-left c = omega (arith, c.before)
+overflow_sub-left-in-loop-left c = omega (arith, c)
 
 next_place-p-requires : tie.Need-next_place-p-requires invariant-loop-left decreases-loop-left
 next_place-p-requires c κs =
-    let i = c.before in
-    let s = S i.before in
-    rw (read_stride s) (follows (going i.before) _ s.requires.1.0.reach (omega (arith, i)) s.requires.1.0.small)
+    let s = S c.before.before in
+    rw (read_stride s) (follows (going c.before.before) _ s.requires.1.0.reach (omega (arith, c)) s.requires.1.0.small)
 
 loop-left-smaller : tie.Need-loop-left-smaller invariant-loop-left decreases-loop-left
-loop-left-smaller c = omega (arith, c.before.before)
+loop-left-smaller c = omega (arith, c)
 
 loop-left-preserved : tie.Need-loop-left-preserved invariant-loop-left decreases-loop-left
 unfolding value_of
 loop-left-preserved c =
-    let i = c.before.before in
-    let l = i.before in
-    let s = S l in
-    let e : l.loop-left.left - 1 + 1 ≡ l.loop-left.left + 1 - 1 = omega (arith, i) in
+    let s = S c.before.before.before in
+    let e : c.loop-left.left - 1 + 1 ≡ c.loop-left.left + 1 - 1 = omega (arith, c) in
     rw (read_stride s, e)
-    (turned (going l) (omega arith) (rw (value_is_lem l, back64 _ c.out-1.given)) (no_bits _ _)
-    (λ h. (rw (read_stride s) at c.next_place-p.ensures) ∙ next_is (going l) _ s.requires.1.0.reach h))
+    (turned (going c.before.before.before) (omega arith) (rw (value_is_lem c.before.before.before, back64 _ c.out-1.given)) (no_bits _ _)
+    (λ h. (rw (read_stride s) at c.next_place-p.ensures) ∙ next_is (going c.before.before.before) _ s.requires.1.0.reach h))
 
 overflow_add-i-2 : tie.Need-overflow_add-i-2 invariant-loop-left decreases-loop-left
 overflow_add-i-2 c = omega (arith, inside c.before, S c.before)
@@ -115,22 +111,22 @@ bounds-values-i-2 : tie.Need-bounds-values-i-2 invariant-loop-left decreases-loo
 bounds-values-i-2 c = inside c.before
 
 offset_bounds-out-k-2 : tie.Need-offset_bounds-out-k-2 invariant-loop-left decreases-loop-left
-offset_bounds-out-k-2 c = let r = room_at c.before.before in omega (arith, c.before.before, S c.before.before)
+offset_bounds-out-k-2 c = let r = room_at c.before.before in omega (arith, c, S c.before.before)
 
 bounds-out-k-2 : tie.Need-bounds-out-k-2 invariant-loop-left decreases-loop-left
 bounds-out-k-2 c = room_at c.before.before
 
 -- the walk with its last value written
-ended : (c : tie.After-loop-left invariant-loop-left decreases-loop-left) → let l = c.before in let s = S l in let a = s.args in
-    Going a.start a.stride a.count (tab (E s) a.a a.n) a.at a.out.now [] (l.loop-left.left + 1 - 1) (l.loop-left.k + 1) (set l.loop-left.out l.loop-left.k (get_or a.values.now (a.a + l.loop-left.p) (pos 0))) [] l.loop-left.p
+ended : (c : tie.After-loop-left invariant-loop-left decreases-loop-left) → let s = S c.before in let a = s.args in
+    Going a.start a.stride a.count (tab (E s) a.a a.n) a.at a.out.now [] (c.loop-left.left + 1 - 1) (c.loop-left.k + 1) (set c.loop-left.out c.loop-left.k (get_or a.values.now (a.a + c.loop-left.p) (pos 0))) [] c.loop-left.p
 unfolding value_of
-ended c = let l = c.before in turned (going l) (omega arith) (rw (value_is_lem l)) (no_bits _ _) (λ h. let z : ⊥ = omega (arith, c) in absurd z)
+ended c = turned (going c.before) (omega arith) (rw (value_is_lem c.before)) (no_bits _ _) (λ h. let z : ⊥ = omega (arith, c) in absurd z)
 
 shape_of-out : tie.Need-shape_of-out invariant-loop-left decreases-loop-left
 shape_of-out c = rw (back64 _ c.out-2-1.given) (ended c.before).writing.lv
 
 returns : tie.Need-returns invariant-loop-left decreases-loop-left
-returns c = rw (back64 _ c.out-2-1.given) (stop (ended c.before) (omega (arith, c.before))).values
+returns c = rw (back64 _ c.out-2-1.given) (stop (ended c.before) (omega (arith, c))).values
 
 pub copy_places_spec : {M : Type 1} → statement M
 copy_places_spec =

@@ -13,7 +13,7 @@ returns-then-left-eq0 : tie.Need-returns-then-left-eq0
 returns-then-left-eq0 c = λ h. let z : ⊥ = omega arith in absurd z
 
 next_place-requires : tie.Need-next_place-requires
-next_place-requires c κs = let s = c.before in rw (read_stride s) (s.requires (omega arith))
+next_place-requires c κs = rw (read_stride c.before) (c.requires (omega arith))
 
 returns : tie.Need-returns
 returns c = λ h. rw (read_stride c.before.before) at c.next_place.ensures

@@ -19,7 +19,7 @@ abbrev decreases-loop-left : tie.decreases-loop-left
 decreases-loop-left values elements estart a n start stride count out-values₀ out-elements₀ at p₀ left₀ k₀ out-values out-elements p left k = left
 
 abbrev S : tie.At-loop-left invariant-loop-left decreases-loop-left → tie.Start invariant-loop-left decreases-loop-left
-S l = l.before.before.before
+S l = l
 
 abbrev E : tie.Start invariant-loop-left decreases-loop-left → ℕ → Elem
 E s = elem_at s.args.values.now (from s.args.estart s.args.elements.now)
@@ -33,47 +33,44 @@ going : (l : tie.At-loop-left invariant-loop-left decreases-loop-left)
 going l = rw (read_stride (S l)) at l.loop-left.invariant
 
 below : (c : tie.In-loop-left invariant-loop-left decreases-loop-left) → c.loop-left.p < (S c.before).args.n
-below c = here (going c.before) _ (S c.before).pre.1.0.reach c.loop-left-test.true
+below c = here (going c.before) _ (S c.before).requires.1.0.reach c.loop-left-test.true
 
 loop-left-init : tie.Need-loop-left-init invariant-loop-left decreases-loop-left
 loop-left-init c = begin _ _ _ _ _ _ _
 
 overflow_add-i : tie.Need-overflow_add-i invariant-loop-left decreases-loop-left
-overflow_add-i c = omega (arith, c, below c, (S c.before).pre.0.inside)
+overflow_add-i c = omega (arith, c, below c, (S c.before).requires.0.inside)
 
 write_elem-requires : tie.Need-write_elem-requires invariant-loop-left decreases-loop-left
 write_elem-requires c κs =
-    let i = c.before.before in
-    let s = S i.before in
-    (omega (arith, below i, s.requires.0.inside), (s.requires.0.bits, room_for (going i.before) i.loop-left-test.true s.requires.1.1))
+    let s = S c.before.before.before in
+    (omega (arith, below c.before.before, s.requires.0.inside), (s.requires.0.bits, room_for (going c.before.before.before) c.loop-left-test.true s.requires.1.1))
 
 overflow_add-k : tie.Need-overflow_add-k invariant-loop-left decreases-loop-left
 overflow_add-k c =
-    let i = c.before.before.before.before.before.before in
-    let r = room_for (going i.before) i.loop-left-test.true (S i.before).pre.1.1 in
-    omega (arith, i, S i.before)
+    let r = room_for (going c.before.before.before.before.before.before.before) c.loop-left-test.true (S c.before.before.before.before.before.before.before).requires.1.1 in
+    omega (arith, c, S c.before.before.before.before.before.before.before)
 
 overflow_sub-left : tie.Need-overflow_sub-left invariant-loop-left decreases-loop-left
-overflow_sub-left c = omega (arith, c.before.before.before.before.before.before)
+overflow_sub-left c = omega (arith, c)
 
 place_after-p-requires : tie.Need-place_after-p-requires invariant-loop-left decreases-loop-left
 place_after-p-requires c κs =
-    λ h. let i = c.before.before.before.before.before.before in
-    let s = S i.before in
-    rw (read_stride s) (follows (going i.before) _ s.requires.1.0.reach h s.requires.1.0.small)
+    λ h. 
+    let s = S c.before.before.before.before.before.before.before in
+    rw (read_stride s) (follows (going c.before.before.before.before.before.before.before) _ s.requires.1.0.reach h s.requires.1.0.small)
 
 loop-left-smaller : tie.Need-loop-left-smaller invariant-loop-left decreases-loop-left
-loop-left-smaller c = omega (arith, c.before.before.before.before.before.before.before)
+loop-left-smaller c = omega (arith, c)
 
 loop-left-preserved : tie.Need-loop-left-preserved invariant-loop-left decreases-loop-left
 loop-left-preserved c =
     let w = c.write_elem in
-    let i = c.before.before.before.before.before.before.before in
-    let g = going i.before in
-    let s = S i.before in
-    let e = taken_is (E s) s.args.a s.args.n s.args.start s.args.stride _ _ (g.place i.loop-left-test.true) (below i) in
+    let g = going c.before.before.before.before.before.before.before.before in
+    let s = S c.before.before.before.before.before.before.before.before in
+    let e = taken_is (E s) s.args.a s.args.n s.args.start s.args.stride _ _ (g.place c.loop-left-test.true) (below c.before.before.before.before.before.before.before) in
     rw (read_stride s)
-    (turned g i.loop-left-test.true (rw e w.ensures.0) (rw e w.ensures.1)
+    (turned g c.loop-left-test.true (rw e w.ensures.0) (rw e w.ensures.1)
     (λ h. (rw (read_stride s) at (c.place_after-p.ensures h)) ∙ next_is g _ s.requires.1.0.reach h))
 
 shape_of-out_values : tie.Need-shape_of-out_values invariant-loop-left decreases-loop-left

@@ -10,9 +10,7 @@ read_stride s = read_back w64 s.args.stride s.ranges.stride
 
 write_plain_places-requires : tie.Need-write_plain_places-requires
 write_plain_places-requires c κs =
-    let t = c.before.before in
-    let s = t.before.before.before in
-    rw (read_stride s) (s.requires.0, (s.requires.1.0, (s.requires.1.1, t.if-elements-eq0.true)))
+    rw (read_stride c.before.before.before.before.before) (c.requires.0, (c.requires.1.0, (c.requires.1.1, c.if-elements-eq0.true)))
 
 shape_of-out_values-then-elements-eq0 : tie.Need-shape_of-out_values-then-elements-eq0
 shape_of-out_values-then-elements-eq0 c = search
@@ -22,12 +20,10 @@ shape_of-out_elements-then-elements-eq0 c = search
 
 returns-then-elements-eq0 : tie.Need-returns-then-elements-eq0
 returns-then-elements-eq0 c =
-    let w = c.before.before.before in
-    let s = w.before.before.before.before.before.before in
-    rw (read_stride s) at w.write_plain_places.ensures
+    rw (read_stride c.before.before.before.before.before.before.before.before.before) at c.write_plain_places.ensures
 
 write_each_place-requires : tie.Need-write_each_place-requires
-write_each_place-requires c κs = let s = c.before.before.before.before.before in rw (read_stride s) s.requires
+write_each_place-requires c κs = rw (read_stride c.before.before.before.before.before) c.requires
 
 shape_of-out_values : tie.Need-shape_of-out_values
 shape_of-out_values c = search
@@ -37,9 +33,7 @@ shape_of-out_elements c = search
 
 returns : tie.Need-returns
 returns c =
-    let w = c.before.before.before in
-    let s = w.before.before.before.before.before.before in
-    rw (read_stride s) at w.write_each_place.ensures
+    rw (read_stride c.before.before.before.before.before.before.before.before.before) at c.write_each_place.ensures
 
 pub write_places_spec : {M : Type 1} → statement M
 write_places_spec =

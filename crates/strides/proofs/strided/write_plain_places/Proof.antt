@@ -18,13 +18,13 @@ module _ (s : tie.Start) where
   room = places-room _ _ _ _ s.requires.1.1.0
 
 copy_places-requires : tie.Need-copy_places-requires
-copy_places-requires c κs = let s = c.before.before.before in rw (read_stride s) (s.requires.0.inside, (s.requires.1.0, (room s).0))
+copy_places-requires c κs = rw (read_stride c.before.before.before) (c.requires.0.inside, (c.requires.1.0, (room c.before.before.before).0))
 
 push_same-requires : tie.Need-push_same-requires
 push_same-requires c κs = (room c.before.before.before.before.before.before).1
 
 overflow_add-result : tie.Need-overflow_add-result
-overflow_add-result c = let s = c.before.before.before.before.before.before.before.before.before in omega (arith, room s, s)
+overflow_add-result c = omega (arith, room c.before.before.before.before.before.before.before.before.before, c)
 
 shape_of-out_values : tie.Need-shape_of-out_values
 shape_of-out_values c = search
@@ -34,12 +34,10 @@ shape_of-out_elements c = search
 
 returns : tie.Need-returns
 returns c =
-    let p = c.before.before in
-    let s = p.before.before.before.before.before.before.before in
-    let a = s.args in
-    plain-written a.values.now (from a.estart a.elements.now) s.requires.1.1.1 a.a a.n a.start a.stride a.count a.at s.requires.1.0.reach
-    (rw (read_stride s) at p.copy_places.ensures)
-    p.push_same.ensures
+    let a = c.args in
+    plain-written a.values.now (from a.estart a.elements.now) c.requires.1.1.1 a.a a.n a.start a.stride a.count a.at c.requires.1.0.reach
+    (rw (read_stride c.before.before.before.before.before.before.before.before.before) at c.copy_places.ensures)
+    c.push_same.ensures
 
 pub write_plain_places_spec : {M : Type 1} → statement M
 write_plain_places_spec =

@@ -33,7 +33,7 @@ module _ (s : tie.Start) where
 -- stride 1
 module _ (e : tie.Else-count-eq0) where
   abbrev S : tie.Start
-  S = e.before.before.before.before
+  S = e
 
   one : S.args.stride ≡ pos 1
   one = sym (read_stride S) ∙ ap (to_z w64) e.if-stride-ne1.false
@@ -48,7 +48,7 @@ module _ (e : tie.Else-count-eq0) where
   run = sliced_run S.args.a S.args.n S.args.start S.args.stride S.args.count one (S.requires.1.0.reach some) (E S)
 
 write_places-requires : tie.Need-write_places-requires
-write_places-requires c κs = let s = c.before.before.before.before.before in rw (read_stride s) s.requires
+write_places-requires c κs = rw (read_stride c.before.before.before.before.before) c.requires
 
 shape_of-out_values-then-stride-ne1 : tie.Need-shape_of-out_values-then-stride-ne1
 shape_of-out_values-then-stride-ne1 c = search
@@ -57,7 +57,7 @@ shape_of-out_elements-then-stride-ne1 : tie.Need-shape_of-out_elements-then-stri
 shape_of-out_elements-then-stride-ne1 c = search
 
 returns-then-stride-ne1 : tie.Need-returns-then-stride-ne1
-returns-then-stride-ne1 c = let s = c.before.before.before.before.before.before.before.before.before in rw (read_stride s) at c.write_places.ensures
+returns-then-stride-ne1 c = rw (read_stride c.before.before.before.before.before.before.before.before.before) at c.write_places.ensures
 
 returns-then-count-eq0 : tie.Need-returns-then-count-eq0
 returns-then-count-eq0 c = done (none c.before.before.before.before) (sliced-none _ _ _ _ c.if-count-eq0.true)
@@ -67,9 +67,8 @@ overflow_add-first c = omega (arith, inside c, S c, (S c).requires.0.inside)
 
 write_forward-requires : tie.Need-write_forward-requires
 write_forward-requires c κs =
-    let e = c.before.before in
-    let s = S e in
-    (record { inside = omega (arith, inside e, s.requires.0.inside); bits = s.requires.0.bits }, last-room (none s) _ (run e) s.requires.1.1)
+    let s = S c.before.before in
+    (record { inside = omega (arith, inside c.before.before, s.requires.0.inside); bits = s.requires.0.bits }, last-room (none s) _ (run c.before.before) s.requires.1.1)
 
 shape_of-out_values : tie.Need-shape_of-out_values
 shape_of-out_values c = search
@@ -79,9 +78,7 @@ shape_of-out_elements c = search
 
 returns : tie.Need-returns
 returns c =
-    let w = c.before.before.before in
-    let e = w.before.before.before in
-    last_written (none (S e)) _ (run e) w.write_forward.ensures
+    last_written (none (S c.before.before.before.before.before.before)) _ (run c.before.before.before.before.before.before) c.write_forward.ensures
 
 pub write_strided_spec : {M : Type 1} → statement M
 write_strided_spec =

@@ -24,9 +24,8 @@ bounds-next-at-2 c = search rules
 
 returns : tie.Need-returns
 returns c =
-    let e = c.before.before in
-    let a = e.args in
-    refused_stored a.station (tally_of a.self) e.if-station-gt15.false c.one_more.ensures
+    let a = c.args in
+    refused_stored a.station (tally_of a.self) c.if-station-gt15.false c.one_more.ensures
 
 pub with_refused_spec : {M : Type 1} → statement M
 with_refused_spec =

@@ -26,7 +26,7 @@ shape_of-limits : tie.Need-shape_of-limits
 shape_of-limits c = search rules
 
 returns-in-Of : tie.Need-returns-in-Of
-returns-in-Of c = let p = c.before.before in limit_made p.in-Of.is p.put_counts.ensures
+returns-in-Of c = limit_made c.in-Of.is c.put_counts.ensures
 
 pub put_limits_spec : {M : Type 1} → statement M
 put_limits_spec =

@@ -26,7 +26,7 @@ shape_of-lengths : tie.Need-shape_of-lengths
 shape_of-lengths c = search rules
 
 returns-in-Of : tie.Need-returns-in-Of
-returns-in-Of c = let p = c.before.before in list-made p.in-Of.is p.put_counts.ensures
+returns-in-Of c = list-made c.in-Of.is c.put_counts.ensures
 
 pub put_list_spec : {M : Type 1} → statement M
 put_list_spec =

@@ -26,7 +26,7 @@ shape_of-lengths : tie.Need-shape_of-lengths
 shape_of-lengths c = search rules
 
 returns-in-Of : tie.Need-returns-in-Of
-returns-in-Of c = let p = c.before.before in value_made_lem p.in-Of.is p.put_counts.ensures
+returns-in-Of c = value_made_lem c.in-Of.is c.put_counts.ensures
 
 pub put_values_spec : {M : Type 1} → statement M
 put_values_spec =

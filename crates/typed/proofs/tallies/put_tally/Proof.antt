@@ -14,9 +14,8 @@ slice_bounds-put_counts-end c = search rules
 
 put_counts-requires : tie.Need-put_counts-requires
 put_counts-requires c κs =
-    let s = c.before.before.before.before.before in
-    let f : length s.args.tally.finished ≡ 16 = search rules in
-    omega (arith, f, s.requires)
+    let f : length c.args.tally.finished ≡ 16 = search rules in
+    omega (arith, f, c.requires)
 
 slice_bounds-put_counts-end-2 : tie.Need-slice_bounds-put_counts-end-2
 slice_bounds-put_counts-end-2 c = search rules
@@ -27,31 +26,24 @@ slice_bounds-put_counts-count c = search rules
 slice_bounds-put_counts-start : tie.Need-slice_bounds-put_counts-start
 slice_bounds-put_counts-start c = search rules
 
-slice_bounds-put_counts-end : tie.Need-slice_bounds-put_counts-end
-slice_bounds-put_counts-end c = search rules
+slice_bounds-put_counts-end-3 : tie.Need-slice_bounds-put_counts-end-3
+slice_bounds-put_counts-end-3 c = search rules
 
 put_counts-requires-2 : tie.Need-put_counts-requires-2
 put_counts-requires-2 c κs =
-    let e = c.before.before.before.before in
-    let s = e.before.before.before.before.before.before in
-    let r : length s.args.tally.refused ≡ 16 = search rules in
-    part_room e.put_counts.new.1.0 (length s.args.tally.refused) r (rw e.put_counts.auto.s s.requires)
+    let r : length c.args.tally.refused ≡ 16 = search rules in
+    part_room c.put_counts.new.1.0 (length c.args.tally.refused) r (rw c.put_counts.auto.s c.requires)
 
 shape_of-s : tie.Need-shape_of-s
 shape_of-s c = search rules
 
 returns : tie.Need-returns
 returns c =
-    let e = c.before.before.before.before.before.before.before in
-    let s = e.before.before.before.before.before.before in
-    let a = s.args in
+    let a = c.args in
     let f : length a.tally.finished ≡ 16 = search rules in
-    let k = e.put_counts.auto.s in
-    behind a.tally.finished a.tally.refused a.s.now e.put_counts.new.1.0 c.put_counts-2.new.1.0 16
-    f (omega (arith, k, s.requires)) e.put_counts.ensures c.put_counts-2.ensures
-
-slice_bounds-put_counts-end-3 : tie.Need-slice_bounds-put_counts-end-3
-slice_bounds-put_counts-end-3 c = search rules
+    let k = c.put_counts.auto.s in
+    behind a.tally.finished a.tally.refused a.s.now c.put_counts.new.1.0 c.put_counts-2.new.1.0 16
+    f (omega (arith, k, c.requires)) c.put_counts.ensures c.put_counts-2.ensures
 
 pub put_tally_spec : {M : Type 1} → statement M
 put_tally_spec =

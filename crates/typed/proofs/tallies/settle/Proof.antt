@@ -16,15 +16,13 @@ returns-then-is_short c =
 
 put_tally-requires : tie.Need-put_tally-requires
 put_tally-requires c κs =
-    let e = c.before.before in
-    let a = e.args in
-    (long_enough (length a.counts.now) (length a.tally.now) (sym e.is_short.ensures ∙ e.if-is_short.false)).1
+    let a = c.args in
+    (long_enough (length a.counts.now) (length a.tally.now) (sym c.is_short.ensures ∙ c.if-is_short.false)).1
 
 put_list-requires : tie.Need-put_list-requires
 put_list-requires c κs =
-    let e = c.before.before.before.before.before.before in
-    let a = e.args in
-    (long_enough (length a.counts.now) (length a.tally.now) (sym e.is_short.ensures ∙ e.if-is_short.false)).0
+    let a = c.args in
+    (long_enough (length a.counts.now) (length a.tally.now) (sym c.is_short.ensures ∙ c.if-is_short.false)).0
 
 shape_of-counts : tie.Need-shape_of-counts
 shape_of-counts c = search rules
@@ -34,11 +32,8 @@ shape_of-tally c = search rules
 
 returns : tie.Need-returns
 returns c =
-    let p = c.before.before in
-    let t = p.before.before.before.before in
-    let e = t.before.before.before in
-    let b = sym e.is_short.ensures ∙ e.if-is_short.false in
-    record { told = long-told _ _ b p.put_list.ensures; tally = long-tally _ _ b t.put_tally.ensures }
+    let b = sym c.is_short.ensures ∙ c.if-is_short.false in
+    record { told = long-told _ _ b c.put_list.ensures; tally = long-tally _ _ b c.put_tally.ensures }
 
 pub settle_spec : {M : Type 1} → statement M
 settle_spec =

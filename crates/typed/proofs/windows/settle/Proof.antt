@@ -22,7 +22,7 @@ shape_of-counts c = search rules
 
 -- src/windows.rt:31:1
 returns : tie.Need-returns
-returns c = let p = c.before.before in long-told _ _ (le-ltb _ 4 p.if-counts-lt4.false) p.put_list.ensures
+returns c = long-told _ _ (le-ltb _ 4 c.if-counts-lt4.false) c.put_list.ensures
 
 pub settle_spec : {M : Type 1} → statement M
 settle_spec =

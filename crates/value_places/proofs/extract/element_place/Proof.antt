@@ -23,12 +23,12 @@ is_valid-requires : tie.Need-is_valid-requires
 is_valid-requires c κs = search
 
 overflow_add-result : tie.Need-overflow_add-result
-overflow_add-result c = let s = c.before.before.before in omega (arith, s.requires.1.1.1.0, s.requires.1.1.1.1, (limits-fit s.args.width).offset)
+overflow_add-result c = omega (arith, c.requires.1.1.1.0, c.requires.1.1.1.1, (limits-fit c.args.width).offset)
 
 returns-then-not-is_valid : tie.Need-returns-then-not-is_valid
 returns-then-not-is_valid c =
     let a = c.args in
-    sym (place_null (limits_at a.width) a.indexes.now (from a.istart a.index_bits.now) a.r a.a a.k (sym c.is_valid.ensures ∙ not-true _ c.if-not-is_valid.true))
+    sym (place_null (limits_at a.width) a.indexes.now (from a.istart a.index_bits.now) a.r a.a a.k (sym c.is_valid.ensures ∙ not-true _ c.if-not-is_valid.true-raw))
 
 offset_bounds-indexes-r : tie.Need-offset_bounds-indexes-r
 offset_bounds-indexes-r c = search rules
@@ -41,17 +41,15 @@ index_bound-requires c κs = search
 
 overflow_add-result-2 : tie.Need-overflow_add-result-2
 overflow_add-result-2 c =
-    let s = c.before.before.before.before.before in
-    let a = s.args in
-    omega (arith, ens c, place-most (limits_at a.width) a.k (get_or a.indexes.now a.r (pos 0)), s.requires.1.1.1.0, s.requires.1.1.1.1, (limits-fit a.width).offset)
+    let a = c.args in
+    omega (arith, ens c, place-most (limits_at a.width) a.k (get_or a.indexes.now a.r (pos 0)), c.requires.1.1.1.0, c.requires.1.1.1.1, (limits-fit a.width).offset)
 
 returns : tie.Need-returns
 returns c =
-    let e = c.before.before in
-    let a = e.args in
+    let a = c.args in
     let z = get_or a.indexes.now a.r (pos 0) in
     rw (ens c)
-    (sym (place_valid (limits_at a.width) a.indexes.now (from a.istart a.index_bits.now) a.r a.a a.k (sym e.is_valid.ensures ∙ not-false _ e.if-not-is_valid.false) ∙ bound_place_lem (index_bound (limits_at a.width) a.k z) a.a a.k))
+    (sym (place_valid (limits_at a.width) a.indexes.now (from a.istart a.index_bits.now) a.r a.a a.k (sym c.is_valid.ensures ∙ not-false _ c.if-not-is_valid.false-raw) ∙ bound_place_lem (index_bound (limits_at a.width) a.k z) a.a a.k))
 
 pub element_place_spec : {M : Type 1} → statement M
 element_place_spec =

@@ -20,34 +20,32 @@ loop-left-init : tie.Need-loop-left-init invariant-loop-left decreases-loop-left
 loop-left-init c = (refl, refl)
 
 is_valid-requires : tie.Need-is_valid-requires invariant-loop-left decreases-loop-left
-is_valid-requires c κs = let s = c.before.before.before in (s.requires.bits, omega (arith, c, s.requires.inside))
+is_valid-requires c κs = (c.requires.bits, omega (arith, c, c.requires.inside))
 
 returns-then-is_valid : tie.Need-returns-then-is_valid invariant-loop-left decreases-loop-left
 returns-then-is_valid c =
-    let i = c.before.before in
     let l = c.loop-left in
     let a = c.args in
     let E = elem_at a.values.now (from a.estart a.elements.now) in
     let v = is_val_elem a.values.now (from a.estart a.elements.now) l.p ∙ sym c.is_valid.ensures ∙ c.if-is_valid.true in
-    record { inside = omega (arith, i); found = found_here E l.p _ (omega (arith, i)) ∙ sym (first_now E l.p l.left i.loop-left-test.true v) ∙ l.invariant.0 }
+    record { inside = omega (arith, c); found = found_here E l.p _ (omega (arith, c)) ∙ sym (first_now E l.p l.left c.loop-left-test.true v) ∙ l.invariant.0 }
 
 overflow_add-p : tie.Need-overflow_add-p invariant-loop-left decreases-loop-left
-overflow_add-p c = omega (arith, c.before.before, c.requires.inside)
+overflow_add-p c = omega (arith, c, c.requires.inside)
 
 overflow_sub-left : tie.Need-overflow_sub-left invariant-loop-left decreases-loop-left
-overflow_sub-left c = omega (arith, c.before.before)
+overflow_sub-left c = omega (arith, c)
 
 loop-left-smaller : tie.Need-loop-left-smaller invariant-loop-left decreases-loop-left
-loop-left-smaller c = omega (arith, c.before.before)
+loop-left-smaller c = omega (arith, c)
 
 loop-left-preserved : tie.Need-loop-left-preserved invariant-loop-left decreases-loop-left
 loop-left-preserved c =
-    let i = c.before.before in
     let l = c.loop-left in
     let a = c.args in
     let E = elem_at a.values.now (from a.estart a.elements.now) in
     let v = is_val_elem a.values.now (from a.estart a.elements.now) l.p ∙ sym c.is_valid.ensures ∙ c.if-is_valid.false in
-    (sym (first_on E l.p l.left i.loop-left-test.true v) ∙ l.invariant.0, omega (arith, i))
+    (sym (first_on E l.p l.left c.loop-left-test.true v) ∙ l.invariant.0, omega (arith, c))
 
 returns : tie.Need-returns invariant-loop-left decreases-loop-left
 returns c =

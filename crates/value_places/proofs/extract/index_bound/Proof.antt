@@ -17,13 +17,11 @@ adjusted_array_index-requires-in-Wide c κs = rw c.in-Wide.is at c.requires
 
 returns-in-Narrow : tie.Need-returns-in-Narrow
 returns-in-Narrow c =
-    let s = c.before.before in
-    rw c.in-Narrow.is (rw (read_back w64 s.args.index s.ranges.index) at c.adjusted_array_index.ensures)
+    rw c.in-Narrow.is (rw (read_back w64 c.args.index c.ranges.index) at c.adjusted_array_index.ensures)
 
 returns-in-Wide : tie.Need-returns-in-Wide
 returns-in-Wide c =
-    let s = c.before.before in
-    rw c.in-Wide.is (rw (read_back w64 s.args.index s.ranges.index) at c.adjusted_array_index-in-Wide.ensures)
+    rw c.in-Wide.is (rw (read_back w64 c.args.index c.ranges.index) at c.adjusted_array_index-in-Wide.ensures)
 
 pub index_bound_spec : {M : Type 1} → statement M
 index_bound_spec =

@@ -16,7 +16,7 @@ is_valid-requires c κs = search
 returns-then-not-is_valid : tie.Need-returns-then-not-is_valid
 returns-then-not-is_valid c =
     let a = c.args in
-    sym (unfit_null narrow (from a.rstart a.rows.now) a.indexes.now (from a.istart a.index_bits.now) a.r (sym c.is_valid.ensures ∙ not-true _ c.if-not-is_valid.true))
+    sym (unfit_null narrow (from a.rstart a.rows.now) a.indexes.now (from a.istart a.index_bits.now) a.r (sym c.is_valid.ensures ∙ not-true _ c.if-not-is_valid.true-raw))
 
 is_valid-requires-2 : tie.Need-is_valid-requires-2
 is_valid-requires-2 c κs = search
@@ -24,7 +24,7 @@ is_valid-requires-2 c κs = search
 returns-then-not-is_valid-2 : tie.Need-returns-then-not-is_valid-2
 returns-then-not-is_valid-2 c =
     let a = c.args in
-    sym (unfit_index_null narrow (from a.rstart a.rows.now) a.indexes.now (from a.istart a.index_bits.now) a.r (sym c.is_valid.ensures ∙ not-false _ c.if-not-is_valid.false) (sym c.is_valid-2.ensures ∙ not-true _ c.if-not-is_valid-2.true))
+    sym (unfit_index_null narrow (from a.rstart a.rows.now) a.indexes.now (from a.istart a.index_bits.now) a.r (sym c.is_valid.ensures ∙ not-false _ c.if-not-is_valid.false-raw) (sym c.is_valid-2.ensures ∙ not-true _ c.if-not-is_valid-2.true-raw))
 
 offset_bounds-indexes-r : tie.Need-offset_bounds-indexes-r
 offset_bounds-indexes-r c = search rules
@@ -39,7 +39,7 @@ returns : tie.Need-returns
 returns c =
     let a = c.args in
     let f = rw (read_back w64 _ (record { sfits = c.fits_i32-arg-1.given })) at c.fits_i32.ensures in
-    ap not f ∙ sym (unfit_valid narrow (from a.rstart a.rows.now) a.indexes.now (from a.istart a.index_bits.now) a.r (sym c.is_valid.ensures ∙ not-false _ c.if-not-is_valid.false) (sym c.is_valid-2.ensures ∙ not-false _ c.if-not-is_valid-2.false))
+    ap not f ∙ sym (unfit_valid narrow (from a.rstart a.rows.now) a.indexes.now (from a.istart a.index_bits.now) a.r (sym c.is_valid.ensures ∙ not-false _ c.if-not-is_valid.false-raw) (sym c.is_valid-2.ensures ∙ not-false _ c.if-not-is_valid-2.false-raw))
 
 pub is_unfit_spec : {M : Type 1} → statement M
 is_unfit_spec =

@@ -4,7 +4,7 @@ use Rattle.value_walk.proofs.extract.write_found.Statement.{statement}
 use Rattle.value_walk.proofs.extract.write_found.Tie as tie
 
 write_elem-requires : tie.Need-write_elem-requires
-write_elem-requires c κs = let s = c.before.before.before.before.before in (omega (arith, c.if-i-end.true, s.requires.0), s.requires.1)
+write_elem-requires c κs = (omega (arith, c.if-i-end.true, c.requires.0), c.requires.1)
 
 shape_of-out_values-then-i-end : tie.Need-shape_of-out_values-then-i-end
 shape_of-out_values-then-i-end c = search

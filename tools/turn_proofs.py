@@ -96,7 +96,9 @@ def turn_chain(fn, env, root, comps):
         rest = comps[i + 1 :]
         if c in ("pre", "requires"):
             return name + ".requires" + "".join("." + x for x in rest), ("value", None, None)
-        if c in ("well-formed", "type-inv", "lifetimes"):
+        if c == "good":
+            c = "well_formed"
+        if c in ("well-formed", "well_formed", "type-inv", "lifetimes"):
             return name + "." + c.replace("-", "_") + "".join("." + x for x in rest), ("value", None, None)
         if c in ("args", "ranges", "fits"):
             return turn_args(name + "." + ("args" if c == "args" else "ranges"), rest)
@@ -292,7 +294,10 @@ def turn(fn, text, spec, landed):
                     r = results.get(head.group(1)) if head else None
                     n = norm(comps[0])
                     place = r is not None or n in ("before", "args", "ranges", "fits", "pre", "requires") or n in fn.steps
-                    new, _ = turn_chain(fn, {"@": ("place" if place else "value", r, "@")}, "@", comps)
+                    new, got = turn_chain(fn, {"@": ("place" if place else "value", r, "@")}, "@", comps)
+                    m = re.search(r"let ([\w'₀-₉]+) = $", src[:k])
+                    if m and re.match(r"\s+in\b", text[pos:]):
+                        env[m.group(1)] = got if got[0] != "place" else ("place", got[1], m.group(1))
                     done += ")" + new[1:]
                     continue
                 want = wants(root) if not comps else []
@@ -355,7 +360,18 @@ def turn(fn, text, spec, landed):
                         continue
                 done += new
 
-        out.append(go(b, env))
+        # a name for a place
+        for n, at in results.items():
+            m = re.search(r"(?m)^(\s*" + re.escape(n) + r"(?: [\w'κ₀-₉_]+)* =\s+)([\w'₀-₉]+)((?:\.before)*)\s*$", b)
+            if m and at is not None and env.get(m.group(2), ("", None))[0] == "place" and env[m.group(2)][1] is not None:
+                many = fn.many_up(env[m.group(2)][1], at)
+                if many is not None:
+                    b = b[: m.start()] + "@@" + b[m.end() :]
+                    put = m.group(1) + env[m.group(2)][2] + ".before" * many
+                    out.append(go(b, env).replace("@@", put))
+                    break
+        else:
+            out.append(go(b, env))
     text = "\n".join(out)
     def need(m):
         hit = asked(m.group(1))

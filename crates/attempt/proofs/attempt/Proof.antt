@@ -36,29 +36,21 @@ use Rattle.attempt.proofs.attempt.Tie as tie
 -- before them and after them
 
 abbrev S : tie.After-refusal-first → tie.Start
-S c = c
-
+S c = c.before.before.before.before.before.before.before.before.before.before.before.before.before.before
 abbrev F : tie.Else-k-ne0 → tie.After-refusal-first
-F e = e
-
+F e = e.before.before.before
 abbrev past : tie.After-start_from-r_start → tie.Else-k-ne0
-past t = t
-
+past t = t.before.before.before.before
 abbrev list : tie.After-start_from-x_start → tie.After-start_from-r_start
-list t = t
-
+list t = t.before.before.before.before.before.before.before.before
 abbrev none : tie.After-copy-arg-then-count-eq0-4-1 → tie.Then-count-eq0
-none c = c
-
+none c = c.before.before.before.before.before
 abbrev copied : tie.After-out_large-1 → tie.After-copy
-copied c = c
-
+copied c = c.before.before.before.before.before.before.before
 abbrev ready : tie.After-steps-arg-16-1 → tie.After-start_from-x_start
-ready c = c
-
+ready c = c.before.before.before.before.before.before.before.before.before.before.before.before.before.before.before.before
 abbrev went : tie.After-out_large-2-1 → tie.After-steps
-went c = c
-
+went c = c.before.before.before.before.before.before.before.before.before.before.before.before.before.before.before.before.before.before.before.before.before
 -- ---- columns, and the lengths of the trays and the output
 
 abbrev C : tie.Start → Column
@@ -136,8 +128,7 @@ first_count e = let s = S (F e) in part_count (C s) s.args.begin s.args.end (wit
 
 -- the second list, where the arguments are cut too
 abbrev second : tie.After-start_from-x_start → tie.After-start_from-rr_start
-second t = t
-
+second t = t.before.before.before
 second-cut : (t : tie.After-start_from-x_start) → let s = S (F (past (list t))) in let a = s.args in let u = second t in column (used a.width u.offsets_of-ro.result.now u.large_of-rl.result.now) (from u.start_from-rr_start.result u.bits_from-rr.result.now) a.rvalues.now (from a.r_estart a.relements.now) ≡ part (D s) a.begin a.end
 second-cut t =
     let s = S (F (past (list t))) in
@@ -190,7 +181,7 @@ start_from-r_start-requires : tie.Need-start_from-r_start-requires
 start_from-r_start-requires c κs = (first_reads c.before.before.before).rows.small
 
 copy-requires : tie.Need-copy-requires
-copy-requires c κs = let t = (none c) in rw (first-cut t) (first_part (past t))
+copy-requires c κs = let t = (none c) in rw (first-cut t.before) (first_part (past t.before))
 
 shape_of-out_offsets-then-count-eq0 : tie.Need-shape_of-out_offsets-then-count-eq0
 shape_of-out_offsets-then-count-eq0 c = (copied c).copy.auto.out_offsets

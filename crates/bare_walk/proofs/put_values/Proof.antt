@@ -5,17 +5,13 @@ use Rattle.bare_walk.proofs.put_values.Tie as tie
 
 -- the places that are used below: the start of each arm, and the arm of a call that is made
 abbrev start : tie.After-one_less-k → tie.Start
-start p = p
-
+start p = p.before
 abbrev backward : tie.After-copy_backward-arg-1 → tie.In-Reverse
-backward p = p
-
+backward p = p.before
 abbrev front : tie.After-copy_values-arg-1 → tie.In-PopFront
-front p = p
-
+front p = p.before
 abbrev last : tie.After-copy_values-arg-in-PopBack-1 → tie.In-PopBack
-last p = p
-
+last p = p.before
 one_less-k-requires : tie.Need-one_less-k-requires
 one_less-k-requires c κs = search
 
@@ -50,7 +46,7 @@ overflow_add-a c = omega (arith, c.one_less-k.ensures, (start c.before).requires
 copy_values-requires : tie.Need-copy_values-requires
 copy_values-requires c κs =
     let o = (front c) in
-    let s = start o in
+    let s = start o.before in
     let a = s.args in
     (omega (arith, o.one_less-k.ensures, s.requires.1.0), omega (arith, o.one_less-k.ensures, front_length a.op a.values.now a.a a.n (front c).in-PopFront.is, s.requires.1.1))
 
@@ -67,7 +63,7 @@ enum_told-in-PopBack c = search
 copy_values-requires-in-PopBack : tie.Need-copy_values-requires-in-PopBack
 copy_values-requires-in-PopBack c κs =
     let o = (last c) in
-    let s = start o in
+    let s = start o.before in
     let a = s.args in
     (omega (arith, o.one_less-k.ensures, s.requires.1.0), omega (arith, o.one_less-k.ensures, last-length a.op a.values.now a.a a.n (last c).in-PopBack.is, s.requires.1.1))
 

@@ -34,8 +34,7 @@ O s = used s.args.width s.args.out_offsets.now s.args.out_large.now
 -- ---- places: the first offset put and the start, from the loop; a turn's offset read and its values written, from what comes after
 
 abbrev put : tie.At-loop-left invariant-loop-left decreases-loop-left → tie.After-put_offset invariant-loop-left decreases-loop-left
-put l = l
-
+put l = l.before.before.before.before
 abbrev counted : tie.At-loop-left invariant-loop-left decreases-loop-left → tie.After-row_count-n invariant-loop-left decreases-loop-left
 counted l = (put l)
 
@@ -46,14 +45,12 @@ abbrev count : tie.At-loop-left invariant-loop-left decreases-loop-left → ℕ
 count l = (counted l).row_count-n.result
 
 abbrev written : tie.After-put_offset-arg-in-loop-left-2-1 invariant-loop-left decreases-loop-left → tie.After-put_values-at invariant-loop-left decreases-loop-left
-written p = p
-
+written p = p.before.before.before
 abbrev turned : tie.After-out_large-in-loop-left-1 invariant-loop-left decreases-loop-left → tie.After-put_values-at invariant-loop-left decreases-loop-left
 turned p = written p.before.before.before
 
 abbrev looked : tie.After-put_values-at invariant-loop-left decreases-loop-left → tie.After-offset_at-b invariant-loop-left decreases-loop-left
-looked w = w
-
+looked w = w.before.before
 abbrev W : tie.At-loop-left invariant-loop-left decreases-loop-left → ℕ → Row
 W l = let s = S l in bare_at s.args.op (I s) s.args.values.now
 

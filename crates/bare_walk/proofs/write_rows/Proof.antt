@@ -13,17 +13,13 @@ I s = used s.args.width s.args.offsets.now s.args.large.now
 -- ---- places: the rows counted, offsets and values written, and the bits of the rows
 
 abbrev begun : tie.After-row_count-n → tie.Start
-begun p = p
-
+begun p = p.before.before.before
 abbrev counted : tie.After-write_bare-m → tie.After-row_count-n
-counted p = p
-
+counted p = p.before.before.before.before
 abbrev written : tie.After-push_same → tie.After-write_bare-m
-written p = p
-
+written p = p.before.before.before.before.before
 abbrev set : tie.After-slice_known-4-1 → tie.After-push_same
-set p = p
-
+set p = p.before.before.before.before.before.before
 row_count-n-requires : tie.Need-row_count-n-requires
 row_count-n-requires c κs = search
 

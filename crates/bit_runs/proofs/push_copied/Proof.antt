@@ -13,14 +13,11 @@ decreases-loop-left bitmap k s n out₀ at j₀ p₀ left₀ out j p left = left
 
 -- from the end of a turn, from the loop, and from after it
 abbrev Turn : tie.After-slice_known-in-loop-left-1 invariant-loop-left decreases-loop-left → tie.In-loop-left invariant-loop-left decreases-loop-left
-Turn c = c
-
+Turn c = c.before.before.before.before.before
 abbrev Began : tie.At-loop-left invariant-loop-left decreases-loop-left → tie.Start invariant-loop-left decreases-loop-left
-Began c = c
-
+Began c = c.before.before.before
 abbrev Over : tie.After-slice_known-2-1 invariant-loop-left decreases-loop-left → tie.At-loop-left invariant-loop-left decreases-loop-left
-Over c = c
-
+Over c = c.before.before.before.before.before
 loop-left-init : tie.Need-loop-left-init invariant-loop-left decreases-loop-left
 loop-left-init c = forward_begun _ _ _ _ _ _
 

@@ -6,8 +6,7 @@ use Rattle.bit_words.proofs.four_at.Statement.{statement}
 use Rattle.bit_words.proofs.four_at.Tie as tie
 
 abbrev start : tie.After-pair_at-2 → tie.Start
-start c = c
-
+start c = c.before.before.before
 pair_at-requires : tie.Need-pair_at-requires
 pair_at-requires c κs = omega arith
 

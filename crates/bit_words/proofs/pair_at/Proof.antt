@@ -8,8 +8,7 @@ use Rattle.bit_words.proofs.pair_at.Statement.{statement}
 use Rattle.bit_words.proofs.pair_at.Tie as tie
 
 abbrev first : tie.After-wide-2 → tie.After-wide
-first c = c
-
+first c = c.before.before
 abbrev start : tie.After-wide-2 → tie.Start
 start c = (first c)
 

@@ -11,18 +11,14 @@ use Rattle.bit_words.proofs.push_word.Tie as tie
 
 -- after all of the word is put, and where the place was tested
 abbrev whole : tie.After-slice_known-then-s-eq0-1 → tie.After-put_word
-whole c = c
-
+whole c = c.before.before
 abbrev even : tie.After-put_word → tie.Then-s-eq0
-even c = c
-
+even c = c.before.before
 -- after the bits past the byte begun are put, and where the place was tested
 abbrev rest : tie.After-slice_known-3-1 → tie.After-put_word-2
-rest c = c
-
+rest c = c.before.before
 abbrev begun : tie.After-put_word-2 → tie.Else-s-eq0
-begun c = c
-
+begun c = c.before.before.before
 put_word-requires : tie.Need-put_word-requires
 put_word-requires c κs = omega (arith, c.if-s-eq0.true)
 
@@ -33,7 +29,7 @@ returns-then-s-eq0 : tie.Need-returns-then-s-eq0
 returns-then-s-eq0 c =
     let a = (even (whole c)).args in
     let e : 8 * (a.at / 8) ≡ a.at = omega (arith, (even (whole c)).if-s-eq0.true) in
-    (whole c).put_word.ensures ∙ ap (λ (r : ℕ). push_bits a.out-1.now r (low_bits a.word 64)) e
+    (whole c).put_word.ensures ∙ ap (λ (r : ℕ). push_bits a.out.now r (low_bits a.word 64)) e
 
 bounds-out-k : tie.Need-bounds-out-k
 bounds-out-k c = omega arith

@@ -7,11 +7,9 @@ use Rattle.bit_words.proofs.word_from.Statement.{statement}
 use Rattle.bit_words.proofs.word_from.Tie as tie
 
 abbrev start : tie.After-word_at → tie.Start
-start c = c
-
+start c = c.before.before
 abbrev word : tie.After-wide → tie.After-word_at
-word c = c
-
+word c = c.before.before.before
 word_at-requires : tie.Need-word_at-requires
 word_at-requires c κs = omega arith
 

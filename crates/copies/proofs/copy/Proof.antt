@@ -20,11 +20,9 @@ use Rattle.copies.proofs.copy.Tie as tie
 -- ---- places: the start; room found, from the rows written
 
 abbrev S : tie.After-has_room → tie.Start
-S h = h
-
+S h = h.before.before.before.before.before.before.before.before
 abbrev roomed : tie.After-write_rows → tie.Else-not-has_room
-roomed w = w
-
+roomed w = w.before.before.before.before.before.before
 -- ---- the column, its rows, and the lengths of the output
 
 abbrev C : tie.Start → Column
@@ -44,7 +42,7 @@ rows_are : (h : tie.After-has_room) → h.row_count-n.result ≡ length (W (S h)
 rows_are h = h.row_count-n.ensures ∙ sym (length-rows (C (S h)))
 
 slots : (h : tie.After-has_room) → h.pick.result ≡ length (O (S h))
-slots h = let a = (S h).args in h.pick.ensures ∙ sym (used-length a.width a.out_offsets-1.now a.out_large-1.now)
+slots h = let a = (S h).args in h.pick.ensures ∙ sym (used-length a.width a.out_offsets.now a.out_large.now)
 
 room_is : (h : tie.After-has_room) → h.has_room.result ≡ fits_in (length (W (S h))) (length (flat (W (S h)))) (L (S h))
 room_is h = rw (slots h) at h.has_room.ensures ∙ same_fit (L (S h)) (rows_are h) h.measure_rows-m.ensures.0

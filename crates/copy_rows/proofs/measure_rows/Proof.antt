@@ -23,8 +23,7 @@ abbrev C : tie.Start invariant-loop-left decreases-loop-left → Column
 C s = let a = s.args in column (used a.width a.offsets.now a.large.now) (from a.rstart a.rows.now) a.values.now (from a.estart a.elements.now)
 
 abbrev S : tie.At-loop-left invariant-loop-left decreases-loop-left → tie.Start invariant-loop-left decreases-loop-left
-S l = l
-
+S l = l.before.before.before.before
 row_count-n-requires : tie.Need-row_count-n-requires invariant-loop-left decreases-loop-left
 row_count-n-requires c κs = search rules
 

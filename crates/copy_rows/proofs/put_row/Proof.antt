@@ -9,11 +9,9 @@ use Rattle.copy_rows.proofs.put_row.Tie as tie
 -- ---- places: whether the row is valid and the start; how long it is, from its elements written
 
 abbrev S : tie.After-is_valid-valid → tie.Start
-S v = v
-
+S v = v.before.before.before.before.before
 abbrev told : tie.After-write_forward-next → tie.After-row_len-len
-told w = w
-
+told w = w.before.before.before
 -- ---- needs
 
 is_valid-valid-requires : tie.Need-is_valid-valid-requires

@@ -9,11 +9,9 @@ use Rattle.duthlan.proofs.duthlan_typed_list.Tie as tie
 -- ---- places: the counts told, the operation run, the counts found long enough, the operation named, the code looked up
 
 abbrev told : tie.After-slice_known-in-Of-3-1 → tie.After-put_list
-told c = c
-
+told c = c.before.before
 abbrev ran : tie.After-slice_known-in-Of-3-1 → tie.After-run-answer
-ran c = c
-
+ran c = c.before.before.before.before.before.before.before.before.before.before
 abbrev long : tie.After-slice_known-in-Of-3-1 → tie.Else-counts-lt4
 long c = (ran c)
 

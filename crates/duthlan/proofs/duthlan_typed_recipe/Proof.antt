@@ -8,8 +8,7 @@ use Rattle.duthlan.proofs.duthlan_typed_recipe.Tie as tie
 -- ---- places: the answer told, the recipe run, the station chosen, the tally read, the start
 
 abbrev told : tie.After-slice_known-16-1 → tie.After-settle
-told c = c
-
+told c = c.before.before.before.before
 abbrev ran : tie.After-slice_known-16-1 → tie.After-run_recipe-done
 ran c = let p = (told c) in p
 
@@ -82,7 +81,7 @@ returns c =
     let h = (chosen c).station_for-named.ensures in (
       record {
         list = recipe-told _ _ _ _ refl _ h m.0 s.told;
-        tally = tally-told _ _ refl _ _ h s.tally-1 m.1.1.1 (got c).get_tally-before.ensures;
+        tally = tally-told _ _ refl _ _ h s.tally m.1.1.1 (got c).get_tally-before.ensures;
       },
       (m.1.0, m.1.1.0),
     )

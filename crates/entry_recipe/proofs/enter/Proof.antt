@@ -17,77 +17,59 @@ use Rattle.entry_recipe.proofs.enter.Tie as tie
 
 -- the places that are used below
 abbrev put-list-of-slice-known32 : tie.After-slice_known-28-1 → tie.After-put_list
-put-list-of-slice-known32 p = p
-
+put-list-of-slice-known32 p = p.before.before.before.before.before.before
 abbrev clear-four2-of-slice-known22 : tie.After-slice_known-then-k-ne0-4-1 → tie.After-clear_four-then-k-ne0
-clear-four2-of-slice-known22 p = p
-
+clear-four2-of-slice-known22 p = p.before.before.before.before.before.before.before.before
 abbrev run-arg3-of-run-arg6 : tie.After-run-arg-6-1 → tie.After-run-arg-3-1
-run-arg3-of-run-arg6 p = p
-
+run-arg3-of-run-arg6 p = p.before.before.before.before.before
 abbrev else1-of-run-arg3 : tie.After-run-arg-3-1 → tie.Else-k-ne0
-else1-of-run-arg3 p = p
-
+else1-of-run-arg3 p = p.before.before.before.before
 abbrev else1-of-run-arg6 : tie.After-run-arg-6-1 → tie.Else-k-ne0
 else1-of-run-arg6 p = else1-of-run-arg3 (run-arg3-of-run-arg6 p)
 
 abbrev one-rows-of-slice-known22 : tie.After-slice_known-then-k-ne0-4-1 → tie.After-one_rows-1
-one-rows-of-slice-known22 p = p
-
+one-rows-of-slice-known22 p = p.before.before.before.before.before.before.before
 abbrev then1-of-one-rows : tie.After-one_rows-1 → tie.Then-k-ne0
-then1-of-one-rows p = p
-
+then1-of-one-rows p = p.before.before.before.before.before.before
 abbrev then1-of-slice-known22 : tie.After-slice_known-then-k-ne0-4-1 → tie.Then-k-ne0
 then1-of-slice-known22 p = then1-of-one-rows (one-rows-of-slice-known22 p)
 
 abbrev put-list-arg3-of-slice-known32 : tie.After-slice_known-28-1 → tie.After-put_list-arg-3-1
-put-list-arg3-of-slice-known32 p = p
-
+put-list-arg3-of-slice-known32 p = p.before.before.before.before.before.before.before
 abbrev put-tally-of-put-list-arg3 : tie.After-put_list-arg-3-1 → tie.After-put_tally
-put-tally-of-put-list-arg3 p = p
-
+put-tally-of-put-list-arg3 p = p.before.before.before.before.before.before.before
 abbrev put-tally-of-slice-known32 : tie.After-slice_known-28-1 → tie.After-put_tally
 put-tally-of-slice-known32 p = put-tally-of-put-list-arg3 (put-list-arg3-of-slice-known32 p)
 
 abbrev clear-four-of-else1 : tie.Else-k-ne0 → tie.After-clear_four
-clear-four-of-else1 p = p
-
+clear-four-of-else1 p = p.before.before.before.before.before.before.before.before.before
 abbrev recipe-refusal-of-clear-four : tie.After-clear_four → tie.After-recipe_refusal-k
-recipe-refusal-of-clear-four p = p
-
+recipe-refusal-of-clear-four p = p.before.before.before.before.before.before.before.before.before
 abbrev recipe-refusal-of-else1 : tie.Else-k-ne0 → tie.After-recipe_refusal-k
 recipe-refusal-of-else1 p = recipe-refusal-of-clear-four (clear-four-of-else1 p)
 
 abbrev two-values-of-clear-four2 : tie.After-clear_four-then-k-ne0 → tie.After-two_values-1
-two-values-of-clear-four2 p = p
-
+two-values-of-clear-four2 p = p.before.before.before.before.before.before.before
 abbrev clear-four-of-two-values : tie.After-two_values-1 → tie.After-clear_four
-clear-four-of-two-values p = p
-
+clear-four-of-two-values p = p.before.before.before.before.before.before.before
 abbrev clear-four-of-slice-known22 : tie.After-slice_known-then-k-ne0-4-1 → tie.After-clear_four
 clear-four-of-slice-known22 p = clear-four-of-two-values (two-values-of-clear-four2 (clear-four2-of-slice-known22 p))
 
 abbrev get-tally-of-run-arg6 : tie.After-run-arg-6-1 → tie.After-get_tally-before
-get-tally-of-run-arg6 p = p
-
+get-tally-of-run-arg6 p = p.before.before.before.before.before.before.before.before
 abbrev one-values-of-get-tally : tie.After-get_tally-before → tie.After-one_values-1
-one-values-of-get-tally p = p
-
+one-values-of-get-tally p = p.before.before.before.before.before.before.before
 abbrev values-in2-of-one-values : tie.After-one_values-1 → tie.After-values_in-iv
-values-in2-of-one-values p = p
-
+values-in2-of-one-values p = p.before.before.before.before.before.before.before.before
 abbrev values-in2-of-run-arg6 : tie.After-run-arg-6-1 → tie.After-values_in-iv
 values-in2-of-run-arg6 p = values-in2-of-one-values (one-values-of-get-tally (get-tally-of-run-arg6 p))
 
 abbrev put-tally-arg-of-put-list-arg3 : tie.After-put_list-arg-3-1 → tie.After-put_tally-arg-1
-put-tally-arg-of-put-list-arg3 p = p
-
+put-tally-arg-of-put-list-arg3 p = p.before.before.before.before.before.before.before.before
 abbrev slice-known26-of-put-tally-arg : tie.After-put_tally-arg-1 → tie.After-slice_known-22-1
-slice-known26-of-put-tally-arg p = p
-
+slice-known26-of-put-tally-arg p = p.before.before.before.before.before.before.before.before
 abbrev run-of-slice-known26 : tie.After-slice_known-22-1 → tie.After-run-done
-run-of-slice-known26 p = p
-
+run-of-slice-known26 p = p.before.before.before.before.before.before.before.before
 abbrev run-of-put-list-arg3 : tie.After-put_list-arg-3-1 → tie.After-run-done
 run-of-put-list-arg3 p = run-of-slice-known26 (slice-known26-of-put-tally-arg (put-tally-arg-of-put-list-arg3 p))
 
@@ -98,8 +80,7 @@ abbrev slice-known15-of-get-tally-arg : tie.After-get-tally-arg → tie.After-sl
 slice-known15-of-get-tally-arg p = p
 
 abbrev offsets-in2-of-slice-known15 : tie.After-slice_known-15-1 → tie.After-offsets_in-io
-offsets-in2-of-slice-known15 p = p
-
+offsets-in2-of-slice-known15 p = p.before.before.before.before.before.before.before.before
 abbrev offsets-in2-of-run-arg6 : tie.After-run-arg-6-1 → tie.After-offsets_in-io
 offsets-in2-of-run-arg6 p = offsets-in2-of-slice-known15 (slice-known15-of-get-tally-arg (get-tally-arg-of-run-arg6 p))
 
@@ -107,38 +88,30 @@ abbrev one-offsets-of-get-tally-arg : tie.After-get-tally-arg → tie.After-one_
 one-offsets-of-get-tally-arg p = p
 
 abbrev values-in-of-one-offsets : tie.After-one_offsets-1 → tie.After-values_in-hv
-values-in-of-one-offsets p = p
-
+values-in-of-one-offsets p = p.before.before.before.before.before.before.before.before
 abbrev values-in-of-run-arg6 : tie.After-run-arg-6-1 → tie.After-values_in-hv
 values-in-of-run-arg6 p = values-in-of-one-offsets (one-offsets-of-get-tally-arg (get-tally-arg-of-run-arg6 p))
 
 abbrev offsets-in-of-one-offsets : tie.After-one_offsets-1 → tie.After-offsets_in-ho
-offsets-in-of-one-offsets p = p
-
+offsets-in-of-one-offsets p = p.before.before.before.before.before.before.before.before.before
 abbrev offsets-in-of-run-arg6 : tie.After-run-arg-6-1 → tie.After-offsets_in-ho
 offsets-in-of-run-arg6 p = offsets-in-of-one-offsets (one-offsets-of-get-tally-arg (get-tally-arg-of-run-arg6 p))
 
 abbrev two-elements2-of-put-tally-arg : tie.After-put_tally-arg-1 → tie.After-two_elements-2-1
-two-elements2-of-put-tally-arg p = p
-
+two-elements2-of-put-tally-arg p = p.before.before.before.before.before.before.before.before.before
 abbrev v-of-two-elements2 : tie.After-two_elements-2-1 → tie.After-v-1
-v-of-two-elements2 p = p
-
+v-of-two-elements2 p = p.before.before.before.before.before.before.before.before.before
 abbrev else1-of-v : tie.After-v-1 → tie.Else-k-ne0
-else1-of-v p = p
-
+else1-of-v p = p.before.before.before.before.before.before.before.before
 abbrev else1-of-put-tally-arg : tie.After-put_tally-arg-1 → tie.Else-k-ne0
 else1-of-put-tally-arg p = else1-of-v (v-of-two-elements2 (two-elements2-of-put-tally-arg p))
 
 abbrev slice-known17-of-clear-four2 : tie.After-clear_four-then-k-ne0 → tie.After-slice_known-17-1
-slice-known17-of-clear-four2 p = p
-
+slice-known17-of-clear-four2 p = p.before.before.before.before.before.before.before.before
 abbrev clear-four-arg3-of-slice-known17 : tie.After-slice_known-17-1 → tie.After-clear_four-arg-3-1
-clear-four-arg3-of-slice-known17 p = p
-
+clear-four-arg3-of-slice-known17 p = p.before.before.before.before.before.before.before.before
 abbrev recipe-refusal-of-clear-four-arg3 : tie.After-clear_four-arg-3-1 → tie.After-recipe_refusal-k
-recipe-refusal-of-clear-four-arg3 p = p
-
+recipe-refusal-of-clear-four-arg3 p = p.before.before.before.before.before.before.before
 abbrev recipe-refusal-of-slice-known22 : tie.After-slice_known-then-k-ne0-4-1 → tie.After-recipe_refusal-k
 recipe-refusal-of-slice-known22 p = recipe-refusal-of-clear-four-arg3 (clear-four-arg3-of-slice-known17 (slice-known17-of-clear-four2 (clear-four2-of-slice-known22 p)))
 
@@ -149,17 +122,13 @@ abbrev else1-of-put-list-arg3 : tie.After-put_list-arg-3-1 → tie.Else-k-ne0
 else1-of-put-list-arg3 p = else1-of-put-tally-arg p.before.before.before.before.before.before.before.before
 
 abbrev put-list-arg2-of-slice-known32 : tie.After-slice_known-28-1 → tie.After-put_list-arg-2-1
-put-list-arg2-of-slice-known32 p = p
-
+put-list-arg2-of-slice-known32 p = p.before.before.before.before.before.before.before.before
 abbrev after-of-put-list-arg2 : tie.After-put_list-arg-2-1 → tie.After-after-1
-after-of-put-list-arg2 p = p
-
+after-of-put-list-arg2 p = p.before.before.before.before.before.before.before.before
 abbrev two-elements2-of-after : tie.After-after-1 → tie.After-two_elements-2-1
-two-elements2-of-after p = p
-
+two-elements2-of-after p = p.before.before.before.before.before.before.before.before
 abbrev run-arg6-of-two-elements2 : tie.After-two_elements-2-1 → tie.After-run-arg-6-1
-run-arg6-of-two-elements2 p = p
-
+run-arg6-of-two-elements2 p = p.before.before.before.before.before.before.before.before
 abbrev get-tally-of-slice-known32 : tie.After-slice_known-28-1 → tie.After-get_tally-before
 get-tally-of-slice-known32 p = get-tally-of-run-arg6 (run-arg6-of-two-elements2 (two-elements2-of-after (after-of-put-list-arg2 (put-list-arg2-of-slice-known32 p))))
 
@@ -167,35 +136,26 @@ abbrev else1-of-slice-known32 : tie.After-slice_known-28-1 → tie.Else-k-ne0
 else1-of-slice-known32 p = else1-of-put-list-arg3 p.before.before.before.before.before.before.before
 
 abbrev slice-known6-of-recipe-refusal : tie.After-recipe_refusal-k → tie.After-slice_known-6-1
-slice-known6-of-recipe-refusal p = p
-
+slice-known6-of-recipe-refusal p = p.before.before.before.before.before.before.before.before.before
 abbrev shared-slice-known8-of-slice-known6 : tie.After-slice_known-6-1 → tie.After-shared_slice_known-8-1
-shared-slice-known8-of-slice-known6 p = p
-
+shared-slice-known8-of-slice-known6 p = p.before.before.before.before.before.before.before.before.before
 abbrev start-of-shared-slice-known8 : tie.After-shared_slice_known-8-1 → tie.Start
-start-of-shared-slice-known8 p = p
-
+start-of-shared-slice-known8 p = p.before.before.before.before.before.before.before.before
 abbrev start-of-else1 : tie.Else-k-ne0 → tie.Start
 start-of-else1 p = start-of-shared-slice-known8 (shared-slice-known8-of-slice-known6 (slice-known6-of-recipe-refusal (recipe-refusal-of-clear-four (clear-four-of-else1 p))))
 
 abbrev put-list-arg-of-slice-known32 : tie.After-slice_known-28-1 → tie.After-put_list-arg-1
-put-list-arg-of-slice-known32 p = p
-
+put-list-arg-of-slice-known32 p = p.before.before.before.before.before.before.before.before.before
 abbrev out-elements-of-put-list-arg : tie.After-put_list-arg-1 → tie.After-out_elements-1
-out-elements-of-put-list-arg p = p
-
+out-elements-of-put-list-arg p = p.before.before.before.before.before.before.before.before.before
 abbrev slice-known24-of-out-elements : tie.After-out_elements-1 → tie.After-slice_known-20-1
-slice-known24-of-out-elements p = p
-
+slice-known24-of-out-elements p = p.before.before.before.before.before.before.before.before.before
 abbrev o-of-slice-known24 : tie.After-slice_known-20-1 → tie.After-o-1
-o-of-slice-known24 p = p
-
+o-of-slice-known24 p = p.before.before.before.before.before.before.before.before
 abbrev slice-known18-of-o : tie.After-o-1 → tie.After-slice_known-18-1
-slice-known18-of-o p = p
-
+slice-known18-of-o p = p.before.before.before.before.before.before.before
 abbrev clear-four-of-slice-known18 : tie.After-slice_known-18-1 → tie.After-clear_four
-clear-four-of-slice-known18 p = p
-
+clear-four-of-slice-known18 p = p.before.before.before.before.before.before.before.before
 abbrev clear-four-of-slice-known32 : tie.After-slice_known-28-1 → tie.After-clear_four
 clear-four-of-slice-known32 p = clear-four-of-slice-known18 (slice-known18-of-o (o-of-slice-known24 (slice-known24-of-out-elements (out-elements-of-put-list-arg (put-list-arg-of-slice-known32 p)))))
 
@@ -203,14 +163,11 @@ abbrev values-in2-of-slice-known32 : tie.After-slice_known-28-1 → tie.After-va
 values-in2-of-slice-known32 p = values-in2-of-one-values (one-values-of-get-tally (get-tally-of-run-arg6 (run-arg6-of-two-elements2 (two-elements2-of-after (after-of-put-list-arg2 (put-list-arg2-of-slice-known32 p))))))
 
 abbrev slice-known28-of-put-list-arg : tie.After-put_list-arg-1 → tie.After-slice_known-24-1
-slice-known28-of-put-list-arg p = p
-
+slice-known28-of-put-list-arg p = p.before.before.before.before.before.before.before.before
 abbrev slice-known25-of-slice-known28 : tie.After-slice_known-24-1 → tie.After-slice_known-21-1
-slice-known25-of-slice-known28 p = p
-
+slice-known25-of-slice-known28 p = p.before.before.before.before.before.before.before.before
 abbrev v-of-slice-known25 : tie.After-slice_known-21-1 → tie.After-v-1
-v-of-slice-known25 p = p
-
+v-of-slice-known25 p = p.before.before.before.before.before.before.before.before
 abbrev get-tally-arg-of-v : tie.After-v-1 → tie.After-get-tally-arg
 get-tally-arg-of-v p = p
 
@@ -218,38 +175,29 @@ abbrev offsets-in2-of-slice-known32 : tie.After-slice_known-28-1 → tie.After-o
 offsets-in2-of-slice-known32 p = offsets-in2-of-slice-known15 (slice-known15-of-get-tally-arg (get-tally-arg-of-v (v-of-slice-known25 (slice-known25-of-slice-known28 (slice-known28-of-put-list-arg (put-list-arg-of-slice-known32 p))))))
 
 abbrev two-rows2-of-out-elements : tie.After-out_elements-1 → tie.After-two_rows-2-1
-two-rows2-of-out-elements p = p
-
+two-rows2-of-out-elements p = p.before.before.before.before.before.before.before.before
 abbrev run-arg5-of-two-rows2 : tie.After-two_rows-2-1 → tie.After-run-arg-5-1
-run-arg5-of-two-rows2 p = p
-
+run-arg5-of-two-rows2 p = p.before.before.before.before.before.before.before.before
 abbrev else1-of-run-arg5 : tie.After-run-arg-5-1 → tie.Else-k-ne0
-else1-of-run-arg5 p = p
-
+else1-of-run-arg5 p = p.before.before.before.before.before.before.before
 abbrev one-offsets-of-else1 : tie.Else-k-ne0 → tie.After-one_offsets-1
-one-offsets-of-else1 p = p
-
+one-offsets-of-else1 p = p.before.before.before.before.before.before.before.before
 abbrev values-in-of-slice-known32 : tie.After-slice_known-28-1 → tie.After-values_in-hv
 values-in-of-slice-known32 p = values-in-of-one-offsets (one-offsets-of-else1 (else1-of-run-arg5 (run-arg5-of-two-rows2 (two-rows2-of-out-elements (out-elements-of-put-list-arg (put-list-arg-of-slice-known32 p))))))
 
 abbrev offsets-in-of-clear-four : tie.After-clear_four → tie.After-offsets_in-ho
-offsets-in-of-clear-four p = p
-
+offsets-in-of-clear-four p = p.before.before.before.before.before.before.before.before
 abbrev offsets-in-of-slice-known32 : tie.After-slice_known-28-1 → tie.After-offsets_in-ho
 offsets-in-of-slice-known32 p = offsets-in-of-clear-four (clear-four-of-slice-known18 (slice-known18-of-o (o-of-slice-known24 (slice-known24-of-out-elements (out-elements-of-put-list-arg (put-list-arg-of-slice-known32 p))))))
 
 abbrev run-arg4-of-slice-known24 : tie.After-slice_known-20-1 → tie.After-run-arg-4-1
-run-arg4-of-slice-known24 p = p
-
+run-arg4-of-slice-known24 p = p.before.before.before.before.before.before.before.before.before
 abbrev two-values-of-run-arg4 : tie.After-run-arg-4-1 → tie.After-two_values-1
-two-values-of-run-arg4 p = p
-
+two-values-of-run-arg4 p = p.before.before.before.before.before.before.before
 abbrev clear-four-arg4-of-two-values : tie.After-two_values-1 → tie.After-clear_four-arg-4-1
-clear-four-arg4-of-two-values p = p
-
+clear-four-arg4-of-two-values p = p.before.before.before.before.before.before.before.before
 abbrev recipe-refusal-of-clear-four-arg4 : tie.After-clear_four-arg-4-1 → tie.After-recipe_refusal-k
-recipe-refusal-of-clear-four-arg4 p = p
-
+recipe-refusal-of-clear-four-arg4 p = p.before.before.before.before.before.before.before.before
 abbrev recipe-refusal-of-slice-known32 : tie.After-slice_known-28-1 → tie.After-recipe_refusal-k
 recipe-refusal-of-slice-known32 p = recipe-refusal-of-clear-four-arg4 (clear-four-arg4-of-two-values (two-values-of-run-arg4 (run-arg4-of-slice-known24 (slice-known24-of-out-elements (out-elements-of-put-list-arg (put-list-arg-of-slice-known32 p))))))
 
@@ -259,9 +207,9 @@ S e = start-of-else1 e
 abbrev ss : tie.Else-k-ne0 → List Numbers
 ss e =
     let a = (S e).args in
-    ((recipe_sizes (length a.numbers.now) (length a.arguments.now) ++ pair_sizes (length a.offsets.now) (length a.values.now) (length a.second-offsets.now) (length a.second-values.now))
-    ++ pair_sizes (length a.one_offsets-1.now) (length a.one_values-1.now) (length a.two_offsets-1.now) (length a.two_values-1.now))
-    ++ list_sizes (length a.out_offsets-1.now) (length a.out_values-1.now)
+    ((recipe_sizes (length a.numbers.now) (length a.arguments.now) ++ pair_sizes (length a.offsets.now) (length a.values.now) (length a.second_offsets.now) (length a.second_values.now))
+    ++ pair_sizes (length a.one_offsets.now) (length a.one_values.now) (length a.two_offsets.now) (length a.two_values.now))
+    ++ list_sizes (length a.out_offsets.now) (length a.out_values.now)
 
 -- the sizes have passed
 passed : (e : tie.Else-k-ne0) → (256 ≤ length (S e).args.tally.now) × Sized (ss e) (length (S e).args.counts.now) 32
@@ -337,7 +285,7 @@ run-done-requires : tie.Need-run-done-requires
 run-done-requires c κs =
     let e = else1-of-run-arg6 c in
     let a = (S e).args in
-    let f = all_fit (length a.numbers.now) (length a.arguments.now) (length a.offsets.now) (length a.values.now) (length a.second-offsets.now) (length a.second-values.now) (length a.one_offsets-1.now) (length a.one_values-1.now) (length a.two_offsets-1.now) (length a.two_values-1.now) (length a.out_offsets-1.now) (length a.out_values-1.now) (passed e).1.fit in
+    let f = all_fit (length a.numbers.now) (length a.arguments.now) (length a.offsets.now) (length a.values.now) (length a.second_offsets.now) (length a.second_values.now) (length a.one_offsets.now) (length a.one_values.now) (length a.two_offsets.now) (length a.two_values.now) (length a.out_offsets.now) (length a.out_values.now) (passed e).1.fit in
     (f.0, (trays_fit (offsets-in-of-run-arg6 c).offsets_in-ho.ensures (values-in-of-run-arg6 c).values_in-hv.ensures (offsets-in2-of-run-arg6 c).offsets_in-io.ensures (values-in2-of-run-arg6 c).values_in-iv.ensures f.1, (f.2.offsets, f.2.values)))
 
 put_tally-requires : tie.Need-put_tally-requires
@@ -353,7 +301,7 @@ put_list-requires : tie.Need-put_list-requires
 put_list-requires c κs =
     let e = else1-of-put-list-arg3 c in
     let a = (S e).args in
-    let f = all_fit (length a.numbers.now) (length a.arguments.now) (length a.offsets.now) (length a.values.now) (length a.second-offsets.now) (length a.second-values.now) (length a.one_offsets-1.now) (length a.one_values-1.now) (length a.two_offsets-1.now) (length a.two_values-1.now) (length a.out_offsets-1.now) (length a.out_values-1.now) (passed e).1.fit in
+    let f = all_fit (length a.numbers.now) (length a.arguments.now) (length a.offsets.now) (length a.values.now) (length a.second_offsets.now) (length a.second_values.now) (length a.one_offsets.now) (length a.one_values.now) (length a.two_offsets.now) (length a.two_values.now) (length a.out_offsets.now) (length a.out_values.now) (passed e).1.fit in
     let r = (run-of-put-list-arg3 c).run-done in
     ready r.ensures.0 (rw r.kept.1.1.1.1.1.1.1.1.1.1.1.1.1.1.1.1.1.1.1.1.1.1.1.1.1.1.1.1.1.0 f.2.offsets) (rw r.kept.1.1.1.1.1.1.1.1.1.1.1.1.1.1.1.1.1.1.1.1.1.1.1.1.1.1.1.1.1.1.1.0 f.2.values) refl refl (passed e).1.counts
 

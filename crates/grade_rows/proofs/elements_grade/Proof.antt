@@ -15,11 +15,9 @@ decreases-loop-left k values elements estart a n seen₀ run₀ p₀ left₀ see
 -- ---- places: the loop's start, and what a turn begins with
 
 abbrev S : tie.At-loop-left invariant-loop-left decreases-loop-left → tie.Start invariant-loop-left decreases-loop-left
-S l = l
-
+S l = l.before.before
 abbrev In : tie.After-run_after-run invariant-loop-left decreases-loop-left → tie.In-loop-left invariant-loop-left decreases-loop-left
-In r = r
-
+In r = r.before.before
 -- ---- needs
 
 loop-left-init : tie.Need-loop-left-init invariant-loop-left decreases-loop-left

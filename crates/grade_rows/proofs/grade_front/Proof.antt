@@ -15,11 +15,9 @@ use Rattle.grade_rows.proofs.grade_front.Tie as tie
 -- ---- places: an answer that counts, the start, what is cut
 
 abbrev S : tie.Else-not-is_made → tie.Start
-S e = e
-
+S e = e.before.before.before.before.before
 abbrev counts : tie.After-bytes_for-element_bytes → tie.Else-not-is_made
-counts b = b
-
+counts b = b.before.before.before.before
 made : (e : tie.Else-not-is_made) → is_made (S e).args.answer ≡ true
 made e = sym e.is_made.ensures ∙ not-false _ e.if-not-is_made.false-raw
 

@@ -23,8 +23,7 @@ decreases-loop-r k offsets rows rstart values elements estart grades₀ n r₀ g
 -- ---- places: the start, the column, the row that a turn grades
 
 abbrev S : tie.At-loop-r invariant-loop-r decreases-loop-r → tie.Start invariant-loop-r decreases-loop-r
-S l = l
-
+S l = l.before.before.before.before.before
 abbrev C : tie.At-loop-r invariant-loop-r decreases-loop-r → Column
 C l = let a = (S l).args in column a.offsets.now (from a.rstart a.rows.now) a.values.now (from a.estart a.elements.now)
 
@@ -32,13 +31,12 @@ abbrev rows_are : (l : tie.At-loop-r invariant-loop-r decreases-loop-r) → l.ro
 rows_are l = l.row_count-n.ensures
 
 abbrev In : tie.After-row_grade invariant-loop-r decreases-loop-r → tie.In-loop-r invariant-loop-r decreases-loop-r
-In g = g
-
+In g = g.before.before.before
 -- the grade that a turn writes is row r's
-graded : (g : tie.After-row_grade invariant-loop-r decreases-loop-r) → let l = (In g) in g.row_grade.result ≡ grade_of (S l).args.k (row_at (C l) l.loop-r.r)
+graded : (g : tie.After-row_grade invariant-loop-r decreases-loop-r) → let l = (In g) in g.row_grade.result ≡ grade_of (S l.before).args.k (row_at (C l.before) l.loop-r.r)
 graded g =
     let l = (In g) in
-    g.row_grade.ensures ∙ ap (grade_of (S l).args.k) (row_from_lem (C l) l.loop-r.r _ _ g.offset_at-a.ensures.0 g.offset_at-b.ensures.0)
+    g.row_grade.ensures ∙ ap (grade_of (S l.before).args.k) (row_from_lem (C l.before) l.loop-r.r _ _ g.offset_at-a.ensures.0 g.offset_at-b.ensures.0)
 
 -- ---- needs
 
@@ -52,7 +50,7 @@ offset_at-a-requires : tie.Need-offset_at-a-requires invariant-loop-r decreases-
 offset_at-a-requires c κs = omega (arith, c.loop-r-test.true, rows_are c.before)
 
 overflow_add-r : tie.Need-overflow_add-r invariant-loop-r decreases-loop-r
-overflow_add-r c = omega (arith, c.loop-r-test.true, rows_are c.before.before, (S c.before.before).good)
+overflow_add-r c = omega (arith, c.loop-r-test.true, rows_are c.before.before, (S c.before.before).well_formed)
 
 offset_at-b-requires : tie.Need-offset_at-b-requires invariant-loop-r decreases-loop-r
 offset_at-b-requires c κs = omega (arith, c.loop-r-test.true, rows_are c.before.before)
@@ -64,7 +62,7 @@ bounds-grades-r : tie.Need-bounds-grades-r invariant-loop-r decreases-loop-r
 bounds-grades-r c = let i = In c in omega (arith, i.loop-r-test.true, rows_are i, (S i).requires.1.1, i.loop-r.invariant.same)
 
 overflow_add-r-in-loop-r : tie.Need-overflow_add-r-in-loop-r invariant-loop-r decreases-loop-r
-overflow_add-r-in-loop-r c = let i = In c in omega (arith, i.loop-r-test.true, rows_are i, (S i).good)
+overflow_add-r-in-loop-r c = let i = In c in omega (arith, i.loop-r-test.true, rows_are i, (S i).well_formed)
 
 loop-r-smaller : tie.Need-loop-r-smaller invariant-loop-r decreases-loop-r
 loop-r-smaller c = omega (arith, (In c).loop-r-test.true)

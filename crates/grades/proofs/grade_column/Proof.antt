@@ -16,17 +16,15 @@ use Rattle.grades.proofs.grade_column.Tie as tie
 -- ---- places: the start, the column, 12 and 9, the column's own refusals
 
 abbrev S : tie.After-early_refusal-early → tie.Start
-S e = e
-
+S e = e.before.before.before.before
 abbrev C : tie.After-early_refusal-early → Column
-C e = let a = (S e).args in column a.offsets.now (from a.rows_start a.rows.now) a.values.now (from a.elements-start a.elements.now)
+C e = let a = (S e).args in column a.offsets.now (from a.rows_start a.rows.now) a.values.now (from a.elements_start a.elements.now)
 
 early : (e : tie.After-early_refusal-early) → e.early_refusal-early.result ≡ grade_refusal (S e).args.k (rows_of (C e)) (length (S e).args.grades.now)
 early e = early_is (S e).args.k (C e) (length (S e).args.grades.now) e.early_refusal-early.ensures
 
 abbrev passed : tie.After-refusal_in-number → tie.Else-early-ne0
-passed r = r
-
+passed r = r.before.before
 own : (r : tie.After-refusal_in-number) → r.refusal_in-number.result ≡ columns_refusal (C (passed r) ∷ []) []
 own r = r.refusal_in-number.ensures ∙ column-refusal _ (C (passed r)) r.general_array_any_value_lengths-lengths.ensures
 

@@ -12,19 +12,16 @@ use Rattle.grades.proofs.grade_recipe.Tie as tie
 -- ---- places: the answer told, the recipe run, the station chosen, the start
 
 abbrev told : tie.After-after-1 → tie.After-answer_for-answer
-told c = c
-
+told c = c.before.before.before.before.before
 abbrev ran : tie.After-answer_for-answer → tie.After-run_recipe-done
-ran t = t
-
+ran t = t.before.before.before.before.before.before.before.before.before.before.before.before.before.before.before.before.before.before.before
 abbrev named : tie.After-run_recipe-done → tie.After-station_for-named
-named r = r
-
+named r = r.before.before.before.before.before.before.before.before.before.before.before.before.before
 abbrev S : tie.After-run_recipe-done → tie.Start
 S r = (named r)
 
 abbrev C : tie.After-run_recipe-done → Column
-C r = let a = (S r).args in column a.offsets.now (from a.rows_start a.rows.now) a.values.now (from a.elements-start a.elements.now)
+C r = let a = (S r).args in column a.offsets.now (from a.rows_start a.rows.now) a.values.now (from a.elements_start a.elements.now)
 
 early : (r : tie.After-run_recipe-done) → (named r).early_refusal-early.result ≡ grade_refusal (S r).args.k (rows_of (C r)) (length (S r).args.grades.now)
 early r = early_is (S r).args.k (C r) (length (S r).args.grades.now) (named r).early_refusal-early.ensures

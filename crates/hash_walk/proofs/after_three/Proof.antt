@@ -33,14 +33,11 @@ W s = hash_rows s.args.op (C s) (D s)
 -- ---- places: the start, from the test for 14, the rows measured, that test passed, and the test itself, from the one for 8
 
 abbrev S : tie.After-is_short → tie.Start
-S k = k
-
+S k = k.before.before.before.before.before.before.before.before.before
 abbrev measured : tie.After-op_refusal-long → tie.After-measure_pairs-m
-measured u = u
-
+measured u = u.before.before.before
 abbrev enough : tie.After-op_refusal-long → tie.Else-is_short
-enough u = u
-
+enough u = u.before.before.before.before.before
 abbrev U : tie.After-op_refusal-long → tie.Start
 U u = S (enough u)
 

@@ -35,20 +35,16 @@ D s = let a = s.args in column a.roffsets.now (from a.r_rstart a.rrows.now) a.rv
 -- ---- places
 
 abbrev put : tie.At-loop-left invariant-loop-left decreases-loop-left → tie.After-put_offset invariant-loop-left decreases-loop-left
-put l = l
-
+put l = l.before.before
 abbrev S : tie.At-loop-left invariant-loop-left decreases-loop-left → tie.Start invariant-loop-left decreases-loop-left
 S l = (put l)
 
 abbrev L : tie.After-offset_at-d invariant-loop-left decreases-loop-left → tie.At-loop-left invariant-loop-left decreases-loop-left
-L q = q
-
+L q = q.before.before.before.before.before
 abbrev pair : tie.After-put_offset-arg-in-loop-left-1 invariant-loop-left decreases-loop-left → tie.After-put_pair-at invariant-loop-left decreases-loop-left
-pair p = p
-
+pair p = p.before.before.before.before.before.before.before.before
 abbrev read : tie.After-put_pair-at invariant-loop-left decreases-loop-left → tie.After-offset_at-d invariant-loop-left decreases-loop-left
-read w = w
-
+read w = w.before.before.before.before.before
 abbrev turn : tie.After-out_offsets-in-loop-left-1 invariant-loop-left decreases-loop-left → tie.In-loop-left invariant-loop-left decreases-loop-left
 turn c = (read (pair c.before.before))
 

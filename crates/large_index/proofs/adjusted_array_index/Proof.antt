@@ -20,8 +20,7 @@ read_len s = to_z_pos w64 (omega (arith, s.requires))
 -- the place that was found
 module _ (c : tie.After-index_place-at) where
   abbrev start : tie.Start
-  start = c
-
+  start = c.before
   at_small : SFits w64 c.index_place-at.result
   at_small = record { sfits = c.index_place-at.type_inv }
 

@@ -50,11 +50,9 @@ M s = room_for (row_count (C s).offsets) (length (flat (W s)))
 -- ---- places: the early refusals; and the start
 
 abbrev early-of : tie.After-total-total → tie.After-early-k
-early-of t = t
-
+early-of t = t.before.before
 abbrev S : tie.After-early-k → tie.Start
-S e = e
-
+S e = e.before.before.before.before.before.before
 -- the early refusals have passed
 begun : (t : tie.After-total-total) → let s = S (early-of t) in Begun s.args.op (C s) (X s) (Y s) (Z s)
 begun t = (early-of t).early-k.ensures.1 t.if-k-ne0.false
@@ -88,7 +86,7 @@ lengths_for-requires : tie.Need-lengths_for-requires
 lengths_for-requires c κs =
     let s = S (early-of c.before.before) in
     let a = s.args in
-    omega (arith, c.row_count.ensures, used-below 18446744073709551616 a.width a.offsets.now a.large.now (omega (arith, s.good.1.0)) (omega (arith, s.good.1.1.1.1.1.1.1.1.1.1.1)))
+    omega (arith, c.row_count.ensures, used-below 18446744073709551616 a.width a.offsets.now a.large.now (omega (arith, s.well_formed.1.0)) (omega (arith, s.well_formed.1.1.1.1.1.1.1.1.1.1.1)))
 
 returns-in-Refused : tie.Need-returns-in-Refused
 unfolding asked_list

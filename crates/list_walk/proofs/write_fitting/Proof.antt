@@ -45,23 +45,19 @@ W s = call_rows (N s) s.args.op (C s) (X s) (Y s) (Z s)
 
 -- the places that are used below
 abbrev has-room-of-write-rows-arg5 : tie.After-write_rows-arg-5-1 → tie.After-has_room
-has-room-of-write-rows-arg5 p = p
-
+has-room-of-write-rows-arg5 p = p.before.before.before.before.before.before
 abbrev write-rows-of-list-answer-arg2 : tie.After-list-answer-arg2 → tie.After-write_rows
 write-rows-of-list-answer-arg2 p = p
 
 abbrev start-of-has-room : tie.After-has_room → tie.Start
-start-of-has-room p = p
-
+start-of-has-room p = p.before.before.before.before.before.before.before.before.before.before
 abbrev write-rows-of-list-answer : tie.After-list_answer → tie.After-write_rows
-write-rows-of-list-answer p = p
-
+write-rows-of-list-answer p = p.before.before.before.before.before.before.before.before
 abbrev out-rows-of-list-answer-arg2 : tie.After-list-answer-arg2 → tie.After-out_rows-1
 out-rows-of-list-answer-arg2 p = p
 
 abbrev else1-of-out-rows : tie.After-out_rows-1 → tie.Else-not-has_room
-else1-of-out-rows p = p
-
+else1-of-out-rows p = p.before.before.before.before.before.before.before.before
 abbrev else1-of-list-answer-arg2 : tie.After-list-answer-arg2 → tie.Else-not-has_room
 else1-of-list-answer-arg2 p = else1-of-out-rows (out-rows-of-list-answer-arg2 p)
 
@@ -76,7 +72,7 @@ rows_are : (h : tie.After-has_room) → h.row_count-n.result ≡ length (W (S h)
 rows_are h = let s = S h in h.row_count-n.ensures ∙ sym (length-call (N s) s.args.op (C s) (X s) (Y s) (Z s))
 
 slots : (h : tie.After-has_room) → h.pick.result ≡ length (O (S h))
-slots h = let a = (S h).args in h.pick.ensures ∙ sym (used-length a.width a.out_offsets-1.now a.out_large-1.now)
+slots h = let a = (S h).args in h.pick.ensures ∙ sym (used-length a.width a.out_offsets.now a.out_large.now)
 
 room_is : (h : tie.After-has_room) → h.has_room.result ≡ fits_in (length (W (S h))) (length (flat (W (S h)))) (L (S h))
 room_is h = rw (slots h) at h.has_room.ensures ∙ same_fit (L (S h)) (rows_are h) (S h).requires.1.1.0

@@ -25,50 +25,35 @@ Z s = arguments s.args.zs.now (from s.args.zstart s.args.zbits.now)
 -- ---- places: the start, from what comes before the match; what a kind's walk was told, from what is lent to it, and from its end
 
 abbrev S : tie.After-slice_known-2-1 → tie.Start
-S k = k
-
+S k = k.before.before.before.before.before.before.before
 abbrev plain_of : tie.After-write_rows-arg-in-Plain-4-1 → tie.In-Plain-2
-plain_of c = c
-
+plain_of c = c.before.before.before.before.before
 abbrev told2 : tie.After-write_rows-arg-in-Slice-5-1 → tie.In-Slice
-told2 c = c
-
+told2 c = c.before.before.before.before.before
 abbrev told3 : tie.After-write_rows-arg-in-SliceBy-5-1 → tie.In-SliceBy
-told3 c = c
-
+told3 c = c.before.before.before.before.before
 abbrev told4 : tie.After-write_rows-arg-in-Resize-5-1 → tie.In-Resize
-told4 c = c
-
+told4 c = c.before.before.before.before.before
 abbrev told5 : tie.After-write_rows-arg-in-ResizeWith-5-1 → tie.In-ResizeWith
-told5 c = c
-
+told5 c = c.before.before.before.before.before
 abbrev told6 : tie.After-write_rows-arg-in-Replace-5-1 → tie.In-Replace
-told6 c = c
-
+told6 c = c.before.before.before.before.before
 abbrev told7 : tie.After-write_rows-arg-in-Remove-5-1 → tie.In-Remove
-told7 c = c
-
+told7 c = c.before.before.before.before.before
 abbrev lent1 : tie.After-out_large-1 → tie.After-write_rows-arg-in-Plain-4-1
-lent1 c = c
-
+lent1 c = c.before.before.before.before.before.before.before.before
 abbrev lent2 : tie.After-out_large-in-Slice-1 → tie.After-write_rows-arg-in-Slice-5-1
-lent2 c = c
-
+lent2 c = c.before.before.before.before.before.before.before.before
 abbrev lent3 : tie.After-out_large-in-SliceBy-1 → tie.After-write_rows-arg-in-SliceBy-5-1
-lent3 c = c
-
+lent3 c = c.before.before.before.before.before.before.before.before
 abbrev lent4 : tie.After-out_large-in-Resize-1 → tie.After-write_rows-arg-in-Resize-5-1
-lent4 c = c
-
+lent4 c = c.before.before.before.before.before.before.before.before
 abbrev lent5 : tie.After-out_large-in-ResizeWith-1 → tie.After-write_rows-arg-in-ResizeWith-5-1
-lent5 c = c
-
+lent5 c = c.before.before.before.before.before.before.before.before
 abbrev lent6 : tie.After-out_large-in-Replace-1 → tie.After-write_rows-arg-in-Replace-5-1
-lent6 c = c
-
+lent6 c = c.before.before.before.before.before.before.before.before
 abbrev lent7 : tie.After-out_large-in-Remove-1 → tie.After-write_rows-arg-in-Remove-5-1
-lent7 c = c
-
+lent7 c = c.before.before.before.before.before.before.before.before
 -- ---- needs
 
 enum_known-op : tie.Need-enum_known-op

@@ -22,11 +22,9 @@ module _ (l : tie.At-loop-left invariant-loop-left decreases-loop-left) where
   room = turning_room l.loop-left.invariant l.requires.1.1
 
 abbrev I : tie.After-out-1 invariant-loop-left decreases-loop-left → tie.In-loop-left invariant-loop-left decreases-loop-left
-I c = c
-
+I c = c.before.before.before.before
 abbrev L : tie.After-out-2-1 invariant-loop-left decreases-loop-left → tie.At-loop-left invariant-loop-left decreases-loop-left
-L c = c
-
+L c = c.before.before.before.before
 loop-left-init : tie.Need-loop-left-init invariant-loop-left decreases-loop-left
 loop-left-init c = turning_begun
 

@@ -10,14 +10,11 @@ use Rattle.nullable_runs.proofs.put_short.Tie as tie
 -- ---- places: the start and the bits read, from what comes after
 
 abbrev start : tie.After-few_at-few → tie.Start
-start p = p
-
+start p = p.before.before.before
 abbrev few-of-nulls : tie.After-put_few → tie.After-few_at-few
-few-of-nulls p = p
-
+few-of-nulls p = p.before.before
 abbrev nulls-of-pushed : tie.After-push_few → tie.After-put_few
-nulls-of-pushed p = p
-
+nulls-of-pushed p = p.before.before.before
 few_at-few-requires : tie.Need-few_at-few-requires
 few_at-few-requires c κs = let p = c.requires in (p.0, (p.1.0, (p.1.1.0, p.1.1.1.0)))
 
@@ -41,8 +38,8 @@ returns c =
     let p = nulls-of-pushed c.before.before in
     let f = few-of-nulls p in
     let a = (start f).args in (
-      p.put_few.ensures ∙ ap (λ (l : List Bool). nulled a.out_values-1.now a.at l) f.few_at-few.ensures.0,
-      c.push_few.ensures ∙ ap (λ (l : List Bool). push_bits a.out_elements-1.now a.at l) f.few_at-few.ensures.0,
+      p.put_few.ensures ∙ ap (λ (l : List Bool). nulled a.out_values.now a.at l) f.few_at-few.ensures.0,
+      c.push_few.ensures ∙ ap (λ (l : List Bool). push_bits a.out_elements.now a.at l) f.few_at-few.ensures.0,
     )
 
 pub put_short_spec : {M : Type 1} → statement M

@@ -16,11 +16,9 @@ use Rattle.one_list.proofs.one_list.Tie as tie
 -- ---- places: what the operation takes and the start; the first column cut, the second and, last, the third; the call
 
 abbrev S : tie.After-takes-t → tie.Start
-S c = c
-
+S c = c.before.before.before.before.before.before
 abbrev Y : tie.After-start_from-zstart → tie.After-start_from-ystart
-Y c = c
-
+Y c = c.before.before.before
 abbrev X : tie.After-start_from-zstart → tie.After-start_from-xstart
 X c = (Y c)
 
@@ -28,11 +26,9 @@ abbrev told : tie.After-start_from-zstart → tie.After-takes-t
 told c = (X c)
 
 abbrev cut : tie.After-after_three-arg-5-1 → tie.After-start_from-zstart
-cut c = c
-
+cut c = c.before.before.before.before.before
 abbrev called : tie.After-out_large-1 → tie.After-after_three
-called c = c
-
+called c = c.before.before.before.before.before.before.before
 -- ---- the arguments
 
 abbrev A : tie.Start → Arguments
@@ -45,15 +41,15 @@ takes-t-requires c κs = tt
 
 overflow_mul-a : tie.Need-overflow_mul-a
 unfolding LiesIn
-overflow_mul-a c = let s = S c in let h = s.requires.1.1.1.first_in in omega (arith, s.good.1.1.1.1.1.1.1.1.1.1.1.1.0)
+overflow_mul-a c = let s = S c in let h = s.requires.1.1.1.first_in in omega (arith, s.well_formed.1.1.1.1.1.1.1.1.1.1.1.1.0)
 
 overflow_mul-b : tie.Need-overflow_mul-b
 unfolding LiesIn
-overflow_mul-b c = let s = S c in let h = s.requires.1.1.1.second_in in omega (arith, s.good.1.1.1.1.1.1.1.1.1.1.1.1.0)
+overflow_mul-b c = let s = S c in let h = s.requires.1.1.1.second_in in omega (arith, s.well_formed.1.1.1.1.1.1.1.1.1.1.1.1.0)
 
 overflow_mul-c : tie.Need-overflow_mul-c
 unfolding LiesIn
-overflow_mul-c c = let s = S c in let h = s.requires.1.1.1.third_in in omega (arith, s.good.1.1.1.1.1.1.1.1.1.1.1.1.0)
+overflow_mul-c c = let s = S c in let h = s.requires.1.1.1.third_in in omega (arith, s.well_formed.1.1.1.1.1.1.1.1.1.1.1.1.0)
 
 column_values-x-requires : tie.Need-column_values-x-requires
 unfolding LiesIn

@@ -31,14 +31,12 @@ C s = let a = s.args in column (used a.width a.offsets.now a.large.now) (from a.
 -- ---- places: the rows counted and the start, from the loop; a turn from the row measured
 
 abbrev counted : tie.At-loop-left invariant-loop-left decreases-loop-left → tie.After-row_count-n invariant-loop-left decreases-loop-left
-counted l = l
-
+counted l = l.before.before
 abbrev S : tie.At-loop-left invariant-loop-left decreases-loop-left → tie.Start invariant-loop-left decreases-loop-left
 S l = (counted l)
 
 abbrev inside : tie.After-measure_row-more invariant-loop-left decreases-loop-left → tie.In-loop-left invariant-loop-left decreases-loop-left
-inside m = m
-
+inside m = m.before.before.before
 abbrev count : tie.At-loop-left invariant-loop-left decreases-loop-left → ℕ
 count l = (counted l).row_count-n.result
 
@@ -51,13 +49,13 @@ reads q =
     between (C (S q.before.before)) (count q.before.before) q.loop-left.r q.loop-left.a q.offset_at-b.result (S q.before.before).requires (counted q.before.before).row_count-n.ensures (omega (arith, q.loop-left.invariant.0.rows, q.loop-left-test.true)) q.loop-left.invariant.1 q.offset_at-b.ensures.0
 
 -- the walk after it
-more : (m : tie.After-measure_row-more invariant-loop-left decreases-loop-left) → let l = (inside m) in Summing (W l) (count l) m.offset_at-b.result (N (S l)).offset (l.loop-left.found + m.measure_row-more.result) (l.loop-left.r + 1) (l.loop-left.left - 1)
+more : (m : tie.After-measure_row-more invariant-loop-left decreases-loop-left) → let l = (inside m) in Summing (W l.before) (count l.before) m.offset_at-b.result (N (S l.before)).offset (l.loop-left.found + m.measure_row-more.result) (l.loop-left.r + 1) (l.loop-left.left - 1)
 more m =
     let l = (inside m) in
-    let s = S l in
+    let s = S l.before in
     let b = m.offset_at-b in
     let v = m.is_valid-valid in
-    sum_more (W l) (count l) (N s).offset m.measure_row-more.result l.loop-left.a b.result l.loop-left.invariant.0 (inside m).loop-left-test.true
+    sum_more (W l.before) (count l.before) (N s).offset m.measure_row-more.result l.loop-left.a b.result l.loop-left.invariant.0 (inside m).loop-left-test.true
     (m.measure_row-more.ensures ∙ ap (λ (w : Row). length (elems_of w)) (plain_row_lem (N s) s.args.op (C s) l.loop-left.r l.loop-left.a b.result v.result l.loop-left.invariant.1 b.ensures.0 v.ensures))
     (omega (arith, m.measure_row-more.ensures, plain-small (N s) s.args.op (C s) l.loop-left.r l.loop-left.a b.result v.result l.loop-left.invariant.1 b.ensures.0 v.ensures))
     (reads m.before.before).rises refl b.ensures.1

@@ -20,17 +20,13 @@ C s = let a = s.args in column (used a.width a.offsets.now a.large.now) (from a.
 -- ---- places: the test from its two branches, and the start from the test; the two calls from what comes after them
 
 abbrev begun : tie.After-is_bare → tie.Start
-begun p = p
-
+begun p = p.before.before.before.before.before
 abbrev chosen : tie.After-write_rows-arg-then-is_bare-4-1 → tie.Then-is_bare
-chosen p = p
-
+chosen p = p.before.before.before.before.before
 abbrev written : tie.After-out_large-1 → tie.After-write_rows
-written p = p
-
+written p = p.before.before.before.before.before.before.before
 abbrev each : tie.After-out_large-2-1 → tie.After-write_each
-each p = p
-
+each p = p.before.before.before.before.before.before.before
 -- the column has no bitmap
 bare : (t : tie.Then-is_bare) → let a = (begun t.before).args in (length a.rows.now ≡ 0) × (length a.elements.now ≡ 0) × (copies a.op ≡ true)
 bare t = let a = (begun t.before).args in bare_is a.op a.rows.now a.elements.now (sym t.is_bare.ensures ∙ t.if-is_bare.true)

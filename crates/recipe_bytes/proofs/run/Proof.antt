@@ -13,26 +13,20 @@ slice_bounds-get_numbers-end c = search rules
 
 -- the places that are used below
 abbrev get-values-of-sv3 : tie.After-sv-3-1 → tie.After-get_values
-get-values-of-sv3 p = p
-
+get-values-of-sv3 p = p.before.before.before.before.before.before.before
 abbrev get-values-of-la3 : tie.After-la-3-1 → tie.After-get_values
-get-values-of-la3 p = p
-
+get-values-of-la3 p = p.before.before.before.before.before.before.before.before
 abbrev get-list2-of-lv3 : tie.After-lv-3-1 → tie.After-get_list-2
-get-list2-of-lv3 p = p
-
+get-list2-of-lv3 p = p.before.before.before.before.before.before.before.before.before
 abbrev get-list2-of-so3 : tie.After-so-3-1 → tie.After-get_list-2
-get-list2-of-so3 p = p
-
+get-list2-of-so3 p = p.before.before.before.before.before.before.before.before.before.before
 abbrev get-list2-of-sv3 : tie.After-sv-3-1 → tie.After-get_list-2
 get-list2-of-sv3 p = get-list2-of-so3 p.before
 
 abbrev get-list2-of-ns3 : tie.After-ns-3-1 → tie.After-get_list-2
-get-list2-of-ns3 p = p
-
+get-list2-of-ns3 p = p.before.before.before.before.before.before.before
 abbrev get-list-of-get-list2 : tie.After-get_list-2 → tie.After-get_list
-get-list-of-get-list2 p = p
-
+get-list-of-get-list2 p = p.before.before.before.before.before
 abbrev get-list-of-ns3 : tie.After-ns-3-1 → tie.After-get_list
 get-list-of-ns3 p = get-list-of-get-list2 (get-list2-of-ns3 p)
 
@@ -43,11 +37,9 @@ abbrev get-list-of-lv3 : tie.After-lv-3-1 → tie.After-get_list
 get-list-of-lv3 p = get-list-of-lo3 p.before
 
 abbrev so-of-la2 : tie.After-la-2-1 → tie.After-so-1
-so-of-la2 p = p
-
+so-of-la2 p = p.before.before.before.before.before.before.before
 abbrev get-numbers-of-so : tie.After-so-1 → tie.After-get_numbers
-get-numbers-of-so p = p
-
+get-numbers-of-so p = p.before.before.before.before.before.before.before
 abbrev get-numbers-of-la2 : tie.After-la-2-1 → tie.After-get_numbers
 get-numbers-of-la2 p = get-numbers-of-so (so-of-la2 p)
 
@@ -55,20 +47,16 @@ abbrev get-numbers-of-ns3 : tie.After-ns-3-1 → tie.After-get_numbers
 get-numbers-of-ns3 p = get-numbers-of-la2 p.before.before
 
 abbrev shared-slice-known9-of-ns : tie.After-ns-1 → tie.After-shared_slice_known-9-1
-shared-slice-known9-of-ns p = p
-
+shared-slice-known9-of-ns p = p.before.before.before.before.before.before.before.before.before
 abbrev start-of-shared-slice-known9 : tie.After-shared_slice_known-9-1 → tie.Start
-start-of-shared-slice-known9 p = p
-
+start-of-shared-slice-known9 p = p.before.before.before.before.before.before.before.before.before
 abbrev start-of-ns : tie.After-ns-1 → tie.Start
 start-of-ns p = start-of-shared-slice-known9 (shared-slice-known9-of-ns p)
 
 abbrev slice-known9-of-slice-known12 : tie.After-slice_known-12-1 → tie.After-slice_known-9-1
-slice-known9-of-slice-known12 p = p
-
+slice-known9-of-slice-known12 p = p.before.before.before.before.before.before.before.before.before
 abbrev run-recipe-of-slice-known9 : tie.After-slice_known-9-1 → tie.After-run_recipe
-run-recipe-of-slice-known9 p = p
-
+run-recipe-of-slice-known9 p = p.before.before.before.before.before.before.before.before.before
 abbrev run-recipe-of-slice-known12 : tie.After-slice_known-12-1 → tie.After-run_recipe
 run-recipe-of-slice-known12 p = run-recipe-of-slice-known9 (slice-known9-of-slice-known12 p)
 
@@ -100,17 +88,13 @@ abbrev start-of-sv3 : tie.After-sv-3-1 → tie.Start
 start-of-sv3 p = start-of-so3 p.before
 
 abbrev bv2-of-slice-known12 : tie.After-slice_known-12-1 → tie.After-bv-2-1
-bv2-of-slice-known12 p = p
-
+bv2-of-slice-known12 p = p.before.before.before.before.before.before.before.before
 abbrev one-rows-of-bv2 : tie.After-bv-2-1 → tie.After-one_rows-1
-one-rows-of-bv2 p = p
-
+one-rows-of-bv2 p = p.before.before.before.before.before.before.before.before
 abbrev bv-of-one-rows : tie.After-one_rows-1 → tie.After-bv-1
-bv-of-one-rows p = p
-
+bv-of-one-rows p = p.before.before.before.before.before.before.before.before
 abbrev la3-of-bv : tie.After-bv-1 → tie.After-la-3-1
-la3-of-bv p = p
-
+la3-of-bv p = p.before.before.before.before.before.before.before
 abbrev get-values-of-slice-known12 : tie.After-slice_known-12-1 → tie.After-get_values
 get-values-of-slice-known12 p = get-values-of-la3 (la3-of-bv (bv-of-one-rows (one-rows-of-bv2 (bv2-of-slice-known12 p))))
 
@@ -127,11 +111,9 @@ abbrev start-of-av : tie.After-av-1 → tie.Start
 start-of-av p = start-of-run-recipe-arg p.before
 
 abbrev bo-of-run-recipe : tie.After-run_recipe → tie.After-bo-1
-bo-of-run-recipe p = p
-
+bo-of-run-recipe p = p.before.before.before.before.before.before.before.before
 abbrev lv3-of-bo : tie.After-bo-1 → tie.After-lv-3-1
-lv3-of-bo p = p
-
+lv3-of-bo p = p.before.before.before.before.before.before.before.before
 abbrev get-list2-of-slice-known12 : tie.After-slice_known-12-1 → tie.After-get_list-2
 get-list2-of-slice-known12 p = get-list2-of-lv3 (lv3-of-bo (bo-of-run-recipe (run-recipe-of-slice-known9 (slice-known9-of-slice-known12 p))))
 
@@ -151,14 +133,11 @@ abbrev start-of-run-recipe-arg4 : tie.After-run_recipe-arg-4-1 → tie.Start
 start-of-run-recipe-arg4 p = start-of-bv p.before
 
 abbrev sv3-of-bv : tie.After-bv-1 → tie.After-sv-3-1
-sv3-of-bv p = p
-
+sv3-of-bv p = p.before.before.before.before.before.before.before.before
 abbrev sv2-of-sv3 : tie.After-sv-3-1 → tie.After-sv-2-1
-sv2-of-sv3 p = p
-
+sv2-of-sv3 p = p.before.before.before.before.before.before.before.before.before
 abbrev get-list-of-sv2 : tie.After-sv-2-1 → tie.After-get_list
-get-list-of-sv2 p = p
-
+get-list-of-sv2 p = p.before.before.before.before.before.before.before
 abbrev get-list-of-slice-known12 : tie.After-slice_known-12-1 → tie.After-get_list
 get-list-of-slice-known12 p = get-list-of-sv2 (sv2-of-sv3 (sv3-of-bv (bv-of-one-rows (one-rows-of-bv2 (bv2-of-slice-known12 p)))))
 
@@ -172,41 +151,31 @@ abbrev start-of-run-recipe-arg7 : tie.After-run_recipe-arg-7-1 → tie.Start
 start-of-run-recipe-arg7 p = start-of-run-recipe-arg6 p.before
 
 abbrev run-recipe-arg2-of-run-recipe : tie.After-run_recipe → tie.After-run_recipe-arg-2-1
-run-recipe-arg2-of-run-recipe p = p
-
+run-recipe-arg2-of-run-recipe p = p.before.before.before.before.before.before.before.before.before
 abbrev lo3-of-run-recipe-arg2 : tie.After-run_recipe-arg-2-1 → tie.After-lo-3-1
-lo3-of-run-recipe-arg2 p = p
-
+lo3-of-run-recipe-arg2 p = p.before.before.before.before.before.before.before.before
 abbrev sv-of-lo3 : tie.After-lo-3-1 → tie.After-sv-1
-sv-of-lo3 p = p
-
+sv-of-lo3 p = p.before.before.before.before.before.before.before.before.before
 abbrev get-numbers-of-sv : tie.After-sv-1 → tie.After-get_numbers
-get-numbers-of-sv p = p
-
+get-numbers-of-sv p = p.before.before.before.before.before.before.before.before
 abbrev get-numbers-of-slice-known12 : tie.After-slice_known-12-1 → tie.After-get_numbers
 get-numbers-of-slice-known12 p = get-numbers-of-sv (sv-of-lo3 (lo3-of-run-recipe-arg2 (run-recipe-arg2-of-run-recipe (run-recipe-of-slice-known9 (slice-known9-of-slice-known12 p)))))
 
 abbrev ns3-of-run-recipe-arg2 : tie.After-run_recipe-arg-2-1 → tie.After-ns-3-1
-ns3-of-run-recipe-arg2 p = p
-
+ns3-of-run-recipe-arg2 p = p.before.before.before.before.before.before.before.before.before
 abbrev lv2-of-ns3 : tie.After-ns-3-1 → tie.After-lv-2-1
-lv2-of-ns3 p = p
-
+lv2-of-ns3 p = p.before.before.before.before.before.before.before.before.before.before
 abbrev slice-known5-of-lv2 : tie.After-lv-2-1 → tie.After-slice_known-5-1
-slice-known5-of-lv2 p = p
-
+slice-known5-of-lv2 p = p.before.before.before.before.before.before.before.before.before
 abbrev shared-slice-known8-of-slice-known5 : tie.After-slice_known-5-1 → tie.After-shared_slice_known-8-1
-shared-slice-known8-of-slice-known5 p = p
-
+shared-slice-known8-of-slice-known5 p = p.before.before.before.before.before.before.before.before
 abbrev start-of-shared-slice-known8 : tie.After-shared_slice_known-8-1 → tie.Start
-start-of-shared-slice-known8 p = p
-
+start-of-shared-slice-known8 p = p.before.before.before.before.before.before.before.before
 abbrev start-of-slice-known12 : tie.After-slice_known-12-1 → tie.Start
 start-of-slice-known12 p = start-of-shared-slice-known8 (shared-slice-known8-of-slice-known5 (slice-known5-of-lv2 (lv2-of-ns3 (ns3-of-run-recipe-arg2 (run-recipe-arg2-of-run-recipe (run-recipe-of-slice-known9 (slice-known9-of-slice-known12 p)))))))
 
 abbrev numbers-taken-of-lo3 : tie.After-lo-3-1 → tie.After-numbers_taken-nn
-numbers-taken-of-lo3 p = p
-
+numbers-taken-of-lo3 p = p.before.before
 abbrev numbers-taken-of-slice-known12 : tie.After-slice_known-12-1 → tie.After-numbers_taken-nn
 numbers-taken-of-slice-known12 p = numbers-taken-of-lo3 (lo3-of-run-recipe-arg2 (run-recipe-arg2-of-run-recipe (run-recipe-of-slice-known9 (slice-known9-of-slice-known12 p))))
 

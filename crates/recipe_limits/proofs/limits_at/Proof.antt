@@ -22,11 +22,9 @@ abbrev S : tie.After-refusal-k → tie.Start
 S c = c
 
 abbrev counted : tie.After-largest_offset-most → tie.After-row_count-n
-counted c = c
-
+counted c = c.before
 abbrev first : tie.After-row_count-n → tie.After-measure_rows-came
-first c = c
-
+first c = c.before.before.before
 abbrev unrefused : tie.After-row_count-n → tie.Else-k-ne0
 unrefused c = (first c)
 

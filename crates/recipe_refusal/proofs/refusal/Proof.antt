@@ -29,20 +29,17 @@ A s = arguments s.args.args.now (from s.args.start s.args.bits.now)
 -- ---- places: after 10, after 13, after the lists' 1 and 2, after 2 of the arguments, after the row counts were told
 
 abbrev S₁ : tie.Else-is_malformed → tie.Start
-S₁ e = e
-
+S₁ e = e.before.before.before.before.before.before.before.before
 abbrev S : tie.Else-start-gt7 → tie.Start
 S e = S₁ e.before
 
 abbrev two-of-three : tie.Else-k-ne0 → tie.Else-start-gt7
-two-of-three e = e
-
+two-of-three e = e.before.before
 abbrev two-of-four : tie.Else-is_short → tie.Else-start-gt7
 two-of-four e = two-of-three e.before.before
 
 abbrev four-of-five : tie.Else-row_count → tie.Else-is_short
-four-of-five e = e
-
+four-of-five e = e.before.before.before
 -- ---- what does not apply there
 
 formed : (e : tie.Else-is_malformed) → let s = S₁ e in malformed (recipe s.args.numbers.now s.args.columns) ≡ false

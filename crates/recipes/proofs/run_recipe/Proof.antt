@@ -19,8 +19,7 @@ use Rattle.recipes.proofs.run_recipe.Tie as tie
 -- ---- places: tray two cleared, tray one cleared, the call, the rows counted, the start
 
 abbrev two : tie.After-settle → tie.After-clear-2
-two c = c
-
+two c = c.before.before.before.before.before.before.before
 abbrev one : tie.After-settle → tie.After-clear
 one c = (two c)
 

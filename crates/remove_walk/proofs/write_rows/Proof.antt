@@ -54,26 +54,21 @@ Y s = arguments s.args.ys.now (from s.args.ystart s.args.ybits.now)
 -- ---- places: the start and the first offset put, from the loop; a turn's row written, its arguments and its offset, from what comes after
 
 abbrev put : tie.At-loop-left invariant-loop-left decreases-loop-left → tie.After-put_offset invariant-loop-left decreases-loop-left
-put l = l
-
+put l = l.before.before.before.before
 abbrev begun : tie.After-put_offset-arg-2-1 invariant-loop-left decreases-loop-left → tie.Start invariant-loop-left decreases-loop-left
-begun p = p
-
+begun p = p.before.before.before.before.before.before.before.before.before
 abbrev S : tie.At-loop-left invariant-loop-left decreases-loop-left → tie.Start invariant-loop-left decreases-loop-left
 S l = begun (put l)
 
 abbrev written : tie.After-put_offset-arg-in-loop-left-2-1 invariant-loop-left decreases-loop-left → tie.After-put_row-at invariant-loop-left decreases-loop-left
-written p = p
-
+written p = p.before.before.before.before.before.before.before
 abbrev turned : tie.After-out_large-in-loop-left-1 invariant-loop-left decreases-loop-left → tie.After-put_row-at invariant-loop-left decreases-loop-left
 turned p = written p.before.before.before
 
 abbrev taken : tie.After-put_row-at invariant-loop-left decreases-loop-left → tie.After-taken_at-element invariant-loop-left decreases-loop-left
-taken w = w
-
+taken w = w.before.before.before.before
 abbrev between-offsets : tie.After-taken_at-element invariant-loop-left decreases-loop-left → tie.After-offset_at-b invariant-loop-left decreases-loop-left
-between-offsets o = o
-
+between-offsets o = o.before.before
 abbrev inside : tie.After-put_row-at invariant-loop-left decreases-loop-left → tie.In-loop-left invariant-loop-left decreases-loop-left
 inside w = (between-offsets (taken w))
 
@@ -87,7 +82,7 @@ abbrev W : tie.At-loop-left invariant-loop-left decreases-loop-left → ℕ → 
 W l = let s = S l in row_made_at (N s) L.Remove (C s) (X s) (Y s) none
 
 -- room for all rows, from the code's count
-roomy : (l : tie.At-loop-left invariant-loop-left decreases-loop-left) (lo : ℕ) → lo ≡ length (O (S l)) → let a = (S l).args in RoomInˡ (count l) (length (flat (tab (W l) 0 (count l)))) lo (length a.out_rows-1.now) (length a.out_values-1.now) (length a.out_elements-1.now)
+roomy : (l : tie.At-loop-left invariant-loop-left decreases-loop-left) (lo : ℕ) → lo ≡ length (O (S l)) → let a = (S l).args in RoomInˡ (count l) (length (flat (tab (W l) 0 (count l)))) lo (length a.out_rows.now) (length a.out_values.now) (length a.out_elements.now)
 roomy l lo e = let s = S l in room_at (N s) L.Remove (C s) (X s) (Y s) none (count l) (rows_are l) s.requires.1.1.1 e
 
 -- row r of a turn can be read
@@ -103,7 +98,7 @@ made o =
     let s = S q in
     row_made (op_made (remove_op o.taken_at-element.result o.limit_at-limit.result) (tab (elem_at (C s).values (C s).elements) q.loop-left.a (q.offset_at-b.result - q.loop-left.a)))
 
-same_row : (o : tie.After-taken_at-element invariant-loop-left decreases-loop-left) → let l = (between-offsets o) in made o ≡ W l l.loop-left.r
+same_row : (o : tie.After-taken_at-element invariant-loop-left decreases-loop-left) → let l = (between-offsets o) in made o ≡ W l.before.before l.loop-left.r
 same_row o =
     let q = between-offsets o in
     let s = S q in
@@ -167,7 +162,7 @@ loop-left-preserved c =
     let w = turned c in
     let o = taken w in
     let l = (inside w) in (
-      walk_more (W l) (count l) (made o) (inside w).loop-left-test.true (same_row o) l.loop-left.invariant.0 w.put_row-at.ensures c.put_offset-in-loop-left.ensures,
+      walk_more (W l.before) (count l.before) (made o) (inside w).loop-left-test.true (same_row o) l.loop-left.invariant.0 w.put_row-at.ensures c.put_offset-in-loop-left.ensures,
       c.put_offset-in-loop-left.auto.narrow ∙ l.loop-left.invariant.1,
       c.put_offset-in-loop-left.auto.wide ∙ l.loop-left.invariant.2,
       λ h. (between-offsets o).offset_at-b.ensures.0,

@@ -22,11 +22,9 @@ decreases-loop-left offsets rows rstart counts count-bits cstart width large n l
 -- ---- places: the start, from the loop; the loop, from a row's length
 
 abbrev S : tie.At-loop-left invariant-loop-left decreases-loop-left → tie.Start invariant-loop-left decreases-loop-left
-S l = l
-
+S l = l.before.before.before.before.before.before
 abbrev loop-of : tie.After-row_len-len invariant-loop-left decreases-loop-left → tie.At-loop-left invariant-loop-left decreases-loop-left
-loop-of w = w
-
+loop-of w = w.before.before.before.before.before.before
 -- ---- the limits, the rows, and what is summed of each
 
 abbrev L : tie.At-loop-left invariant-loop-left decreases-loop-left → Limits
@@ -48,10 +46,10 @@ most-repeated : (l : tie.At-loop-left invariant-loop-left decreases-loop-left) �
 most-repeated l = l.most_values-value_limit.ensures
 
 abbrev T : tie.At-loop-left invariant-loop-left decreases-loop-left → ℕ → ℕ
-T l = let a = (S l).args in times_at a.counts.now (from a.cstart a.count-bits.now)
+T l = let a = (S l).args in times_at a.counts.now (from a.cstart a.count_bits.now)
 
 abbrev U : tie.At-loop-left invariant-loop-left decreases-loop-left → ℕ → ℕ
-U l = let a = (S l).args in repeated_at (used a.width a.offsets.now a.large.now) (from a.rstart a.rows.now) a.counts.now (from a.cstart a.count-bits.now)
+U l = let a = (S l).args in repeated_at (used a.width a.offsets.now a.large.now) (from a.rstart a.rows.now) a.counts.now (from a.cstart a.count_bits.now)
 
 -- what a turn repeats
 abbrev made : tie.After-row_len-len invariant-loop-left decreases-loop-left → ℕ

@@ -25,14 +25,12 @@ R s = let a = s.args in repeat_room (length (used a.width a.out_offsets.now a.ou
 -- ---- places: the room tested, what was written, and the start
 
 abbrev S : tie.After-has_room → tie.Start
-S h = h
-
+S h = h.before.before.before.before.before.before.before.before.before.before
 abbrev wrote : tie.After-repeat-answer-arg3 → tie.After-write_repeats
 wrote c = c
 
 abbrev tested : tie.After-write_repeats-arg-8-1 → tie.Else-not-has_room
-tested p = p
-
+tested p = p.before.before.before.before.before.before.before.before
 rows_are : (h : tie.After-has_room) → h.row_count-n.result ≡ length (O (S h))
 rows_are h = h.row_count-n.ensures ∙ sym (length_repeats _ _)
 

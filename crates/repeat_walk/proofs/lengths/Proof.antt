@@ -24,8 +24,7 @@ abbrev A : tie.Start → Arguments
 A s = let a = s.args in arguments a.counts.now (from a.cstart a.count_bits.now)
 
 abbrev S : tie.After-early-k → tie.Start
-S e = e
-
+S e = e.before.before.before.before
 -- the early refusals have passed
 begun : (e : tie.Else-k-ne0) → let s = S e.before in Begun (C s) (A s)
 begun e = e.early-k.ensures.1 e.if-k-ne0.false
@@ -54,7 +53,7 @@ lengths_for-requires c κs =
     let s = S c.before.before.before.before in
     let m = sums_are (M s) (C s) (A s) _ _ (sym c.in-Of.is ∙ c.sum_repeats.ensures) in
     let a = s.args in
-    let n = used-below 18446744073709551616 a.width a.offsets.now a.large.now (omega (arith, s.good.0)) (omega (arith, s.good.1.1.1.1.1.1.1.1.1.1.0)) in
+    let n = used-below 18446744073709551616 a.width a.offsets.now a.large.now (omega (arith, s.well_formed.0)) (omega (arith, s.well_formed.1.1.1.1.1.1.1.1.1.1.0)) in
     (omega (arith, n, c.row_count.ensures), omega (arith, m.2, (limits-fit s.args.width).outer, (limits-fit s.args.width).offset))
 
 returns-in-TooMany : tie.Need-returns-in-TooMany

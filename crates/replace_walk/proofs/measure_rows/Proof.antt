@@ -44,11 +44,9 @@ Z s = arguments s.args.zs.now (from s.args.zstart s.args.zbits.now)
 -- ---- places: the start and the rows counted, from the loop; a turn's offset, from its row measured
 
 abbrev S : tie.At-loop-left invariant-loop-left decreases-loop-left → tie.Start invariant-loop-left decreases-loop-left
-S l = l
-
+S l = l.before.before.before.before.before.before.before.before
 abbrev counted : tie.At-loop-left invariant-loop-left decreases-loop-left → tie.After-row_count-n invariant-loop-left decreases-loop-left
-counted l = l
-
+counted l = l.before.before
 abbrev count : tie.At-loop-left invariant-loop-left decreases-loop-left → ℕ
 count l = (counted l).row_count-n.result
 
@@ -56,8 +54,7 @@ abbrev W : tie.At-loop-left invariant-loop-left decreases-loop-left → ℕ → 
 W l = let s = S l in row_made_at (N s) L.Replace (C s) (X s) (Y s) (Z s)
 
 abbrev turn : tie.After-replaced_length-found invariant-loop-left decreases-loop-left → tie.After-offset_at-b invariant-loop-left decreases-loop-left
-turn m = m
-
+turn m = m.before.before
 -- row r of a turn can be read
 reads : (q : tie.After-offset_at-b invariant-loop-left decreases-loop-left) → ReadableRowˡ (C (S q.before.before)).rows (count q.before.before) (C (S q.before.before)).values (C (S q.before.before)).elements q.loop-left.r q.loop-left.a q.offset_at-b.result
 reads q =

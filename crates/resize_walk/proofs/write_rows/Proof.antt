@@ -54,29 +54,24 @@ Z s = arguments s.args.zs.now (from s.args.zstart s.args.zbits.now)
 -- read, from what comes after
 
 abbrev put : tie.At-loop-left invariant-loop-left decreases-loop-left → tie.After-put_offset invariant-loop-left decreases-loop-left
-put l = l
-
+put l = l.before.before.before
 abbrev kind : tie.At-loop-left invariant-loop-left decreases-loop-left → tie.After-is_filled-filled invariant-loop-left decreases-loop-left
 kind l = (put l)
 
 abbrev begun : tie.After-put_offset-arg-2-1 invariant-loop-left decreases-loop-left → tie.Start invariant-loop-left decreases-loop-left
-begun p = p
-
+begun p = p.before.before.before.before.before.before.before.before.before.before.before
 abbrev S : tie.At-loop-left invariant-loop-left decreases-loop-left → tie.Start invariant-loop-left decreases-loop-left
 S l = begun (put l)
 
 abbrev written : tie.After-put_offset-arg-in-loop-left-2-1 invariant-loop-left decreases-loop-left → tie.After-put_row-at invariant-loop-left decreases-loop-left
-written p = p
-
+written p = p.before.before.before.before.before.before.before
 abbrev turned : tie.After-out_large-in-loop-left-1 invariant-loop-left decreases-loop-left → tie.After-put_row-at invariant-loop-left decreases-loop-left
 turned p = written p.before.before.before
 
 abbrev read : tie.After-put_row-at invariant-loop-left decreases-loop-left → tie.After-fill_at-fill invariant-loop-left decreases-loop-left
-read w = w
-
+read w = w.before.before.before.before
 abbrev inside : tie.After-fill_at-fill invariant-loop-left decreases-loop-left → tie.In-loop-left invariant-loop-left decreases-loop-left
-inside f = f
-
+inside f = f.before.before.before.before
 abbrev count : tie.At-loop-left invariant-loop-left decreases-loop-left → ℕ
 count l = (kind l).row_count-n.result
 
@@ -91,7 +86,7 @@ all_rows : (l : tie.At-loop-left invariant-loop-left decreases-loop-left) → le
 all_rows l = let s = S l in resized-rows (N s) s.args.op (C s) (X s) (Y s) (Z s) s.requires.1.1.0 (kind l).is_filled-filled.result (kind l).is_filled-filled.ensures (count l) (rows_are l)
 
 -- room for all rows, from the code's count
-roomy : (l : tie.At-loop-left invariant-loop-left decreases-loop-left) (lo : ℕ) → lo ≡ length (O (S l)) → let a = (S l).args in RoomInˡ (count l) (length (flat (tab (W l) 0 (count l)))) lo (length a.out_rows-1.now) (length a.out_values-1.now) (length a.out_elements-1.now)
+roomy : (l : tie.At-loop-left invariant-loop-left decreases-loop-left) (lo : ℕ) → lo ≡ length (O (S l)) → let a = (S l).args in RoomInˡ (count l) (length (flat (tab (W l) 0 (count l)))) lo (length a.out_rows.now) (length a.out_values.now) (length a.out_elements.now)
 roomy l lo e = let s = S l in resized-room (N s) s.args.op (C s) (X s) (Y s) (Z s) s.requires.1.1.0 (kind l).is_filled-filled.result (kind l).is_filled-filled.ensures (count l) (rows_are l) s.requires.1.1.1.1 e
 
 -- row r of a turn can be read
@@ -105,11 +100,11 @@ made f =
     let s = S (inside f) in
     row_made (op_made (resize_op f.count_at-count.result f.fill_at-fill.result) (tab (elem_at (C s).values (C s).elements) f.offset_at-a.result (f.offset_at-b.result - f.offset_at-a.result)))
 
-same_row : (f : tie.After-fill_at-fill invariant-loop-left decreases-loop-left) → let l = (inside f) in made f ≡ W l l.loop-left.r
+same_row : (f : tie.After-fill_at-fill invariant-loop-left decreases-loop-left) → let l = (inside f) in made f ≡ W l.before l.loop-left.r
 same_row f =
     let l = (inside f) in
-    let s = S l in
-    resized_row (C s) (X s) (kind l).is_filled-filled.result (Y s) l.loop-left.r f.offset_at-a.result f.offset_at-b.result f.count_at-count.result f.fill_at-fill.result f.offset_at-a.ensures.0 f.offset_at-b.ensures.0 f.count_at-count.ensures f.fill_at-fill.ensures
+    let s = S l.before in
+    resized_row (C s) (X s) (kind l.before).is_filled-filled.result (Y s) l.loop-left.r f.offset_at-a.result f.offset_at-b.result f.count_at-count.result f.fill_at-fill.result f.offset_at-a.ensures.0 f.offset_at-b.ensures.0 f.count_at-count.ensures f.fill_at-fill.ensures
 
 row_count-n-requires : tie.Need-row_count-n-requires invariant-loop-left decreases-loop-left
 row_count-n-requires c κs = search
@@ -148,7 +143,7 @@ fill_at-fill-requires c κs =
 put_row-at-requires : tie.Need-put_row-at-requires invariant-loop-left decreases-loop-left
 put_row-at-requires c κs =
     let l = (inside c.before.before.before) in
-    (record { inside = omega (arith, (reads c.before.before.before.before.before).rises, (reads c.before.before.before.before.before).inside); bits = (reads c.before.before.before.before.before).elements }, walk_room (W l) (count l) (made c.before.before.before) (inside c.before.before.before).loop-left-test.true (same_row c.before.before.before) l.loop-left.invariant.0 (roomy l _ (put_keeps (O (S l)) 0 0 (put l).put_offset.ensures)))
+    (record { inside = omega (arith, (reads c.before.before.before.before.before).rises, (reads c.before.before.before.before.before).inside); bits = (reads c.before.before.before.before.before).elements }, walk_room (W l.before) (count l.before) (made c.before.before.before) (inside c.before.before.before).loop-left-test.true (same_row c.before.before.before) l.loop-left.invariant.0 (roomy l.before _ (put_keeps (O (S l.before)) 0 0 (put l.before).put_offset.ensures)))
 
 overflow_add-r-in-loop-left : tie.Need-overflow_add-r-in-loop-left invariant-loop-left decreases-loop-left
 overflow_add-r-in-loop-left c = let i = inside (read (written c)) in omega (arith, i, i.loop-left.invariant.0.rows, i.loop-left-test.true)
@@ -158,8 +153,8 @@ put_offset-requires-in-loop-left c κs =
     let w = written c in
     let f = read (written c) in
     let l = (inside f) in
-    let k = walk_small (W l) (count l) (made f) (inside f).loop-left-test.true (same_row f) l.loop-left.invariant.0 w.put_row-at.ensures in
-    (walk_slot (W l) (count l) (made f) (inside f).loop-left-test.true (same_row f) l.loop-left.invariant.0 (roomy l _ (put_keeps (O (S l)) 0 0 (put l).put_offset.ensures)), omega (arith, (S l).requires.1.1.1.0, rw (all_rows l) at k))
+    let k = walk_small (W l.before) (count l.before) (made f) (inside f).loop-left-test.true (same_row f) l.loop-left.invariant.0 w.put_row-at.ensures in
+    (walk_slot (W l.before) (count l.before) (made f) (inside f).loop-left-test.true (same_row f) l.loop-left.invariant.0 (roomy l.before _ (put_keeps (O (S l.before)) 0 0 (put l.before).put_offset.ensures)), omega (arith, (S l.before).requires.1.1.1.0, rw (all_rows l.before) at k))
 
 overflow_add-r-in-loop-left-2 : tie.Need-overflow_add-r-in-loop-left-2 invariant-loop-left decreases-loop-left
 overflow_add-r-in-loop-left-2 c = let i = inside (read (turned c)) in omega (arith, i, i.loop-left.invariant.0.rows, i.loop-left-test.true)
@@ -175,7 +170,7 @@ loop-left-preserved c =
     let w = turned c in
     let f = read (turned c) in
     let l = (inside f) in
-    (walk_more (W l) (count l) (made f) (inside f).loop-left-test.true (same_row f) l.loop-left.invariant.0 w.put_row-at.ensures c.put_offset-in-loop-left.ensures, c.put_offset-in-loop-left.auto.narrow ∙ l.loop-left.invariant.1, c.put_offset-in-loop-left.auto.wide ∙ l.loop-left.invariant.2)
+    (walk_more (W l.before) (count l.before) (made f) (inside f).loop-left-test.true (same_row f) l.loop-left.invariant.0 w.put_row-at.ensures c.put_offset-in-loop-left.ensures, c.put_offset-in-loop-left.auto.narrow ∙ l.loop-left.invariant.1, c.put_offset-in-loop-left.auto.wide ∙ l.loop-left.invariant.2)
 
 shape_of-out_offsets : tie.Need-shape_of-out_offsets invariant-loop-left decreases-loop-left
 shape_of-out_offsets c = c.loop-left.invariant.1 ∙ (put c.before).put_offset.kept.1.0

@@ -34,8 +34,7 @@ abbrev W : tie.Start → List Row
 W s = pair_rows s.args.op (C s) (D s)
 
 abbrev S : tie.After-union_refusal-long → tie.Start
-S u = u
-
+S u = u.before.before.before.before.before.before.before.before.before
 -- what the test for 8 found
 eight : (u : tie.After-union_refusal-long) → let s = S u in u.union_refusal-long.result ≡ union_refusal (limits_at s.args.width) s.args.op (length (flat (W s)))
 eight u = u.union_refusal-long.ensures ∙ ap (union_refusal (limits_at (S u).args.width) (S u).args.op) u.measure_pairs-m.ensures.0
@@ -48,8 +47,8 @@ goes : (e : tie.Else-long-ne0) → let s = S e.before in after_three (limits_at 
 goes e = after e.before ∙ gate_open _ _ (sym (eight e.before) ∙ e.if-long-ne0.false)
 
 -- what the test of the room tells
-slots : (p : tie.After-pick) → let a = (S p.before.before).args in p.pick.result ≡ length (used a.width a.out_offsets-1.now a.out_large-1.now)
-slots p = let a = (S p.before.before).args in p.pick.ensures ∙ sym (used-length a.width a.out_offsets-1.now a.out_large-1.now)
+slots : (p : tie.After-pick) → let a = (S p.before.before).args in p.pick.result ≡ length (used a.width a.out_offsets.now a.out_large.now)
+slots p = let a = (S p.before.before).args in p.pick.ensures ∙ sym (used-length a.width a.out_offsets.now a.out_large.now)
 
 rows_are : (h : tie.After-has_room) → h.row_count-n.result ≡ length (W (S h.before.before.before))
 rows_are h = let s = S h.before.before.before in h.row_count-n.ensures ∙ sym (length_pairs s.args.op (C s) (D s))

@@ -30,8 +30,7 @@ abbrev M : tie.Start → ℕ
 M s = length (flat (pair_rows s.args.op (C s) (D s)))
 
 abbrev S : tie.After-early-k → tie.Start
-S e = e
-
+S e = e.before.before.before.before.before
 -- the early refusals have passed
 begun : (e : tie.Else-k-ne0) → let s = S e.before in Begun (C s) (D s)
 begun e = e.early-k.ensures.1 e.if-k-ne0.false
@@ -67,7 +66,7 @@ lengths_for-requires : tie.Need-lengths_for-requires
 lengths_for-requires c κs =
     let s = S c.before.before.before.before.before in
     let a = s.args in
-    omega (arith, used-below 18446744073709551616 a.width a.loffsets.now a.llarge.now (omega (arith, s.good.1.0)) (omega (arith, s.good.1.1.1.1.1.1.1.1.1.1.1.1.1.1.0)), c.row_count.ensures)
+    omega (arith, used-below 18446744073709551616 a.width a.loffsets.now a.llarge.now (omega (arith, s.well_formed.1.0)) (omega (arith, s.well_formed.1.1.1.1.1.1.1.1.1.1.1.1.1.1.0)), c.row_count.ensures)
 
 returns : tie.Need-returns
 returns c =

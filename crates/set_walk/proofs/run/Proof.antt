@@ -22,14 +22,12 @@ L s = let a = s.args in room (length (used a.width a.out_offsets.now a.out_large
 -- ---- places: what is written, the early refusals passed and found; and the start
 
 abbrev wrote : tie.After-out_large-1 → tie.After-after_three
-wrote c = c
-
+wrote c = c.before.before.before.before.before.before.before
 abbrev passed : tie.After-out_large-1 → tie.Else-k-ne0
 passed c = (wrote c)
 
 abbrev S : tie.After-early-k → tie.Start
-S e = e
-
+S e = e.before.before.before.before.before.before.before
 -- ---- needs
 
 early-k-requires : tie.Need-early-k-requires

@@ -67,29 +67,24 @@ Z s = arguments s.args.zs.now (from s.args.zstart s.args.zbits.now)
 -- from what comes after
 
 abbrev put : tie.At-loop-left invariant-loop-left decreases-loop-left → tie.After-put_offset invariant-loop-left decreases-loop-left
-put l = l
-
+put l = l.before.before.before.before
 abbrev takes : tie.At-loop-left invariant-loop-left decreases-loop-left → tie.After-takes-t invariant-loop-left decreases-loop-left
 takes l = (put l)
 
 abbrev begun : tie.After-takes-t invariant-loop-left decreases-loop-left → tie.Start invariant-loop-left decreases-loop-left
-begun t = t
-
+begun t = t.before.before.before.before.before.before.before.before.before
 abbrev S : tie.At-loop-left invariant-loop-left decreases-loop-left → tie.Start invariant-loop-left decreases-loop-left
 S l = begun (takes l)
 
 abbrev written : tie.After-put_offset-arg-in-loop-left-2-1 invariant-loop-left decreases-loop-left → tie.After-put_slice-at invariant-loop-left decreases-loop-left
-written p = p
-
+written p = p.before.before.before.before.before.before.before
 abbrev turned : tie.After-out_large-in-loop-left-1 invariant-loop-left decreases-loop-left → tie.After-put_slice-at invariant-loop-left decreases-loop-left
 turned p = written p.before.before.before
 
 abbrev planned : tie.After-put_slice-at invariant-loop-left decreases-loop-left → tie.After-plan_at-plan invariant-loop-left decreases-loop-left
-planned w = w
-
+planned w = w.before.before.before.before
 abbrev second : tie.After-plan_at-plan invariant-loop-left decreases-loop-left → tie.After-offset_at-b invariant-loop-left decreases-loop-left
-second p = p
-
+second p = p.before.before.before
 abbrev looped : tie.After-plan_at-plan invariant-loop-left decreases-loop-left → tie.At-loop-left invariant-loop-left decreases-loop-left
 looped p = (second p)
 
@@ -121,7 +116,7 @@ abbrev G : tie.At-loop-left invariant-loop-left decreases-loop-left → ℕ → 
 G l = let s = S l in all_valid (B l) (C s).rows (X s).bits (Y s).bits (Z s).bits
 
 -- room for all rows, from the code's count
-roomy : (l : tie.At-loop-left invariant-loop-left decreases-loop-left) (lo : ℕ) → lo ≡ length (O (S l)) → let a = (S l).args in RoomInˡ (count l) (length (flat (tab (W l) 0 (count l)))) lo (length a.out_rows-1.now) (length a.out_values-1.now) (length a.out_elements-1.now)
+roomy : (l : tie.At-loop-left invariant-loop-left decreases-loop-left) (lo : ℕ) → lo ≡ length (O (S l)) → let a = (S l).args in RoomInˡ (count l) (length (flat (tab (W l) 0 (count l)))) lo (length a.out_rows.now) (length a.out_values.now) (length a.out_elements.now)
 roomy l lo e = let s = S l in room_at (N s) (OP l) (C s) (X s) (Y s) (Z s) (count l) (rows_are l) (room_as (N s) (C s) (X s) (Y s) (Z s) (op_is l) s.requires.1.1.1.1) e
 
 -- row r of a turn can be read

@@ -16,20 +16,15 @@ use Rattle.step.proofs.step.Tie as tie
 -- ---- places: the operation told and the start; each operation's arm, before its call and after it
 
 abbrev S : tie.After-operation_of → tie.Start
-S c = c
-
+S c = c.before.before.before.before.before.before.before.before
 abbrev one : tie.After-one_list-arg-in-One-4-1 → tie.In-One-2
-one c = c
-
+one c = c.before.before.before.before.before
 abbrev two : tie.After-after_three-arg-in-Two-4-1 → tie.In-Two-2
-two c = c
-
+two c = c.before.before.before.before.before
 abbrev one-made : tie.After-out_large-1 → tie.After-one_list
-one-made c = c
-
+one-made c = c.before.before.before.before.before.before.before
 abbrev two_made : tie.After-out_large-in-Two-1 → tie.After-after_three
-two_made c = c
-
+two_made c = c.before.before.before.before.before.before.before
 -- ---- columns, and the step
 
 abbrev C : tie.Start → Column
@@ -55,7 +50,7 @@ enum_known-op c = search
 one_list-requires : tie.Need-one_list-requires
 one_list-requires c κs =
     let m = (one c) in
-    let s = S m in
+    let s = S m.before in
     let a = s.args in
     (s.requires.0, (s.requires.1.0, (s.requires.1.1.0.bits, uses-one (T s) a.pitch a.n (length a.args.now) _ _ m.operation_of.ensures (one c).in-One.is s.requires.1.1.1.uses)))
 

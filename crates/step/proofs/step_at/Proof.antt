@@ -11,24 +11,19 @@ use Rattle.step.proofs.step_at.Tie as tie
 -- ---- places: the slices known, the step's numbers read, the start
 
 abbrev entered : tie.After-slice_known-2-1 → tie.After-shared_slice_known-1
-entered c = c
-
+entered c = c.before.before.before.before.before.before.before.before.before
 abbrev S : tie.After-shared_slice_known-12-1 → tie.Start
 S c = (entered c.before.before.before.before)
 
 -- a step from the list, and one from a tray: before its call and after it
 abbrev list : tie.After-step-arg-then-k-eq0-4-1 → tie.Then-k-eq0
-list c = c
-
+list c = c.before.before.before.before.before
 abbrev tray : tie.After-step_from-arg-5-1 → tie.Else-k-eq0
-tray c = c
-
+tray c = c.before.before.before.before.before
 abbrev listed : tie.After-out_large-1 → tie.After-step
-listed c = c
-
+listed c = c.before.before.before.before.before.before.before
 abbrev drawn : tie.After-out_large-2-1 → tie.After-step_from
-drawn c = c
-
+drawn c = c.before.before.before.before.before.before.before
 -- ---- columns
 
 abbrev C : tie.Start → Column

@@ -18,31 +18,29 @@ use Rattle.step.proofs.step_from.Tie as tie
 -- ---- places: the sizes known and the start, the call and what was known before it
 
 abbrev S : tie.After-bytes_for-ne → tie.Start
-S c = c
-
+S c = c.before.before.before.before.before.before.before.before.before.before.before
 abbrev sized : tie.After-step-arg10 → tie.After-bytes_for-ne
 sized c = c
 
 abbrev called : tie.After-out_large-1 → tie.After-step
-called c = c
-
+called c = c.before.before.before.before.before.before.before
 -- ---- how much of each slice of offsets, and the column at the tray's front
 
 narrow : (b : tie.After-bytes_for-ne) → b.pick-no.result ≤ length (S b).args.from_offsets.now
-narrow b = let a = (S b).args in front-narrow a.width (a.n + 1) _ _ a.from-offsets.now a.from-large.now b.pick-no.ensures b.pick-nl.ensures (S b).requires.0.offsets
+narrow b = let a = (S b).args in front-narrow a.width (a.n + 1) _ _ a.from_offsets.now a.from_large.now b.pick-no.ensures b.pick-nl.ensures (S b).requires.0.offsets
 
 large : (b : tie.After-bytes_for-ne) → b.pick-nl.result ≤ length (S b).args.from_large.now
-large b = let a = (S b).args in front-wide a.width (a.n + 1) _ _ a.from-offsets.now a.from-large.now b.pick-no.ensures b.pick-nl.ensures (S b).requires.0.offsets
+large b = let a = (S b).args in front-wide a.width (a.n + 1) _ _ a.from_offsets.now a.from_large.now b.pick-no.ensures b.pick-nl.ensures (S b).requires.0.offsets
 
 abbrev O : tie.Start → List ℤ
 O s = used s.args.width s.args.from_offsets.now s.args.from_large.now
 
 -- the offsets cut
-cut : (b : tie.After-bytes_for-ne) → let a = (S b).args in used a.width (take b.pick-no.result a.from-offsets.now) (take b.pick-nl.result a.from-large.now) ≡ take (a.n + 1) (O (S b))
-cut b = let a = (S b).args in front-offsets a.width (a.n + 1) _ _ a.from-offsets.now a.from-large.now b.pick-no.ensures b.pick-nl.ensures
+cut : (b : tie.After-bytes_for-ne) → let a = (S b).args in used a.width (take b.pick-no.result a.from_offsets.now) (take b.pick-nl.result a.from_large.now) ≡ take (a.n + 1) (O (S b))
+cut b = let a = (S b).args in front-offsets a.width (a.n + 1) _ _ a.from_offsets.now a.from_large.now b.pick-no.ensures b.pick-nl.ensures
 
-taken : (b : tie.After-bytes_for-ne) → let a = (S b).args in column (used a.width (take b.pick-no.result a.from-offsets.now) (take b.pick-nl.result a.from-large.now)) (from 0 (take b.bytes_for-nr.result a.from-rows.now)) (take a.m a.from-values.now) (from 0 (take b.bytes_for-ne.result a.from-elements.now)) ≡ front (O (S b)) a.from-rows.now a.from-values.now a.from-elements.now a.n a.m
-taken b = let a = (S b).args in front_is (O (S b)) a.from-rows.now a.from-values.now a.from-elements.now a.n a.m _ _ (cut b) b.bytes_for-nr.ensures b.bytes_for-ne.ensures
+taken : (b : tie.After-bytes_for-ne) → let a = (S b).args in column (used a.width (take b.pick-no.result a.from_offsets.now) (take b.pick-nl.result a.from_large.now)) (from 0 (take b.bytes_for-nr.result a.from_rows.now)) (take a.m a.from_values.now) (from 0 (take b.bytes_for-ne.result a.from_elements.now)) ≡ front (O (S b)) a.from_rows.now a.from_values.now a.from_elements.now a.n a.m
+taken b = let a = (S b).args in front_is (O (S b)) a.from_rows.now a.from_values.now a.from_elements.now a.n a.m _ _ (cut b) b.bytes_for-nr.ensures b.bytes_for-ne.ensures
 
 -- ---- needs
 

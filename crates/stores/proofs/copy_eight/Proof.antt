@@ -12,8 +12,7 @@ use Rattle.stores.proofs.copy_eight.Tie as tie
 
 -- after the first four were copied
 abbrev start : tie.After-copy_four → tie.Start
-start f = f
-
+start f = f.before.before
 copy_four-requires : tie.Need-copy_four-requires
 copy_four-requires c κs = (omega (arith, c.requires.0), omega (arith, c.requires.1))
 
@@ -36,7 +35,7 @@ returns c =
     let G : ℕ → ℤ = λ i. get_or a.values.now i (pos 0) in
     c.copy_four-2.ensures
     ∙ ap (λ (l : List ℤ). sets l (a.k + 4) (tab G (a.p + 4) 4)) c.copy_four.ensures
-    ∙ sets_tab G a.p 4 4 4 a.out-1.now a.k (omega arith) (omega arith)
+    ∙ sets_tab G a.p 4 4 4 a.out.now a.k (omega arith) (omega arith)
 
 pub copy_eight_spec : {M : Type 1} → statement M
 copy_eight_spec =

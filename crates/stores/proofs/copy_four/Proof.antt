@@ -12,11 +12,10 @@ module _ (s : tie.Start) where
   from = four s.args.p (length s.args.values.now) s.requires.0 (omega (arith, s.well_formed.0))
 
   to : Four s.args.k (length s.args.out.now)
-  to = four s.args.k (length s.args.out.now) s.requires.1 (omega (arith, s.good.1.1.0))
+  to = four s.args.k (length s.args.out.now) s.requires.1 (omega (arith, s.well_formed.1.1.0))
 
 abbrev start : tie.After-v3-1 → tie.Start
-start c = c
-
+start c = c.before.before.before.before
 offset_bounds-values-p : tie.Need-offset_bounds-values-p
 offset_bounds-values-p c = (from c).bytes0
 

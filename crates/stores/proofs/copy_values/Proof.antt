@@ -24,8 +24,7 @@ module _ (i : tie.In-loop-left invariant-loop-left decreases-loop-left) where
 
 module _ (e : tie.After-loop-left invariant-loop-left decreases-loop-left) where
   abbrev start : tie.Start invariant-loop-left decreases-loop-left
-  start = e
-
+  start = e.before.before.before
   abbrev last : ℕ
   last = start.args.n - 8
 
@@ -81,7 +80,7 @@ returns c =
     let few = c.loop-left-test.false in
     let all : last c.before.before.before + 8 ≡ a.n = omega arith in
     copied_over _ _ _ _ _ v (last c.before.before.before) 8 (omega (arith, v.fewer)) (omega (arith, v.fewer)) c.copy_eight-2.ensures
-    ∙ ap (λ (i : ℕ). sets a.out-1.now a.at (tab (λ j. get_or a.values.now j (pos 0)) a.a i)) all
+    ∙ ap (λ (i : ℕ). sets a.out.now a.at (tab (λ j. get_or a.values.now j (pos 0)) a.a i)) all
 
 pub copy_values_spec : {M : Type 1} → statement M
 copy_values_spec =

@@ -12,8 +12,7 @@ use Rattle.stores.proofs.turn_eight.Tie as tie
 
 -- after the first four were copied
 abbrev start : tie.After-turn_four → tie.Start
-start f = f
-
+start f = f.before.before
 overflow_add-p : tie.Need-overflow_add-p
 overflow_add-p c = omega (arith, c, c.requires.0)
 
@@ -36,7 +35,7 @@ returns c =
     let G : ℕ → ℤ = λ i. get_or a.values.now i (pos 0) in
     c.turn_four-2.ensures
     ∙ ap (λ (l : List ℤ). sets l (a.k + 4) (reverse (tab G a.p 4))) c.turn_four.ensures
-    ∙ back_up G a.p 4 4 a.out-1.now a.k
+    ∙ back_up G a.p 4 4 a.out.now a.k
 
 pub turn_eight_spec : {M : Type 1} → statement M
 turn_eight_spec =

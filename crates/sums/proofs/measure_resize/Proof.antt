@@ -20,8 +20,7 @@ abbrev decreases-loop-left : tie.decreases-loop-left
 decreases-loop-left rows rstart n counts bits start width sum₀ r₀ left₀ sum r left = left
 
 abbrev S : tie.At-loop-left invariant-loop-left decreases-loop-left → tie.Start invariant-loop-left decreases-loop-left
-S l = l
-
+S l = l.before.before.before
 abbrev B : tie.Start invariant-loop-left decreases-loop-left → Bits
 B s = from s.args.rstart s.args.rows.now
 

@@ -24,8 +24,7 @@ abbrev L : tie.Start → ValueRoom
 L s = value_room (length s.args.out_values.now) (length s.args.out_rows.now)
 
 abbrev S : tie.After-list_refusal-k → tie.Start
-S f = f
-
+S f = f.before.before.before.before
 list_refusal-k-requires : tie.Need-list_refusal-k-requires
 list_refusal-k-requires c κs = search
 

@@ -28,8 +28,7 @@ abbrev C : tie.Start invariant-loop-left decreases-loop-left → Column
 C s = let a = s.args in column (used a.width a.offsets.now a.large.now) (from a.rstart a.rows.now) a.values.now (from a.estart a.elements.now)
 
 abbrev S : tie.At-loop-left invariant-loop-left decreases-loop-left → tie.Start invariant-loop-left decreases-loop-left
-S l = l
-
+S l = l.before.before.before.before.before.before
 abbrev count : tie.At-loop-left invariant-loop-left decreases-loop-left → ℕ
 count l = l.row_count-n.result
 

@@ -19,11 +19,9 @@ use Rattle.views.proofs.copy_shown.Tie as tie
 -- ---- places: the start; room found, from the rows written
 
 abbrev S : tie.After-measure_view-m → tie.Start
-S m = m
-
+S m = m.before.before.before.before.before
 abbrev roomed : tie.After-write_shown → tie.Else-not-has_room
-roomed w = w
-
+roomed w = w.before.before.before.before.before
 -- ---- the view, its rows, and the lengths of the output
 
 abbrev C : tie.Start → View

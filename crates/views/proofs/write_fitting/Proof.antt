@@ -17,11 +17,9 @@ use Rattle.views.proofs.write_fitting.Tie as tie
 -- ---- places: the start; room found, from the view written
 
 abbrev S : tie.After-has_view_room → tie.Start
-S h = h
-
+S h = h.before.before.before.before.before.before.before
 abbrev roomed : tie.After-write_view → tie.Else-not-has_view_room
-roomed w = w
-
+roomed w = w.before.before.before.before.before.before
 -- ---- the column, its rows, and the lengths of the output
 
 abbrev C : tie.Start → Column

@@ -22,14 +22,12 @@ decreases-loop-left offsets sizes rows rstart values elements estart out-offsets
 -- ---- places: the start and the first offset put, from the loop; row r read, from the row written
 
 abbrev put : tie.At-loop-left invariant-loop-left decreases-loop-left → tie.After-put_offset invariant-loop-left decreases-loop-left
-put l = l
-
+put l = l.before.before
 abbrev S : tie.At-loop-left invariant-loop-left decreases-loop-left → tie.Start invariant-loop-left decreases-loop-left
 S l = (put l)
 
 abbrev read : tie.After-put_row-at invariant-loop-left decreases-loop-left → tie.After-offset_at-size invariant-loop-left decreases-loop-left
-read w = w
-
+read w = w.before.before.before.before
 -- ---- the view, its rows, and how many
 
 abbrev C : tie.Start invariant-loop-left decreases-loop-left → View

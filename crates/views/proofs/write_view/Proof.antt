@@ -29,20 +29,15 @@ decreases-loop-left offsets rows rstart values elements estart out-offsets₀ ou
 -- ---- places: the start, from the loop; row r read, from the row written; the row written, from its offset and from its size
 
 abbrev S : tie.At-loop-left invariant-loop-left decreases-loop-left → tie.Start invariant-loop-left decreases-loop-left
-S l = l
-
+S l = l.before.before.before.before.before.before
 abbrev valued : tie.After-put_row-next invariant-loop-left decreases-loop-left → tie.After-offset_of-begin invariant-loop-left decreases-loop-left
-valued w = w
-
+valued w = w.before.before.before.before
 abbrev read : tie.After-offset_of-begin invariant-loop-left decreases-loop-left → tie.After-offset_at-b invariant-loop-left decreases-loop-left
-read o = o
-
+read o = o.before.before
 abbrev placed : tie.After-put_offset invariant-loop-left decreases-loop-left → tie.After-put_row-next invariant-loop-left decreases-loop-left
-placed p = p
-
+placed p = p.before.before.before.before.before.before.before
 abbrev sized : tie.After-put_offset-in-loop-left invariant-loop-left decreases-loop-left → tie.After-put_offset invariant-loop-left decreases-loop-left
-sized p = p
-
+sized p = p.before.before.before
 -- ---- the column, its rows, and how many
 
 abbrev C : tie.Start invariant-loop-left decreases-loop-left → Column
@@ -57,7 +52,7 @@ W l = row_at (C (S l))
 abbrev rows_are : (l : tie.At-loop-left invariant-loop-left decreases-loop-left) → count l ≡ row_count (C (S l)).offsets
 rows_are l = l.row_count-n.ensures
 
-roomy : (l : tie.At-loop-left invariant-loop-left decreases-loop-left) → let a = (S l).args in ViewRoomInˡ (count l) (length (flat (tab (W l) 0 (count l)))) (length a.out_offsets-1.now) (length a.out_sizes-1.now) (length a.out_rows-1.now) (length a.out_values-1.now) (length a.out_elements-1.now)
+roomy : (l : tie.At-loop-left invariant-loop-left decreases-loop-left) → let a = (S l).args in ViewRoomInˡ (count l) (length (flat (tab (W l) 0 (count l)))) (length a.out_offsets.now) (length a.out_sizes.now) (length a.out_rows.now) (length a.out_values.now) (length a.out_elements.now)
 roomy l = view-room-at (C (S l)) (count l) (rows_are l) (S l).requires.1.1
 
 -- the row that a turn makes is row r's

@@ -11,8 +11,7 @@ use Rattle.windows.proofs.run_window.Tie as tie
 -- ---- places: tray two cleared, tray one cleared, the call
 
 abbrev two : tie.After-slice_known-16-1 → tie.After-clear-2
-two c = c
-
+two c = c.before.before.before.before.before.before
 abbrev one : tie.After-slice_known-16-1 → tie.After-clear
 one c = (two c)
 

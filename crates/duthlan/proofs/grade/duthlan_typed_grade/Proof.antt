@@ -8,11 +8,9 @@ use Rattle.duthlan.proofs.grade.duthlan_typed_grade.Tie as tie
 -- ---- places: the counts told, the column graded, the counts found long enough
 
 abbrev told : tie.After-slice_known-4-1 → tie.After-put_grade
-told c = c
-
+told c = c.before.before
 abbrev ran : tie.After-slice_known-4-1 → tie.After-grade_column-answer
-ran c = c
-
+ran c = c.before.before.before.before.before.before
 abbrev long : tie.After-slice_known-4-1 → tie.Else-counts-lt1
 long c = (ran c)
 

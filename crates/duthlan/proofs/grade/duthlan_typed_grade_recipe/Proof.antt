@@ -10,8 +10,7 @@ use Rattle.duthlan.proofs.grade.duthlan_typed_grade_recipe.Tie as tie
 -- ---- places: the answer told, the recipe graded, what it is graded by, the tally read, the start
 
 abbrev told : tie.After-slice_known-18-1 → tie.After-settle
-told c = c
-
+told c = c.before.before.before.before
 abbrev ran : tie.After-slice_known-18-1 → tie.After-grade_recipe-done
 ran c = (told c)
 
@@ -92,7 +91,7 @@ returns c =
       record {
         list = graded-told _ _ _ _ _ _ refl _ h m.0 s.told;
         grades = grades-told _ _ _ _ _ _ refl _ h m.1.1.1.1;
-        tally = tally-told _ _ _ a.k (ltb (length a.counts-1.now) 4 || ltb (length a.tally-1.now) 32) _ h s.tally-1 m.1.1.1.0 (got c).get_tally-before.ensures;
+        tally = tally-told _ _ _ a.k (ltb (length a.counts.now) 4 || ltb (length a.tally.now) 32) _ h s.tally m.1.1.1.0 (got c).get_tally-before.ensures;
       },
       (m.1.0, m.1.1.0),
     )

@@ -9,11 +9,9 @@ use Rattle.duthlan.proofs.hash.duthlan_typed_lists_hashed.Tie as tie
 -- ---- places: the counts told, the operation run, the counts found long enough, the operation named, the code looked up
 
 abbrev told : tie.After-slice_known-in-Two-4-1 → tie.After-put_list
-told c = c
-
+told c = c.before.before
 abbrev ran : tie.After-slice_known-in-Two-4-1 → tie.After-generic_set_lists_hashed-answer
-ran c = c
-
+ran c = c.before.before.before.before.before.before.before.before.before.before.before.before
 abbrev long : tie.After-slice_known-in-Two-4-1 → tie.Else-counts-lt4
 long c = (ran c)
 

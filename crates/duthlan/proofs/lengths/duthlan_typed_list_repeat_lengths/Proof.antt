@@ -9,8 +9,7 @@ use Rattle.duthlan.proofs.lengths.duthlan_typed_list_repeat_lengths.Tie as tie
 -- ---- places: the lengths told, measured, their places found enough
 
 abbrev told : tie.After-slice_known-2-1 → tie.After-put_repeat
-told c = c
-
+told c = c.before.before
 abbrev asked : tie.After-slice_known-2-1 → tie.After-general_list_repeat_lengths-answer
 asked c = (told c)
 

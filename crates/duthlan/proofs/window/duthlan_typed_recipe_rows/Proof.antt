@@ -6,8 +6,7 @@ use Rattle.duthlan.proofs.window.duthlan_typed_recipe_rows.Tie as tie
 -- ---- places: the answer told, the recipe run, the rows chosen
 
 abbrev told : tie.After-slice_known-14-1 → tie.After-settle
-told c = c
-
+told c = c.before.before
 abbrev ran : tie.After-slice_known-14-1 → tie.After-run_window-answer
 ran c = (told c)
 

@@ -9,8 +9,7 @@ use Rattle.duthlan_large.proofs.lengths.duthlan_large_any_value_lengths.Tie as t
 -- ---- places: the lengths told, measured, their places found enough
 
 abbrev told : tie.After-slice_known-2-1 → tie.After-put_values
-told c = c
-
+told c = c.before.before
 abbrev asked : tie.After-slice_known-2-1 → tie.After-general_array_any_value_lengths-answer
 asked c = (told c)
 

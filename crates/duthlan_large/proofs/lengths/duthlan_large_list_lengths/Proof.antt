@@ -10,8 +10,7 @@ use Rattle.duthlan_large.proofs.lengths.duthlan_large_list_lengths.Tie as tie
 -- ---- places: the lengths told, measured, their places found enough, the operation named, the code looked up
 
 abbrev told : tie.After-slice_known-in-Of-1 → tie.After-put_list
-told c = c
-
+told c = c.before.before
 abbrev asked : tie.After-slice_known-in-Of-1 → tie.After-lengths-answer
 asked c = (told c)
 

@@ -16,20 +16,15 @@ slice_bounds-get_list-end-2 c = search rules
 
 -- the places that are used below
 abbrev get-list-of-lo3 : tie.After-lo-3-1 → tie.After-get_list
-get-list-of-lo3 p = p
-
+get-list-of-lo3 p = p.before.before.before.before.before.before
 abbrev get-list-of-lv3 : tie.After-lv-3-1 → tie.After-get_list
-get-list-of-lv3 p = p
-
+get-list-of-lv3 p = p.before.before.before.before.before.before.before
 abbrev start-of-lv : tie.After-lv-1 → tie.Start
-start-of-lv p = p
-
+start-of-lv p = p.before.before.before.before.before.before.before.before.before
 abbrev general-array-element-arg-of-slice-known2 : tie.After-slice_known-2-1 → tie.After-general_array_element-arg-1
-general-array-element-arg-of-slice-known2 p = p
-
+general-array-element-arg-of-slice-known2 p = p.before.before.before.before.before
 abbrev get-values-of-general-array-element-arg : tie.After-general_array_element-arg-1 → tie.After-get_values
-get-values-of-general-array-element-arg p = p
-
+get-values-of-general-array-element-arg p = p.before.before.before.before.before
 abbrev get-values-of-slice-known2 : tie.After-slice_known-2-1 → tie.After-get_values
 get-values-of-slice-known2 p = get-values-of-general-array-element-arg (general-array-element-arg-of-slice-known2 p)
 

@@ -41,8 +41,7 @@ module _ (s : tie.Start) where
 -- the row is copied, and the fill is left
 module _ (c : tie.After-write_forward-k) where
   abbrev s₂ : tie.Start
-  s₂ = c
-
+  s₂ = c.before.before.before.before.before.before
   longer : s₂.args.n ≤ s₂.args.count
   longer = omega (arith, c)
 
@@ -51,8 +50,7 @@ module _ (c : tie.After-write_forward-k) where
 
 module _ (c : tie.After-fill_cell) where
   abbrev w₂ : tie.After-write_forward-k
-  w₂ = c
-
+  w₂ = c.before.before.before.before
   -- the fill is the argument that is written
   fill_is : replicate ((s₂ w₂).args.count - (s₂ w₂).args.n) (F (s₂ w₂)) ≡ replicate ((s₂ w₂).args.count - (s₂ w₂).args.n) (elem_of c.fill_cell.result)
   fill_is = rw c.fill_cell.ensures

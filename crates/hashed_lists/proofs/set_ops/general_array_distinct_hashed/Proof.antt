@@ -23,17 +23,14 @@ R s = let a = s.args in room (length a.out_offsets.now) (length a.out_rows.now) 
 -- ---- places: what is written, the refusals passed, the area cleared, the start
 
 abbrev wrote : tie.After-slice_known-7-1 → tie.After-after_three
-wrote c = c
-
+wrote c = c.before.before.before.before.before.before.before.before
 abbrev passed : tie.After-slice_known-7-1 → tie.Else-k-ne0
 passed c = (wrote c)
 
 abbrev clears : tie.After-list_refusal-k → tie.After-clear_area
-clears f = f
-
+clears f = f.before.before.before
 abbrev S : tie.After-list_refusal-k → tie.Start
-S f = f
-
+S f = f.before.before.before.before.before.before.before.before.before.before
 -- ---- needs
 
 clear_area-requires : tie.Need-clear_area-requires

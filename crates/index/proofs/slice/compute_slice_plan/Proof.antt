@@ -53,8 +53,7 @@ module _ (c : tie.After-fits_i32-2) where
 
 module _ (c : tie.Else-not-fits_i32-2) where
   abbrev asked : tie.Start
-  asked = c
-
+  asked = c.before.before.before.before.before
   to-fit : fits narrow asked.args.to ≡ true
   to-fit = sym (to-fits c.before) ∙ not-false _ c.if-not-fits_i32-2.false-raw
 
@@ -65,8 +64,7 @@ module _ (c : tie.Else-not-fits_i32-2) where
 
 module _ (c : tie.After-adjusted_to_index-last) where
   abbrev fitting : tie.Else-not-fits_i32-2
-  fitting = c
-
+  fitting = c.before.before
   abbrev start : tie.Start
   start = asked fitting
 
@@ -92,8 +90,7 @@ module _ (c : tie.After-adjusted_to_index-last) where
 
 module _ (c : tie.Else-last-lt0) where
   abbrev places : tie.After-adjusted_to_index-last
-  places = c
-
+  places = c.before.before
   first-inside : le_z (pos (start places).args.len) places.adjusted_from_index-first.result ≡ false
   first-inside = rw (read_len (start places), read_first places) at c.if-n-first.false
 

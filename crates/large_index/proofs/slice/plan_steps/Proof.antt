@@ -34,8 +34,7 @@ direction : (c : tie.After-is_against) → c.is_against.result ≡ against (coun
 direction c = rw (read_from c.before.before, read_to c.before.before, read_stride c.before.before) at c.is_against.ensures
 
 abbrev start : tie.Else-is_against → tie.Start
-start c = c
-
+start c = c.before.before.before
 suits : (c : tie.Else-is_against) → let s = start c in Suits wide s.args.from s.args.to s.args.stride
 suits c =
     let s = start c in

@@ -15,13 +15,11 @@ use Rattle.match_rows.proofs.remove.put_row.Tie as tie
 -- ---- places: the start, from the limit read and from what comes after
 
 abbrev start : tie.After-limit_of → tie.Start
-start l = l
-
+start l = l.before.before.before.before.before.before
 abbrev limited : tie.After-slice_known-in-Value-element-1 → tie.After-limit_of
-limited p = p
-
+limited p = p.before.before.before.before.before.before
 -- the row that is made
-row_is : (l : tie.After-limit_of) → let a = (start l).args in let es = tab (elem_at a.values.now (from a.estart a.elements.now)) a.a a.len in row_made (op_made (remove_op a.element a.limit-1) es) ≡ list_row (removed l.limit_of.result (elem_of a.element) es)
+row_is : (l : tie.After-limit_of) → let a = (start l).args in let es = tab (elem_at a.values.now (from a.estart a.elements.now)) a.a a.len in row_made (op_made (remove_op a.element a.limit) es) ≡ list_row (removed l.limit_of.result (elem_of a.element) es)
 row_is l =
     removed-made _ _ _ _ (matched _ _ _ _ _ l.in-Value-element.is l.in-Value.is (rw (back64 _ l.in-Value.known_told-1-own.given.0.1) at l.limit_of.ensures))
 

@@ -24,8 +24,7 @@ decreases-loop-most values elements estart a n element limit out-values₀ out-e
 
 module _ (l : tie.At-loop-most invariant-loop-most decreases-loop-most) where
   abbrev s : tie.Start invariant-loop-most decreases-loop-most
-  s = l
-
+  s = l.before.before.before
   abbrev E : ℕ → Elem
   E = elem_at s.args.values.now (from s.args.estart s.args.elements.now)
 
@@ -42,8 +41,7 @@ module _ (l : tie.At-loop-most invariant-loop-most decreases-loop-most) where
 -- a run without a match comes next
 module _ (c : tie.After-before_match-run invariant-loop-most decreases-loop-most) where
   abbrev l₁ : tie.At-loop-most invariant-loop-most decreases-loop-most
-  l₁ = c
-
+  l₁ = c.before.before
   abbrev run : ℕ
   run = c.before_match-run.result
 
@@ -72,11 +70,9 @@ last c =
 -- the run is written, and a match comes next
 module _ (c : tie.Else-run-left invariant-loop-most decreases-loop-most) where
   abbrev w₁ : tie.After-write_forward-k invariant-loop-most decreases-loop-most
-  w₁ = c
-
+  w₁ = c.before.before.before.before
   abbrev m₁ : tie.After-before_match-run invariant-loop-most decreases-loop-most
-  m₁ = w₁
-
+  m₁ = w₁.before.before.before
   abbrev l₂ : tie.At-loop-most invariant-loop-most decreases-loop-most
   l₂ = l₁ m₁
 
@@ -89,8 +85,7 @@ module _ (c : tie.Else-run-left invariant-loop-most decreases-loop-most) where
 -- the limit is spent: the rest is copied
 module _ (c : tie.After-loop-most invariant-loop-most decreases-loop-most) where
   abbrev l₃ : tie.At-loop-most invariant-loop-most decreases-loop-most
-  l₃ = c
-
+  l₃ = c.before
   spent : rest l₃ ≡ tab (E l₃) l₃.loop-most.p l₃.loop-most.left
   spent = removed_spent (F l₃) l₃.loop-most.most _ (omega (arith, c.loop-most-test.false))
 

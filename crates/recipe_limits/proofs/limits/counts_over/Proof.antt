@@ -15,11 +15,9 @@ decreases-loop-left rows rstart n args bits start a most sum₀ r₀ left₀ sum
 -- ---- places: the start, a turn, and the walk there
 
 abbrev S : tie.At-loop-left invariant-loop-left decreases-loop-left → tie.Start invariant-loop-left decreases-loop-left
-S l = l
-
+S l = l.before.before.before
 abbrev turn : tie.After-plus-sum invariant-loop-left decreases-loop-left → tie.In-loop-left invariant-loop-left decreases-loop-left
-turn c = c
-
+turn c = c.before.before
 abbrev walk : tie.After-plus-sum invariant-loop-left decreases-loop-left → tie.At-loop-left invariant-loop-left decreases-loop-left
 walk c = (turn c)
 

@@ -7,15 +7,13 @@ use Rattle.recipe_limits.proofs.limits.step_limit.Tie as tie
 -- ---- places: the start, for resize and for other steps
 
 abbrev S : tie.Then-code-eq6 → tie.Start
-S c = c
-
+S c = c.before.before.before
 abbrev other : tie.Else-code-eq6 → tie.Start
-other c = c
-
+other c = c.before.before.before
 -- ---- needs
 
 overflow_mul-first : tie.Need-overflow_mul-first
-overflow_mul-first c = let s = S c in let h = s.requires.1.1.0 c.if-code-eq6.true in omega (arith, h, s.good.0)
+overflow_mul-first c = let s = S c in let h = s.requires.1.1.0 c.if-code-eq6.true in omega (arith, h, s.well_formed.0)
 
 counts_over-requires : tie.Need-counts_over-requires
 counts_over-requires c κs = let p = (S c).requires in (p.0, (p.1.0, p.1.1.0 c.if-code-eq6.true))

@@ -23,8 +23,7 @@ decreases-loop-r values elements estart a n v r₀ r = n - r
 -- ---- places: the loop and the start, from the values before the next equal one
 
 abbrev turn : tie.After-before_value-r invariant-loop-r decreases-loop-r → tie.At-loop-r invariant-loop-r decreases-loop-r
-turn b = b
-
+turn b = b.before.before
 abbrev start : tie.After-before_value-r invariant-loop-r decreases-loop-r → tie.Start invariant-loop-r decreases-loop-r
 start b = (turn b)
 

@@ -19,8 +19,7 @@ abbrev decreases-loop-left : tie.decreases-loop-left
 decreases-loop-left values elements estart a n start stride count out-values₀ out-elements₀ at p₀ left₀ k₀ out-values out-elements p left k = left
 
 abbrev S : tie.At-loop-left invariant-loop-left decreases-loop-left → tie.Start invariant-loop-left decreases-loop-left
-S l = l
-
+S l = l.before.before.before
 abbrev E : tie.Start invariant-loop-left decreases-loop-left → ℕ → Elem
 E s = elem_at s.args.values.now (from s.args.estart s.args.elements.now)
 

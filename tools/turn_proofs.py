@@ -93,6 +93,9 @@ def turn_chain(fn, env, root, comps):
             return name, ("place", at, name)
         c = comps[i]
         n = norm(c)
+        if n not in fn.steps and c.endswith("_lem") and norm(c[:-4]) in fn.steps:
+            # a field that the names' script took for a lemma
+            n = norm(c[:-4])
         rest = comps[i + 1 :]
         if c in ("pre", "requires"):
             return name + ".requires" + "".join("." + x for x in rest), ("value", None, None)
@@ -137,13 +140,13 @@ def turn_step(fn, head, step, rest):
         c = "true"
     elif c == "left" and not loop:
         c = "false"
-    elif c == "auto" and step in fn.callee:
+    elif c in ("auto", "new") and step in fn.callee:
         k = 0
         while k < len(more) and more[k] == "1":
             k += 1
         ps = fn.params.get(fn.callee[step])
         if ps and k < len(more) and more[k] == "0" and k < len(ps):
-            return head + ".auto." + ps[k] + "".join("." + x for x in more[k + 1 :]), ("value", None, None)
+            return head + "." + c + "." + ps[k] + "".join("." + x for x in more[k + 1 :]), ("value", None, None)
     c = fn.facts.get(step, {}).get(c, c)
     return head + "." + c + "".join("." + x for x in more), ("value", None, None)
 
@@ -294,7 +297,17 @@ def turn(fn, text, spec, landed):
                     r = results.get(head.group(1)) if head else None
                     n = norm(comps[0])
                     place = r is not None or n in ("before", "args", "ranges", "fits", "pre", "requires") or n in fn.steps
-                    new, got = turn_chain(fn, {"@": ("place" if place else "value", r, "@")}, "@", comps)
+                    if all(c == "before" for c in comps):
+                        at, many = r, len(comps)
+                        if r is not None:
+                            many = 0
+                            for _ in comps:
+                                arm = fn.arms[at] if at is not None else None
+                                many += not (arm and arm[1] > 1)
+                                at = fn.parent[at] if at is not None else None
+                        new, got = "@" + ".before" * many, ("place", at, None)
+                    else:
+                        new, got = turn_chain(fn, {"@": ("place" if place else "value", r, "@")}, "@", comps)
                     m = re.search(r"let ([\w'₀-₉]+) = $", src[:k])
                     if m and re.match(r"\s+in\b", text[pos:]):
                         env[m.group(1)] = got if got[0] != "place" else ("place", got[1], m.group(1))
@@ -303,6 +316,8 @@ def turn(fn, text, spec, landed):
                 want = wants(root) if not comps else []
                 if want and any(w is not None for w in want) and not re.match(r"\s*[:=]", text[pos:]):
                     # a helper, and what it is given
+                    m = re.search(r"let ([\w'₀-₉]+) = $", done)
+                    bound = m.group(1) if m and root in results else None
                     done += root
                     for w in want:
                         m = re.match(r"\s+", text[pos:])
@@ -340,6 +355,8 @@ def turn(fn, text, spec, landed):
                                 done += got[2] + ".before" * many
                         else:
                             done += go(arg, env)
+                    if bound and re.match(r"\s+in\b", text[pos:]):
+                        env[bound] = ("place", results[root], bound)
                     continue
                 if not comps:
                     if root in env and env[root][0] == "place" and env[root][2] != root and not re.match(r"\s*=", text[pos:]):
@@ -362,7 +379,7 @@ def turn(fn, text, spec, landed):
 
         # a name for a place
         for n, at in results.items():
-            m = re.search(r"(?m)^(\s*" + re.escape(n) + r"(?: [\w'κ₀-₉_]+)* =\s+)([\w'₀-₉]+)((?:\.before)*)\s*$", b)
+            m = re.search(r"(?m)^(\s*" + re.escape(n) + r"(?: [\w'κ₀-₉_]+)* =\s+)([\w'₀-₉]+)((?:\.before)*)[ \t]*$", b)
             if m and at is not None and env.get(m.group(2), ("", None))[0] == "place" and env[m.group(2)][1] is not None:
                 many = fn.many_up(env[m.group(2)][1], at)
                 if many is not None:

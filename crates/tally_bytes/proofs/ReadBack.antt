@@ -46,14 +46,15 @@ counts_back [] w s at l none = refl
 counts_back (n ∷ f) w s at l (more h a) =
     let b = little_endian 8 n in
     let rest = bytes_of_counts f ++ s in
-    let e : w ++ ((b ++ bytes_of_counts f) ++ s) ≡ w ++ (b ++ rest) = ap (λ (z : List ℕ). w ++ z) (append_assoc b (bytes_of_counts f) s) in
+    let e : (b ++ bytes_of_counts f) ++ s ≡ b ++ rest = append_assoc b (bytes_of_counts f) s in
+    let x = bytes_of_counts (n ∷ f) ++ s in
     let z : at + 0 * 8 ≡ length w + 0 = omega arith in
-    let first : number 8 (w ++ (b ++ rest)) (at + 0 * 8) ≡ n = ap (number 8 (w ++ (b ++ rest))) z ∙ past_front 8 w (b ++ rest) 0 ∙ spelled 8 n rest (omega arith) in
+    let first : number 8 (w ++ x) (at + 0 * 8) ≡ n = ap (λ (r : List ℕ). number 8 (w ++ r) (at + 0 * 8)) e ∙ ap (number 8 (w ++ (b ++ rest))) z ∙ past_front 8 w (b ++ rest) 0 ∙ spelled 8 n rest (omega arith) in
     let m : length (w ++ b) ≡ at + 8 = omega (arith, length-append w b, length-little_endian 8 n) in
-    rw (e, first, shifted w b rest at (length f), counts_back f (w ++ b) s (at + 8) m a)
+    rw (first, shifted w b rest x e at (length f), counts_back f (w ++ b) s (at + 8) m a)
   where
-    shifted : (w b r : List ℕ) (at n : ℕ) → tab (λ k. number 8 (w ++ (b ++ r)) (at + k * 8)) 1 n ≡ tab (λ k. number 8 ((w ++ b) ++ r) (at + 8 + k * 8)) 0 n
-    shifted w b r at n = tab_ext (λ k. number 8 (w ++ (b ++ r)) (at + k * 8)) (λ k. number 8 ((w ++ b) ++ r) (at + 8 + k * 8)) 1 0 n (λ i _. let q : at + (1 + i) * 8 ≡ at + 8 + (0 + i) * 8 = omega arith in rw (append_assoc, q))
+    shifted : (w b r x : List ℕ) → x ≡ b ++ r → (at n : ℕ) → tab (λ k. number 8 (w ++ x) (at + k * 8)) 1 n ≡ tab (λ k. number 8 ((w ++ b) ++ r) (at + 8 + k * 8)) 0 n
+    shifted w b r x e at n = tab_ext (λ k. number 8 (w ++ x) (at + k * 8)) (λ k. number 8 ((w ++ b) ++ r) (at + 8 + k * 8)) 1 0 n (λ i _. let q : at + (1 + i) * 8 ≡ at + 8 + (0 + i) * 8 = omega arith in rw (e, append_assoc, q))
 
 -- ---- the tally
 

@@ -37,20 +37,28 @@ use Rattle.attempt.proofs.attempt.Tie as tie
 
 abbrev S : tie.After-refusal-first → tie.Start
 S c = c.before.before.before.before.before.before.before.before.before.before.before.before.before.before
+
 abbrev F : tie.Else-k-ne0 → tie.After-refusal-first
 F e = e.before.before.before
+
 abbrev past : tie.After-start_from-r_start → tie.Else-k-ne0
 past t = t.before.before.before.before
+
 abbrev list : tie.After-start_from-x_start → tie.After-start_from-r_start
 list t = t.before.before.before.before.before.before.before.before
+
 abbrev none : tie.After-copy-arg-then-count-eq0-4-1 → tie.Then-count-eq0
 none c = c.before.before.before.before.before
+
 abbrev copied : tie.After-out_large-1 → tie.After-copy
 copied c = c.before.before.before.before.before.before.before
+
 abbrev ready : tie.After-steps-arg-16-1 → tie.After-start_from-x_start
 ready c = c.before.before.before.before.before.before.before.before.before.before.before.before.before.before.before.before
+
 abbrev went : tie.After-out_large-2-1 → tie.After-steps
 went c = c.before.before.before.before.before.before.before.before.before.before.before.before.before.before.before.before.before.before.before.before.before
+
 -- ---- columns, and the lengths of the trays and the output
 
 abbrev C : tie.Start → Column
@@ -129,6 +137,7 @@ first_count e = let s = S (F e) in part_count (C s) s.args.begin s.args.end (wit
 -- the second list, where the arguments are cut too
 abbrev second : tie.After-start_from-x_start → tie.After-start_from-rr_start
 second t = t.before.before.before
+
 second-cut : (t : tie.After-start_from-x_start) → let s = S (F (past (list t))) in let a = s.args in let u = second t in column (used a.width u.offsets_of-ro.result.now u.large_of-rl.result.now) (from u.start_from-rr_start.result u.bits_from-rr.result.now) a.rvalues.now (from a.r_estart a.relements.now) ≡ part (D s) a.begin a.end
 second-cut t =
     let s = S (F (past (list t))) in
@@ -181,7 +190,7 @@ start_from-r_start-requires : tie.Need-start_from-r_start-requires
 start_from-r_start-requires c κs = (first_reads c.before.before.before).rows.small
 
 copy-requires : tie.Need-copy-requires
-copy-requires c κs = let t = (none c) in rw (first-cut t.before) (first_part (past t.before))
+copy-requires c κs = let t = (none c).before in rw (first-cut t) (first_part (past t))
 
 shape_of-out_offsets-then-count-eq0 : tie.Need-shape_of-out_offsets-then-count-eq0
 shape_of-out_offsets-then-count-eq0 c = (copied c).copy.auto.out_offsets
@@ -201,11 +210,11 @@ shape_of-out_large-then-count-eq0 c = (copied c).copy.auto.out_large
 returns-then-count-eq0 : tie.Need-returns-then-count-eq0
 returns-then-count-eq0 c =
     let w = copied c in
-    let q = none w in
-    let e = past q in
+    let q = none w.before in
+    let e = past q.before in
     let s = S (F e) in
     let a = s.args in
-    rw (named (F e) ∙ call_copy (N s) a.numbers.now a.columns a.begin a.end (C s) (D s) (A s) (One s) (Two s) (Out s) (rows e) (first_rows e) (going e).0 (going e).1 (first_reads e) (second_reads e) q.if-count-eq0.true ∙ ap (λ (x : Column). fitted (rows_of x) (Out s)) (sym (first-cut q)))
+    rw (named (F e) ∙ call_copy (N s) a.numbers.now a.columns a.begin a.end (C s) (D s) (A s) (One s) (Two s) (Out s) (rows e) (first_rows e) (going e).0 (going e).1 (first_reads e) (second_reads e) q.if-count-eq0.true ∙ ap (λ (x : Column). fitted (rows_of x) (Out s)) (sym (first-cut q.before)))
     w.copy.ensures
 
 offsets_of-ro-requires : tie.Need-offsets_of-ro-requires
@@ -313,7 +322,7 @@ shape_of-out_large c = (went c).steps.auto.out_large
 returns : tie.Need-returns
 returns c =
     let w = went c in
-    let t = ready w in
+    let t = ready w.before in
     let e = past (list t) in
     let s = S (F e) in
     let a = s.args in

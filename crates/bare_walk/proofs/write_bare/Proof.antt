@@ -35,22 +35,25 @@ O s = used s.args.width s.args.out_offsets.now s.args.out_large.now
 
 abbrev put : tie.At-loop-left invariant-loop-left decreases-loop-left → tie.After-put_offset invariant-loop-left decreases-loop-left
 put l = l.before.before.before.before
+
 abbrev counted : tie.At-loop-left invariant-loop-left decreases-loop-left → tie.After-row_count-n invariant-loop-left decreases-loop-left
-counted l = (put l)
+counted l = (put l).before.before.before
 
 abbrev S : tie.At-loop-left invariant-loop-left decreases-loop-left → tie.Start invariant-loop-left decreases-loop-left
-S l = (counted l)
+S l = (counted l).before
 
 abbrev count : tie.At-loop-left invariant-loop-left decreases-loop-left → ℕ
 count l = (counted l).row_count-n.result
 
 abbrev written : tie.After-put_offset-arg-in-loop-left-2-1 invariant-loop-left decreases-loop-left → tie.After-put_values-at invariant-loop-left decreases-loop-left
 written p = p.before.before.before
+
 abbrev turned : tie.After-out_large-in-loop-left-1 invariant-loop-left decreases-loop-left → tie.After-put_values-at invariant-loop-left decreases-loop-left
 turned p = written p.before.before.before
 
 abbrev looked : tie.After-put_values-at invariant-loop-left decreases-loop-left → tie.After-offset_at-b invariant-loop-left decreases-loop-left
 looked w = w.before.before
+
 abbrev W : tie.At-loop-left invariant-loop-left decreases-loop-left → ℕ → Row
 W l = let s = S l in bare_at s.args.op (I s) s.args.values.now
 
@@ -102,18 +105,18 @@ put_values-at-requires c κs =
     (s.requires.0, (omega arith, bare_room s.args.op (I s) s.args.values.now (count c.before.before.before) c.loop-left.invariant.0 c.loop-left-test.true c.offset_at-b.result c.offset_at-b.ensures.0 (places c.before.before.before)))
 
 overflow_add-r-in-loop-left : tie.Need-overflow_add-r-in-loop-left invariant-loop-left decreases-loop-left
-overflow_add-r-in-loop-left c = let i = (looked (written c)) in omega (arith, i.loop-left.invariant.0.walk.rows, i.loop-left-test.true)
+overflow_add-r-in-loop-left c = let i = (looked (written c)).before in omega (arith, i.loop-left.invariant.0.walk.rows, i.loop-left-test.true)
 
 put_offset-requires-in-loop-left : tie.Need-put_offset-requires-in-loop-left invariant-loop-left decreases-loop-left
 put_offset-requires-in-loop-left c κs =
     let w = written c in
     let q = looked w in
-    let s = S q in
-    let k = bare_small s.args.op (I s) s.args.values.now (count q) q.loop-left.invariant.0 q.loop-left-test.true q.offset_at-b.result q.offset_at-b.ensures.0 w.put_values-at.ensures in
-    (bare_slot s.args.op (I s) s.args.values.now (count q) q.loop-left.invariant.0 q.loop-left-test.true q.offset_at-b.result q.offset_at-b.ensures.0 (omega (arith, rows_are q, s.requires.1.1.1.0, put_keeps (O s) 0 0 (put q).put_offset.ensures)), omega (arith, k, total q, s.requires.1.1.0))
+    let s = S q.before.before in
+    let k = bare_small s.args.op (I s) s.args.values.now (count q.before.before) q.loop-left.invariant.0 q.loop-left-test.true q.offset_at-b.result q.offset_at-b.ensures.0 w.put_values-at.ensures in
+    (bare_slot s.args.op (I s) s.args.values.now (count q.before.before) q.loop-left.invariant.0 q.loop-left-test.true q.offset_at-b.result q.offset_at-b.ensures.0 (omega (arith, rows_are q.before.before, s.requires.1.1.1.0, put_keeps (O s) 0 0 (put q.before.before).put_offset.ensures)), omega (arith, k, total q.before.before, s.requires.1.1.0))
 
 overflow_add-r-in-loop-left-2 : tie.Need-overflow_add-r-in-loop-left-2 invariant-loop-left decreases-loop-left
-overflow_add-r-in-loop-left-2 c = let i = (looked (turned c)) in omega (arith, i.loop-left.invariant.0.walk.rows, i.loop-left-test.true)
+overflow_add-r-in-loop-left-2 c = let i = (looked (turned c)).before in omega (arith, i.loop-left.invariant.0.walk.rows, i.loop-left-test.true)
 
 overflow_sub-left : tie.Need-overflow_sub-left invariant-loop-left decreases-loop-left
 overflow_sub-left c = omega (arith, (looked (turned c)).loop-left-test.true)
@@ -125,9 +128,9 @@ loop-left-preserved : tie.Need-loop-left-preserved invariant-loop-left decreases
 loop-left-preserved c =
     let w = turned c in
     let q = looked w in
-    let s = S q in
+    let s = S q.before.before in
     let p = c.put_offset-in-loop-left in
-    (bare_more s.args.op (I s) s.args.values.now (count q) q.loop-left.invariant.0 q.loop-left-test.true q.offset_at-b.result q.offset_at-b.ensures.0 w.put_values-at.ensures p.ensures, p.auto.narrow ∙ q.loop-left.invariant.1, p.auto.wide ∙ q.loop-left.invariant.2)
+    (bare_more s.args.op (I s) s.args.values.now (count q.before.before) q.loop-left.invariant.0 q.loop-left-test.true q.offset_at-b.result q.offset_at-b.ensures.0 w.put_values-at.ensures p.ensures, p.auto.narrow ∙ q.loop-left.invariant.1, p.auto.wide ∙ q.loop-left.invariant.2)
 
 shape_of-out_offsets : tie.Need-shape_of-out_offsets invariant-loop-left decreases-loop-left
 shape_of-out_offsets c = c.loop-left.invariant.1 ∙ (put c.before).put_offset.kept.1.0

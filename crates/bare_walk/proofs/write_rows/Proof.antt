@@ -14,12 +14,16 @@ I s = used s.args.width s.args.offsets.now s.args.large.now
 
 abbrev begun : tie.After-row_count-n → tie.Start
 begun p = p.before.before.before
+
 abbrev counted : tie.After-write_bare-m → tie.After-row_count-n
 counted p = p.before.before.before.before
+
 abbrev written : tie.After-push_same → tie.After-write_bare-m
 written p = p.before.before.before.before.before
+
 abbrev set : tie.After-slice_known-4-1 → tie.After-push_same
 set p = p.before.before.before.before.before.before
+
 row_count-n-requires : tie.Need-row_count-n-requires
 row_count-n-requires c κs = search
 

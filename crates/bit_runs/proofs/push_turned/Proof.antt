@@ -14,10 +14,13 @@ decreases-loop-left bitmap k s n out₀ at last t j₀ p₀ left₀ out j p left
 -- from the end of a turn, from the loop, and from after it
 abbrev Turn : tie.After-slice_known-in-loop-left-1 invariant-loop-left decreases-loop-left → tie.In-loop-left invariant-loop-left decreases-loop-left
 Turn c = c.before.before.before.before.before.before
+
 abbrev Began : tie.At-loop-left invariant-loop-left decreases-loop-left → tie.Start invariant-loop-left decreases-loop-left
 Began c = c.before.before.before
+
 abbrev Over : tie.After-slice_known-2-1 invariant-loop-left decreases-loop-left → tie.At-loop-left invariant-loop-left decreases-loop-left
 Over c = c.before.before.before.before.before.before.before.before
+
 overflow_add-last : tie.Need-overflow_add-last invariant-loop-left decreases-loop-left
 overflow_add-last c = omega (arith, c.requires.0)
 
@@ -46,7 +49,7 @@ push_few-requires c κs =
     (omega arith, (omega arith, (c.few_turned-back.ensures.1, omega (arith, c.loop-left-test.true, c.loop-left.invariant, (Began c.before.before.before.before).requires.1.1.0))))
 
 overflow_add-p : tie.Need-overflow_add-p invariant-loop-left decreases-loop-left
-overflow_add-p c = let t = Turn c in omega (arith, t.loop-left-test.true, t.loop-left.invariant, (Began t).requires)
+overflow_add-p c = let t = Turn c in omega (arith, t.loop-left-test.true, t.loop-left.invariant, (Began t.before).requires)
 
 loop-left-smaller : tie.Need-loop-left-smaller invariant-loop-left decreases-loop-left
 loop-left-smaller c = omega (arith, (Turn c).loop-left-test.true)

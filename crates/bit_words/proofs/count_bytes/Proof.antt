@@ -17,13 +17,17 @@ decreases-loop-left bitmap from n found₀ k₀ left₀ found k left = left
 
 abbrev start : tie.At-loop-left invariant-loop-left decreases-loop-left → tie.Start invariant-loop-left decreases-loop-left
 start c = c.before.before
+
 -- the loop, from a turn, from its end, and from the last byte
 abbrev turn : tie.After-ones_below-found invariant-loop-left decreases-loop-left → tie.At-loop-left invariant-loop-left decreases-loop-left
 turn c = c.before.before.before
+
 abbrev none : tie.Then-left-eq0 invariant-loop-left decreases-loop-left → tie.At-loop-left invariant-loop-left decreases-loop-left
 none c = c.before.before
+
 abbrev last : tie.After-ones_below invariant-loop-left decreases-loop-left → tie.At-loop-left invariant-loop-left decreases-loop-left
 last c = c.before.before.before.before
+
 loop-left-init : tie.Need-loop-left-init invariant-loop-left decreases-loop-left
 loop-left-init c = (omega arith, omega arith, omega arith)
 

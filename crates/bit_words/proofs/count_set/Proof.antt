@@ -18,10 +18,13 @@ decreases-loop-left bitmap n found₀ k₀ left₀ found k left = left
 
 abbrev start : tie.At-loop-left invariant-loop-left decreases-loop-left → tie.Start invariant-loop-left decreases-loop-left
 start c = c.before.before
+
 abbrev turn : tie.After-word_at invariant-loop-left decreases-loop-left → tie.At-loop-left invariant-loop-left decreases-loop-left
 turn c = c.before.before
+
 abbrev over : tie.After-count_bytes invariant-loop-left decreases-loop-left → tie.At-loop-left invariant-loop-left decreases-loop-left
 over c = c.before.before
+
 loop-left-init : tie.Need-loop-left-init invariant-loop-left decreases-loop-left
 loop-left-init c = (omega arith, omega arith, omega arith)
 

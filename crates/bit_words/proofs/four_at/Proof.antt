@@ -7,6 +7,7 @@ use Rattle.bit_words.proofs.four_at.Tie as tie
 
 abbrev start : tie.After-pair_at-2 → tie.Start
 start c = c.before.before.before
+
 pair_at-requires : tie.Need-pair_at-requires
 pair_at-requires c κs = omega arith
 
@@ -18,7 +19,7 @@ pair_at-requires-2 c κs = omega arith
 
 returns : tie.Need-returns
 returns c =
-    let first = c.before.pair_at_lem.ensures in
+    let first = c.pair_at.ensures in
     let second = c.pair_at-2.ensures in
     let a = (start c).args in
     join_halves (bit_at a.bitmap.now) 16 64 _ _ (8 * a.k) (8 * (a.k + 2)) (omega arith) (omega arith) first.0 first.1 second.0 second.1

@@ -9,8 +9,9 @@ use Rattle.bit_words.proofs.pair_at.Tie as tie
 
 abbrev first : tie.After-wide-2 → tie.After-wide
 first c = c.before.before
+
 abbrev start : tie.After-wide-2 → tie.Start
-start c = (first c)
+start c = (first c).before.before.before
 
 bounds-bitmap-k : tie.Need-bounds-bitmap-k
 bounds-bitmap-k c = omega arith

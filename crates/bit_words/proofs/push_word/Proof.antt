@@ -12,13 +12,17 @@ use Rattle.bit_words.proofs.push_word.Tie as tie
 -- after all of the word is put, and where the place was tested
 abbrev whole : tie.After-slice_known-then-s-eq0-1 → tie.After-put_word
 whole c = c.before.before
+
 abbrev even : tie.After-put_word → tie.Then-s-eq0
 even c = c.before.before
+
 -- after the bits past the byte begun are put, and where the place was tested
 abbrev rest : tie.After-slice_known-3-1 → tie.After-put_word-2
 rest c = c.before.before
+
 abbrev begun : tie.After-put_word-2 → tie.Else-s-eq0
 begun c = c.before.before.before
+
 put_word-requires : tie.Need-put_word-requires
 put_word-requires c κs = omega (arith, c.if-s-eq0.true)
 

@@ -7,6 +7,7 @@ use Rattle.bit_words.proofs.word_at.Tie as tie
 
 abbrev start : tie.After-four_at-2 → tie.Start
 start c = c.before.before.before
+
 four_at-requires : tie.Need-four_at-requires
 four_at-requires c κs = omega arith
 

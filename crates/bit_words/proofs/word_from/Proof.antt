@@ -8,8 +8,10 @@ use Rattle.bit_words.proofs.word_from.Tie as tie
 
 abbrev start : tie.After-word_at → tie.Start
 start c = c.before.before
+
 abbrev word : tie.After-wide → tie.After-word_at
 word c = c.before.before.before
+
 word_at-requires : tie.Need-word_at-requires
 word_at-requires c κs = omega arith
 

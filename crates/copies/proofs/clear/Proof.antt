@@ -4,6 +4,7 @@ use Rattle.copies.proofs.clear.Tie as tie
 -- the offsets cleared, from the values cleared
 abbrev offsets : tie.After-clear_i64 → tie.After-clear_i32
 offsets v = v.before.before.before.before.before.before.before
+
 clear_i32-requires : tie.Need-clear_i32-requires
 clear_i32-requires c κs = tt
 

@@ -4,6 +4,7 @@ use Rattle.copies.proofs.clear_large.Tie as tie
 -- the offsets cleared, from the values cleared
 abbrev offsets : tie.After-clear_i64-2 → tie.After-clear_i64
 offsets v = v.before.before.before.before.before.before.before
+
 clear_i64-requires : tie.Need-clear_i64-requires
 clear_i64-requires c κs = tt
 

@@ -21,8 +21,10 @@ use Rattle.copies.proofs.copy.Tie as tie
 
 abbrev S : tie.After-has_room → tie.Start
 S h = h.before.before.before.before.before.before.before.before
+
 abbrev roomed : tie.After-write_rows → tie.Else-not-has_room
 roomed w = w.before.before.before.before.before.before
+
 -- ---- the column, its rows, and the lengths of the output
 
 abbrev C : tie.Start → Column
@@ -75,7 +77,7 @@ list_answer-requires : tie.Need-list_answer-requires
 list_answer-requires c κs =
     let e = roomed c.before.before.before.before.before.before.before in
     let r = roomy e in
-    (omega (arith, r.rows, rows_are e, c.write_rows.auto.out_rows), omega (arith, r.elements, e.measure_rows-m.ensures.0, c.write_rows.auto.out_elements))
+    (omega (arith, r.rows, rows_are e.before, c.write_rows.auto.out_rows), omega (arith, r.elements, e.measure_rows-m.ensures.0, c.write_rows.auto.out_elements))
 
 shape_of-out_offsets : tie.Need-shape_of-out_offsets
 shape_of-out_offsets c = search
@@ -95,8 +97,8 @@ shape_of-out_large c = search
 returns : tie.Need-returns
 returns c =
     let e = roomed c.before.before.before.before.before.before.before.before in
-    let s = S e in
-    list-made (W s) _ _ (fitted-made (W s) (L s) (sym (room_is e) ∙ not-false _ e.if-not-has_room.false-raw)) (rows_are e) e.measure_rows-m.ensures.0 c.write_rows.ensures c.list_answer.ensures
+    let s = S e.before in
+    list-made (W s) _ _ (fitted-made (W s) (L s) (sym (room_is e.before) ∙ not-false _ e.if-not-has_room.false-raw)) (rows_are e.before) e.measure_rows-m.ensures.0 c.write_rows.ensures c.list_answer.ensures
 
 pub copy_spec : {M : Type 1} → statement M
 copy_spec =

@@ -24,6 +24,7 @@ C s = let a = s.args in column (used a.width a.offsets.now a.large.now) (from a.
 
 abbrev S : tie.At-loop-left invariant-loop-left decreases-loop-left → tie.Start invariant-loop-left decreases-loop-left
 S l = l.before.before.before.before
+
 row_count-n-requires : tie.Need-row_count-n-requires invariant-loop-left decreases-loop-left
 row_count-n-requires c κs = search rules
 

@@ -10,8 +10,10 @@ use Rattle.copy_rows.proofs.put_row.Tie as tie
 
 abbrev S : tie.After-is_valid-valid → tie.Start
 S v = v.before.before.before.before.before
+
 abbrev told : tie.After-write_forward-next → tie.After-row_len-len
 told w = w.before.before.before
+
 -- ---- needs
 
 is_valid-valid-requires : tie.Need-is_valid-valid-requires
@@ -45,7 +47,7 @@ shape_of-out_elements c = search
 returns : tie.Need-returns
 returns c =
     let n = told c.before.before.before.before.before.before.before in
-    let a = (S n).args in
+    let a = (S n.before).args in
     let E = elem_at a.values.now (from a.estart a.elements.now) in
     let e = elems_from (from a.rstart a.rows.now) a.r a.a a.b E in
     record {

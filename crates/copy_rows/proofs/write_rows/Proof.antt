@@ -28,11 +28,13 @@ decreases-loop-left offsets rows rstart values elements estart out-offsets₀ ou
 
 abbrev put : tie.At-loop-left invariant-loop-left decreases-loop-left → tie.After-put_offset invariant-loop-left decreases-loop-left
 put l = l.before.before.before
+
 abbrev S : tie.At-loop-left invariant-loop-left decreases-loop-left → tie.Start invariant-loop-left decreases-loop-left
-S l = (put l)
+S l = (put l).before.before.before.before.before.before.before.before
 
 abbrev read : tie.After-put_row-at invariant-loop-left decreases-loop-left → tie.After-offset_at-b invariant-loop-left decreases-loop-left
 read w = w.before.before.before.before
+
 -- ---- the column, its rows, and how many
 
 abbrev C : tie.Start invariant-loop-left decreases-loop-left → Column
@@ -82,27 +84,27 @@ put_row-at-requires c κs =
     (between (C (S c.before.before.before.before.before.before)) _ c.loop-left.r _ _ (S c.before.before.before.before.before.before).requires.0 (rows_are c.before.before.before.before.before.before) (omega (arith, c)) c.offset_at-a.ensures.0 c.offset_at-b.ensures.0, walk_room (W c.before.before.before.before.before.before) (count c.before.before.before.before.before.before) (made c.before.before.before) c.loop-left-test.true (same_row c.before.before.before) c.loop-left.invariant.0 (room_at (C (S c.before.before.before.before.before.before)) (count c.before.before.before.before.before.before) (rows_are c.before.before.before.before.before.before) (S c.before.before.before.before.before.before).requires.1.1 (put_keeps (O (S c.before.before.before.before.before.before)) 0 0 (put c.before.before.before.before.before.before).put_offset.ensures)))
 
 overflow_add-r-in-loop-left : tie.Need-overflow_add-r-in-loop-left invariant-loop-left decreases-loop-left
-overflow_add-r-in-loop-left c = omega (arith, (read c.before.before.before.before.before.before.before))
+overflow_add-r-in-loop-left c = omega (arith, (read c.before.before.before.before.before.before.before).before.before)
 
 put_offset-requires-in-loop-left : tie.Need-put_offset-requires-in-loop-left invariant-loop-left decreases-loop-left
 put_offset-requires-in-loop-left c κs =
     let q = read c.before.before.before.before.before.before.before in
-    let k = walk_small (W q) (count q) (made q) q.loop-left-test.true (same_row q) q.loop-left.invariant.0 c.put_row-at.ensures in
-    (walk_slot (W q) (count q) (made q) q.loop-left-test.true (same_row q) q.loop-left.invariant.0 (room_at (C (S q)) (count q) (rows_are q) (S q).requires.1.1 (put_keeps (O (S q)) 0 0 (put q).put_offset.ensures)), omega (arith, (S q).requires.1.0, rw (rows_at (C (S q)) (count q) (rows_are q)) at k))
+    let k = walk_small (W q.before.before.before) (count q.before.before.before) (made q) q.loop-left-test.true (same_row q) q.loop-left.invariant.0 c.put_row-at.ensures in
+    (walk_slot (W q.before.before.before) (count q.before.before.before) (made q) q.loop-left-test.true (same_row q) q.loop-left.invariant.0 (room_at (C (S q.before.before.before)) (count q.before.before.before) (rows_are q.before.before.before) (S q.before.before.before).requires.1.1 (put_keeps (O (S q.before.before.before)) 0 0 (put q.before.before.before).put_offset.ensures)), omega (arith, (S q.before.before.before).requires.1.0, rw (rows_at (C (S q.before.before.before)) (count q.before.before.before) (rows_are q.before.before.before)) at k))
 
 overflow_add-r-in-loop-left-2 : tie.Need-overflow_add-r-in-loop-left-2 invariant-loop-left decreases-loop-left
-overflow_add-r-in-loop-left-2 c = omega (arith, (read c.before.before.before.before.before.before.before.before.before.before))
+overflow_add-r-in-loop-left-2 c = omega (arith, (read c.before.before.before.before.before.before.before.before.before.before).before.before)
 
 overflow_sub-left : tie.Need-overflow_sub-left invariant-loop-left decreases-loop-left
-overflow_sub-left c = omega (arith, (read c.before.before.before.before.before.before.before.before.before.before))
+overflow_sub-left c = omega (arith, (read c.before.before.before.before.before.before.before.before.before.before).before.before)
 
 loop-left-smaller : tie.Need-loop-left-smaller invariant-loop-left decreases-loop-left
-loop-left-smaller c = omega (arith, (read c.before.before.before.before.before.before.before.before.before.before))
+loop-left-smaller c = omega (arith, (read c.before.before.before.before.before.before.before.before.before.before).before.before)
 
 loop-left-preserved : tie.Need-loop-left-preserved invariant-loop-left decreases-loop-left
 loop-left-preserved c =
     let q = read c.before.before.before.before.before.before.before.before.before.before in
-    (walk_more (W q) (count q) (made q) q.loop-left-test.true (same_row q) q.loop-left.invariant.0 c.put_row-at.ensures c.put_offset-in-loop-left.ensures, c.put_offset-in-loop-left.auto.narrow ∙ q.loop-left.invariant.1, c.put_offset-in-loop-left.auto.wide ∙ q.loop-left.invariant.2)
+    (walk_more (W q.before.before.before) (count q.before.before.before) (made q) q.loop-left-test.true (same_row q) q.loop-left.invariant.0 c.put_row-at.ensures c.put_offset-in-loop-left.ensures, c.put_offset-in-loop-left.auto.narrow ∙ q.loop-left.invariant.1, c.put_offset-in-loop-left.auto.wide ∙ q.loop-left.invariant.2)
 
 shape_of-out_offsets : tie.Need-shape_of-out_offsets invariant-loop-left decreases-loop-left
 shape_of-out_offsets c = c.loop-left.invariant.1 ∙ (put c.before).put_offset.kept.1.0

@@ -10,10 +10,12 @@ use Rattle.duthlan.proofs.duthlan_typed_any_value.Tie as tie
 
 abbrev told : tie.After-slice_known-4-1 → tie.After-put_values
 told c = c.before.before
+
 abbrev ran : tie.After-slice_known-4-1 → tie.After-general_array_any_value-answer
 ran c = c.before.before.before.before.before.before.before
+
 abbrev long : tie.After-slice_known-4-1 → tie.Else-counts-lt2
-long c = (ran c)
+long c = (ran c).before.before.before
 
 -- ---- needs
 

@@ -9,14 +9,15 @@ use Rattle.duthlan.proofs.duthlan_typed_recipe.Tie as tie
 
 abbrev told : tie.After-slice_known-16-1 → tie.After-settle
 told c = c.before.before.before.before
+
 abbrev ran : tie.After-slice_known-16-1 → tie.After-run_recipe-done
-ran c = let p = (told c) in p
+ran c = let p = (told c).before.before.before.before.before.before.before.before.before.before in p
 
 abbrev chosen : tie.After-slice_known-16-1 → tie.After-station_for-named
-chosen c = (ran c)
+chosen c = (ran c).before.before.before.before.before.before.before.before.before.before.before.before.before
 
 abbrev got : tie.After-slice_known-16-1 → tie.After-get_tally-before
-got c = (chosen c)
+got c = (chosen c).before
 
 -- ---- needs
 

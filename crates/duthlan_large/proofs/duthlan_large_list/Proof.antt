@@ -10,16 +10,18 @@ use Rattle.duthlan_large.proofs.duthlan_large_list.Tie as tie
 
 abbrev told : tie.After-slice_known-in-Of-3-1 → tie.After-put_list
 told c = c.before.before
+
 abbrev ran : tie.After-slice_known-in-Of-3-1 → tie.After-run-answer
 ran c = c.before.before.before.before.before.before.before.before.before.before
+
 abbrev long : tie.After-slice_known-in-Of-3-1 → tie.Else-counts-lt4
-long c = (ran c)
+long c = (ran c).before.before.before.before.before
 
 abbrev named : tie.After-slice_known-in-Of-3-1 → tie.In-Of-2
-named c = (long c)
+named c = (long c).before
 
 abbrev looked : tie.After-slice_known-in-Of-3-1 → tie.After-one_of-named
-looked c = (named c)
+looked c = (named c).before
 
 -- ---- needs
 
@@ -33,7 +35,7 @@ enum_known-named : tie.Need-enum_known-named
 enum_known-named c = search rules
 
 returns-then-counts-lt4 : tie.Need-returns-then-counts-lt4
-returns-then-counts-lt4 c = list_unserved (too_short _ _ _ (list_code _ _ _ _ _ _ c.before.before.before.before.one_of_lem.ensures c.in-Of.is) (lt-ltb _ 4 c.if-counts-lt4.true))
+returns-then-counts-lt4 c = list_unserved (too_short _ _ _ (list_code _ _ _ _ _ _ c.one_of-named.ensures c.in-Of.is) (lt-ltb _ 4 c.if-counts-lt4.true))
 
 run-answer-requires : tie.Need-run-answer-requires
 run-answer-requires c κs = search rules
@@ -42,7 +44,7 @@ put_list-requires : tie.Need-put_list-requires
 put_list-requires c κs = c.if-counts-lt4.false
 
 returns-in-None : tie.Need-returns-in-None
-returns-in-None c = list_unserved (no_such _ _ _ (no_list-code _ _ _ _ _ _ c.before.before.one_of_lem.ensures c.in-None.is))
+returns-in-None c = list_unserved (no_such _ _ _ (no_list-code _ _ _ _ _ _ c.one_of-named.ensures c.in-None.is))
 
 shape_of-out_offsets : tie.Need-shape_of-out_offsets
 shape_of-out_offsets c = (ran c).run-answer.auto.out_offsets
@@ -62,7 +64,7 @@ shape_of-counts c = (told c).put_list.auto.counts
 returns-else-counts-lt4 : tie.Need-returns-else-counts-lt4
 returns-else-counts-lt4 c =
     list-told
-    (own _ _ _ (list_code _ _ _ _ _ _ (looked c).one_of_lem.ensures (named c).in-Of.is) (le-ltb _ 4 (long c).if-counts-lt4.false))
+    (own _ _ _ (list_code _ _ _ _ _ _ (looked c).one_of-named.ensures (named c).in-Of.is) (le-ltb _ 4 (long c).if-counts-lt4.false))
     (ran c).run-answer.ensures
     (told c).put_list.ensures
 

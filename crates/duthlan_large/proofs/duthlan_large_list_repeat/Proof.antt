@@ -10,10 +10,12 @@ use Rattle.duthlan_large.proofs.duthlan_large_list_repeat.Tie as tie
 
 abbrev told : tie.After-slice_known-8-1 → tie.After-put_repeat
 told c = c.before.before
+
 abbrev ran : tie.After-slice_known-8-1 → tie.After-general_list_repeat-answer
 ran c = c.before.before.before.before.before.before.before.before.before.before.before.before.before
+
 abbrev long : tie.After-slice_known-8-1 → tie.Else-counts-lt6
-long c = (ran c)
+long c = (ran c).before.before.before.before.before.before.before
 
 -- ---- needs
 

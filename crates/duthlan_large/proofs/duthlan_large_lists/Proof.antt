@@ -10,16 +10,18 @@ use Rattle.duthlan_large.proofs.duthlan_large_lists.Tie as tie
 
 abbrev told : tie.After-slice_known-in-Two-3-1 → tie.After-put_list
 told c = c.before.before
+
 abbrev ran : tie.After-slice_known-in-Two-3-1 → tie.After-generic_set_lists-answer
 ran c = c.before.before.before.before.before.before.before.before.before.before
+
 abbrev long : tie.After-slice_known-in-Two-3-1 → tie.Else-counts-lt4
-long c = (ran c)
+long c = (ran c).before.before.before.before.before
 
 abbrev named : tie.After-slice_known-in-Two-3-1 → tie.In-Two-2
-named c = (long c)
+named c = (long c).before
 
 abbrev looked : tie.After-slice_known-in-Two-3-1 → tie.After-operation_of-named
-looked c = (named c)
+looked c = (named c).before
 
 -- ---- needs
 

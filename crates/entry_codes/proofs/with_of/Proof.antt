@@ -19,11 +19,11 @@ enum_told-1 : tie.Need-enum_told-1
 enum_told-1 c = search rules
 
 returns-in-Of : tie.Need-returns-in-Of
-returns-in-Of c = c.taking_of.ensures ∙ taking-one _ c.before.before.before.before.one_of_lem.ensures c.in-Of.is
+returns-in-Of c = c.taking_of.ensures ∙ taking-one _ c.one_of-named.ensures c.in-Of.is
 
 returns-in-None : tie.Need-returns-in-None
 unfolding taking_lent
-returns-in-None c = taking-none _ c.before.before.one_of_lem.ensures c.in-None.is
+returns-in-None c = taking-none _ c.one_of-named.ensures c.in-None.is
 
 pub with_of_spec : {M : Type 1} → statement M
 with_of_spec =

@@ -30,17 +30,22 @@ shape_of-d c = search rules
 -- the places that are used below
 abbrev clear-u83-of-slice-known8 : tie.After-slice_known-8-1 → tie.After-clear_u8-3
 clear-u83-of-slice-known8 p = p.before.before.before.before.before.before
+
 abbrev c-of-slice-known8 : tie.After-slice_known-8-1 → tie.After-c-1
 c-of-slice-known8 p = p.before.before.before.before.before
+
 abbrev clear-u82-of-c : tie.After-c-1 → tie.After-clear_u8-2
 clear-u82-of-c p = p.before.before.before.before.before
+
 abbrev clear-u82-of-slice-known8 : tie.After-slice_known-8-1 → tie.After-clear_u8-2
 clear-u82-of-slice-known8 p = clear-u82-of-c (c-of-slice-known8 p)
 
 abbrev clear-u8-arg3-of-slice-known8 : tie.After-slice_known-8-1 → tie.After-clear_u8-arg-3-1
 clear-u8-arg3-of-slice-known8 p = p.before.before.before.before.before.before.before
+
 abbrev clear-u8-of-clear-u8-arg3 : tie.After-clear_u8-arg-3-1 → tie.After-clear_u8
 clear-u8-of-clear-u8-arg3 p = p.before.before.before.before.before.before.before
+
 abbrev clear-u8-of-slice-known8 : tie.After-slice_known-8-1 → tie.After-clear_u8
 clear-u8-of-slice-known8 p = clear-u8-of-clear-u8-arg3 (clear-u8-arg3-of-slice-known8 p)
 

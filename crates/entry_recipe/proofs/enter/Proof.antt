@@ -18,58 +18,76 @@ use Rattle.entry_recipe.proofs.enter.Tie as tie
 -- the places that are used below
 abbrev put-list-of-slice-known32 : tie.After-slice_known-28-1 → tie.After-put_list
 put-list-of-slice-known32 p = p.before.before.before.before.before.before
+
 abbrev clear-four2-of-slice-known22 : tie.After-slice_known-then-k-ne0-4-1 → tie.After-clear_four-then-k-ne0
 clear-four2-of-slice-known22 p = p.before.before.before.before.before.before.before.before
+
 abbrev run-arg3-of-run-arg6 : tie.After-run-arg-6-1 → tie.After-run-arg-3-1
 run-arg3-of-run-arg6 p = p.before.before.before.before.before
+
 abbrev else1-of-run-arg3 : tie.After-run-arg-3-1 → tie.Else-k-ne0
 else1-of-run-arg3 p = p.before.before.before.before
+
 abbrev else1-of-run-arg6 : tie.After-run-arg-6-1 → tie.Else-k-ne0
 else1-of-run-arg6 p = else1-of-run-arg3 (run-arg3-of-run-arg6 p)
 
 abbrev one-rows-of-slice-known22 : tie.After-slice_known-then-k-ne0-4-1 → tie.After-one_rows-1
 one-rows-of-slice-known22 p = p.before.before.before.before.before.before.before
+
 abbrev then1-of-one-rows : tie.After-one_rows-1 → tie.Then-k-ne0
 then1-of-one-rows p = p.before.before.before.before.before.before
+
 abbrev then1-of-slice-known22 : tie.After-slice_known-then-k-ne0-4-1 → tie.Then-k-ne0
 then1-of-slice-known22 p = then1-of-one-rows (one-rows-of-slice-known22 p)
 
 abbrev put-list-arg3-of-slice-known32 : tie.After-slice_known-28-1 → tie.After-put_list-arg-3-1
 put-list-arg3-of-slice-known32 p = p.before.before.before.before.before.before.before
+
 abbrev put-tally-of-put-list-arg3 : tie.After-put_list-arg-3-1 → tie.After-put_tally
 put-tally-of-put-list-arg3 p = p.before.before.before.before.before.before.before
+
 abbrev put-tally-of-slice-known32 : tie.After-slice_known-28-1 → tie.After-put_tally
 put-tally-of-slice-known32 p = put-tally-of-put-list-arg3 (put-list-arg3-of-slice-known32 p)
 
 abbrev clear-four-of-else1 : tie.Else-k-ne0 → tie.After-clear_four
 clear-four-of-else1 p = p.before.before.before.before.before.before.before.before.before
+
 abbrev recipe-refusal-of-clear-four : tie.After-clear_four → tie.After-recipe_refusal-k
 recipe-refusal-of-clear-four p = p.before.before.before.before.before.before.before.before.before
+
 abbrev recipe-refusal-of-else1 : tie.Else-k-ne0 → tie.After-recipe_refusal-k
 recipe-refusal-of-else1 p = recipe-refusal-of-clear-four (clear-four-of-else1 p)
 
 abbrev two-values-of-clear-four2 : tie.After-clear_four-then-k-ne0 → tie.After-two_values-1
 two-values-of-clear-four2 p = p.before.before.before.before.before.before.before
+
 abbrev clear-four-of-two-values : tie.After-two_values-1 → tie.After-clear_four
 clear-four-of-two-values p = p.before.before.before.before.before.before.before
+
 abbrev clear-four-of-slice-known22 : tie.After-slice_known-then-k-ne0-4-1 → tie.After-clear_four
 clear-four-of-slice-known22 p = clear-four-of-two-values (two-values-of-clear-four2 (clear-four2-of-slice-known22 p))
 
 abbrev get-tally-of-run-arg6 : tie.After-run-arg-6-1 → tie.After-get_tally-before
 get-tally-of-run-arg6 p = p.before.before.before.before.before.before.before.before
+
 abbrev one-values-of-get-tally : tie.After-get_tally-before → tie.After-one_values-1
 one-values-of-get-tally p = p.before.before.before.before.before.before.before
+
 abbrev values-in2-of-one-values : tie.After-one_values-1 → tie.After-values_in-iv
 values-in2-of-one-values p = p.before.before.before.before.before.before.before.before
+
 abbrev values-in2-of-run-arg6 : tie.After-run-arg-6-1 → tie.After-values_in-iv
 values-in2-of-run-arg6 p = values-in2-of-one-values (one-values-of-get-tally (get-tally-of-run-arg6 p))
 
 abbrev put-tally-arg-of-put-list-arg3 : tie.After-put_list-arg-3-1 → tie.After-put_tally-arg-1
 put-tally-arg-of-put-list-arg3 p = p.before.before.before.before.before.before.before.before
+
 abbrev slice-known26-of-put-tally-arg : tie.After-put_tally-arg-1 → tie.After-slice_known-22-1
 slice-known26-of-put-tally-arg p = p.before.before.before.before.before.before.before.before
+
 abbrev run-of-slice-known26 : tie.After-slice_known-22-1 → tie.After-run-done
 run-of-slice-known26 p = p.before.before.before.before.before.before.before.before
+
 abbrev run-of-put-list-arg3 : tie.After-put_list-arg-3-1 → tie.After-run-done
 run-of-put-list-arg3 p = run-of-slice-known26 (slice-known26-of-put-tally-arg (put-tally-arg-of-put-list-arg3 p))
 
@@ -81,6 +99,7 @@ slice-known15-of-get-tally-arg p = p
 
 abbrev offsets-in2-of-slice-known15 : tie.After-slice_known-15-1 → tie.After-offsets_in-io
 offsets-in2-of-slice-known15 p = p.before.before.before.before.before.before.before.before
+
 abbrev offsets-in2-of-run-arg6 : tie.After-run-arg-6-1 → tie.After-offsets_in-io
 offsets-in2-of-run-arg6 p = offsets-in2-of-slice-known15 (slice-known15-of-get-tally-arg (get-tally-arg-of-run-arg6 p))
 
@@ -89,29 +108,37 @@ one-offsets-of-get-tally-arg p = p
 
 abbrev values-in-of-one-offsets : tie.After-one_offsets-1 → tie.After-values_in-hv
 values-in-of-one-offsets p = p.before.before.before.before.before.before.before.before
+
 abbrev values-in-of-run-arg6 : tie.After-run-arg-6-1 → tie.After-values_in-hv
 values-in-of-run-arg6 p = values-in-of-one-offsets (one-offsets-of-get-tally-arg (get-tally-arg-of-run-arg6 p))
 
 abbrev offsets-in-of-one-offsets : tie.After-one_offsets-1 → tie.After-offsets_in-ho
 offsets-in-of-one-offsets p = p.before.before.before.before.before.before.before.before.before
+
 abbrev offsets-in-of-run-arg6 : tie.After-run-arg-6-1 → tie.After-offsets_in-ho
 offsets-in-of-run-arg6 p = offsets-in-of-one-offsets (one-offsets-of-get-tally-arg (get-tally-arg-of-run-arg6 p))
 
 abbrev two-elements2-of-put-tally-arg : tie.After-put_tally-arg-1 → tie.After-two_elements-2-1
 two-elements2-of-put-tally-arg p = p.before.before.before.before.before.before.before.before.before
+
 abbrev v-of-two-elements2 : tie.After-two_elements-2-1 → tie.After-v-1
 v-of-two-elements2 p = p.before.before.before.before.before.before.before.before.before
+
 abbrev else1-of-v : tie.After-v-1 → tie.Else-k-ne0
 else1-of-v p = p.before.before.before.before.before.before.before.before
+
 abbrev else1-of-put-tally-arg : tie.After-put_tally-arg-1 → tie.Else-k-ne0
 else1-of-put-tally-arg p = else1-of-v (v-of-two-elements2 (two-elements2-of-put-tally-arg p))
 
 abbrev slice-known17-of-clear-four2 : tie.After-clear_four-then-k-ne0 → tie.After-slice_known-17-1
 slice-known17-of-clear-four2 p = p.before.before.before.before.before.before.before.before
+
 abbrev clear-four-arg3-of-slice-known17 : tie.After-slice_known-17-1 → tie.After-clear_four-arg-3-1
 clear-four-arg3-of-slice-known17 p = p.before.before.before.before.before.before.before.before
+
 abbrev recipe-refusal-of-clear-four-arg3 : tie.After-clear_four-arg-3-1 → tie.After-recipe_refusal-k
 recipe-refusal-of-clear-four-arg3 p = p.before.before.before.before.before.before.before
+
 abbrev recipe-refusal-of-slice-known22 : tie.After-slice_known-then-k-ne0-4-1 → tie.After-recipe_refusal-k
 recipe-refusal-of-slice-known22 p = recipe-refusal-of-clear-four-arg3 (clear-four-arg3-of-slice-known17 (slice-known17-of-clear-four2 (clear-four2-of-slice-known22 p)))
 
@@ -123,12 +150,16 @@ else1-of-put-list-arg3 p = else1-of-put-tally-arg p.before.before.before.before.
 
 abbrev put-list-arg2-of-slice-known32 : tie.After-slice_known-28-1 → tie.After-put_list-arg-2-1
 put-list-arg2-of-slice-known32 p = p.before.before.before.before.before.before.before.before
+
 abbrev after-of-put-list-arg2 : tie.After-put_list-arg-2-1 → tie.After-after-1
 after-of-put-list-arg2 p = p.before.before.before.before.before.before.before.before
+
 abbrev two-elements2-of-after : tie.After-after-1 → tie.After-two_elements-2-1
 two-elements2-of-after p = p.before.before.before.before.before.before.before.before
+
 abbrev run-arg6-of-two-elements2 : tie.After-two_elements-2-1 → tie.After-run-arg-6-1
 run-arg6-of-two-elements2 p = p.before.before.before.before.before.before.before.before
+
 abbrev get-tally-of-slice-known32 : tie.After-slice_known-28-1 → tie.After-get_tally-before
 get-tally-of-slice-known32 p = get-tally-of-run-arg6 (run-arg6-of-two-elements2 (two-elements2-of-after (after-of-put-list-arg2 (put-list-arg2-of-slice-known32 p))))
 
@@ -137,25 +168,34 @@ else1-of-slice-known32 p = else1-of-put-list-arg3 p.before.before.before.before.
 
 abbrev slice-known6-of-recipe-refusal : tie.After-recipe_refusal-k → tie.After-slice_known-6-1
 slice-known6-of-recipe-refusal p = p.before.before.before.before.before.before.before.before.before
+
 abbrev shared-slice-known8-of-slice-known6 : tie.After-slice_known-6-1 → tie.After-shared_slice_known-8-1
 shared-slice-known8-of-slice-known6 p = p.before.before.before.before.before.before.before.before.before
+
 abbrev start-of-shared-slice-known8 : tie.After-shared_slice_known-8-1 → tie.Start
 start-of-shared-slice-known8 p = p.before.before.before.before.before.before.before.before
+
 abbrev start-of-else1 : tie.Else-k-ne0 → tie.Start
 start-of-else1 p = start-of-shared-slice-known8 (shared-slice-known8-of-slice-known6 (slice-known6-of-recipe-refusal (recipe-refusal-of-clear-four (clear-four-of-else1 p))))
 
 abbrev put-list-arg-of-slice-known32 : tie.After-slice_known-28-1 → tie.After-put_list-arg-1
 put-list-arg-of-slice-known32 p = p.before.before.before.before.before.before.before.before.before
+
 abbrev out-elements-of-put-list-arg : tie.After-put_list-arg-1 → tie.After-out_elements-1
 out-elements-of-put-list-arg p = p.before.before.before.before.before.before.before.before.before
+
 abbrev slice-known24-of-out-elements : tie.After-out_elements-1 → tie.After-slice_known-20-1
 slice-known24-of-out-elements p = p.before.before.before.before.before.before.before.before.before
+
 abbrev o-of-slice-known24 : tie.After-slice_known-20-1 → tie.After-o-1
 o-of-slice-known24 p = p.before.before.before.before.before.before.before.before
+
 abbrev slice-known18-of-o : tie.After-o-1 → tie.After-slice_known-18-1
 slice-known18-of-o p = p.before.before.before.before.before.before.before
+
 abbrev clear-four-of-slice-known18 : tie.After-slice_known-18-1 → tie.After-clear_four
 clear-four-of-slice-known18 p = p.before.before.before.before.before.before.before.before
+
 abbrev clear-four-of-slice-known32 : tie.After-slice_known-28-1 → tie.After-clear_four
 clear-four-of-slice-known32 p = clear-four-of-slice-known18 (slice-known18-of-o (o-of-slice-known24 (slice-known24-of-out-elements (out-elements-of-put-list-arg (put-list-arg-of-slice-known32 p)))))
 
@@ -164,10 +204,13 @@ values-in2-of-slice-known32 p = values-in2-of-one-values (one-values-of-get-tall
 
 abbrev slice-known28-of-put-list-arg : tie.After-put_list-arg-1 → tie.After-slice_known-24-1
 slice-known28-of-put-list-arg p = p.before.before.before.before.before.before.before.before
+
 abbrev slice-known25-of-slice-known28 : tie.After-slice_known-24-1 → tie.After-slice_known-21-1
 slice-known25-of-slice-known28 p = p.before.before.before.before.before.before.before.before
+
 abbrev v-of-slice-known25 : tie.After-slice_known-21-1 → tie.After-v-1
 v-of-slice-known25 p = p.before.before.before.before.before.before.before.before
+
 abbrev get-tally-arg-of-v : tie.After-v-1 → tie.After-get-tally-arg
 get-tally-arg-of-v p = p
 
@@ -176,28 +219,37 @@ offsets-in2-of-slice-known32 p = offsets-in2-of-slice-known15 (slice-known15-of-
 
 abbrev two-rows2-of-out-elements : tie.After-out_elements-1 → tie.After-two_rows-2-1
 two-rows2-of-out-elements p = p.before.before.before.before.before.before.before.before
+
 abbrev run-arg5-of-two-rows2 : tie.After-two_rows-2-1 → tie.After-run-arg-5-1
 run-arg5-of-two-rows2 p = p.before.before.before.before.before.before.before.before
+
 abbrev else1-of-run-arg5 : tie.After-run-arg-5-1 → tie.Else-k-ne0
 else1-of-run-arg5 p = p.before.before.before.before.before.before.before
+
 abbrev one-offsets-of-else1 : tie.Else-k-ne0 → tie.After-one_offsets-1
 one-offsets-of-else1 p = p.before.before.before.before.before.before.before.before
+
 abbrev values-in-of-slice-known32 : tie.After-slice_known-28-1 → tie.After-values_in-hv
 values-in-of-slice-known32 p = values-in-of-one-offsets (one-offsets-of-else1 (else1-of-run-arg5 (run-arg5-of-two-rows2 (two-rows2-of-out-elements (out-elements-of-put-list-arg (put-list-arg-of-slice-known32 p))))))
 
 abbrev offsets-in-of-clear-four : tie.After-clear_four → tie.After-offsets_in-ho
 offsets-in-of-clear-four p = p.before.before.before.before.before.before.before.before
+
 abbrev offsets-in-of-slice-known32 : tie.After-slice_known-28-1 → tie.After-offsets_in-ho
 offsets-in-of-slice-known32 p = offsets-in-of-clear-four (clear-four-of-slice-known18 (slice-known18-of-o (o-of-slice-known24 (slice-known24-of-out-elements (out-elements-of-put-list-arg (put-list-arg-of-slice-known32 p))))))
 
 abbrev run-arg4-of-slice-known24 : tie.After-slice_known-20-1 → tie.After-run-arg-4-1
 run-arg4-of-slice-known24 p = p.before.before.before.before.before.before.before.before.before
+
 abbrev two-values-of-run-arg4 : tie.After-run-arg-4-1 → tie.After-two_values-1
 two-values-of-run-arg4 p = p.before.before.before.before.before.before.before
+
 abbrev clear-four-arg4-of-two-values : tie.After-two_values-1 → tie.After-clear_four-arg-4-1
 clear-four-arg4-of-two-values p = p.before.before.before.before.before.before.before.before
+
 abbrev recipe-refusal-of-clear-four-arg4 : tie.After-clear_four-arg-4-1 → tie.After-recipe_refusal-k
 recipe-refusal-of-clear-four-arg4 p = p.before.before.before.before.before.before.before.before
+
 abbrev recipe-refusal-of-slice-known32 : tie.After-slice_known-28-1 → tie.After-recipe_refusal-k
 recipe-refusal-of-slice-known32 p = recipe-refusal-of-clear-four-arg4 (clear-four-arg4-of-two-values (two-values-of-run-arg4 (run-arg4-of-slice-known24 (slice-known24-of-out-elements (out-elements-of-put-list-arg (put-list-arg-of-slice-known32 p))))))
 

@@ -14,24 +14,31 @@ use Rattle.entry_repeat.proofs.enter.Tie as tie
 -- the places that are used below
 abbrev else1-of-run-arg3 : tie.After-run-arg-3-1 → tie.Else-k-ne0
 else1-of-run-arg3 p = p.before.before.before.before.before.before
+
 abbrev put-repeat-of-slice-known14 : tie.After-slice_known-14-1 → tie.After-put_repeat
 put-repeat-of-slice-known14 p = p.before.before.before.before.before.before.before.before
+
 abbrev slice-known-of-else1 : tie.Else-k-ne0 → tie.After-slice_known-1
 slice-known-of-else1 p = p.before.before.before.before.before.before.before.before
+
 abbrev start-of-slice-known : tie.After-slice_known-1 → tie.Start
 start-of-slice-known p = p.before.before.before.before.before.before.before
+
 abbrev start-of-else1 : tie.Else-k-ne0 → tie.Start
 start-of-else1 p = start-of-slice-known (slice-known-of-else1 p)
 
 abbrev out-elements-of-put-repeat-arg4 : tie.After-put_repeat-arg-4-1 → tie.After-out_elements-1
 out-elements-of-put-repeat-arg4 p = p.before.before.before.before.before.before.before.before
+
 abbrev run-of-out-elements : tie.After-out_elements-1 → tie.After-run-answer
 run-of-out-elements p = p.before.before.before.before.before.before.before.before
+
 abbrev run-of-put-repeat-arg4 : tie.After-put_repeat-arg-4-1 → tie.After-run-answer
 run-of-put-repeat-arg4 p = run-of-out-elements (out-elements-of-put-repeat-arg4 p)
 
 abbrev else1-of-run : tie.After-run-answer → tie.Else-k-ne0
 else1-of-run p = p.before.before.before.before.before.before.before
+
 abbrev else1-of-put-repeat-arg4 : tie.After-put_repeat-arg-4-1 → tie.Else-k-ne0
 else1-of-put-repeat-arg4 p = else1-of-run (run-of-out-elements (out-elements-of-put-repeat-arg4 p))
 
@@ -43,8 +50,10 @@ else1-of-slice-known14 p = else1-of-put-repeat-arg4 p.before.before.before.befor
 
 abbrev put-repeat-arg4-of-slice-known14 : tie.After-slice_known-14-1 → tie.After-put_repeat-arg-4-1
 put-repeat-arg4-of-slice-known14 p = p.before.before.before.before.before.before.before.before.before
+
 abbrev repeat-refusal-of-run : tie.After-run-answer → tie.After-repeat_refusal-k
 repeat-refusal-of-run p = p.before.before.before.before.before.before.before.before
+
 abbrev repeat-refusal-of-slice-known14 : tie.After-slice_known-14-1 → tie.After-repeat_refusal-k
 repeat-refusal-of-slice-known14 p = repeat-refusal-of-run (run-of-out-elements (out-elements-of-put-repeat-arg4 (put-repeat-arg4-of-slice-known14 p)))
 

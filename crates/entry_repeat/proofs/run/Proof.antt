@@ -16,14 +16,19 @@ slice_bounds-get_list-end-2 c = search rules
 -- the places that are used below
 abbrev get-list-of-lo3 : tie.After-lo-3-1 → tie.After-get_list
 get-list-of-lo3 p = p.before.before.before.before.before.before
+
 abbrev get-list-of-lv3 : tie.After-lv-3-1 → tie.After-get_list
 get-list-of-lv3 p = p.before.before.before.before.before.before.before
+
 abbrev general-list-repeat-of-slice-known6 : tie.After-slice_known-6-1 → tie.After-general_list_repeat
 general-list-repeat-of-slice-known6 p = p.before.before.before.before.before.before.before.before.before
+
 abbrev shared-slice-known5-of-lv : tie.After-lv-1 → tie.After-shared_slice_known-5-1
 shared-slice-known5-of-lv p = p.before.before.before.before.before.before
+
 abbrev start-of-shared-slice-known5 : tie.After-shared_slice_known-5-1 → tie.Start
 start-of-shared-slice-known5 p = p.before.before.before.before.before
+
 abbrev start-of-lv : tie.After-lv-1 → tie.Start
 start-of-lv p = start-of-shared-slice-known5 (shared-slice-known5-of-lv p)
 
@@ -44,10 +49,13 @@ start-of-lt3 p = start-of-lv3 p.before
 
 abbrev out-rows-of-slice-known6 : tie.After-slice_known-6-1 → tie.After-out_rows-1
 out-rows-of-slice-known6 p = p.before.before.before.before.before.before.before
+
 abbrev general-list-repeat-arg2-of-out-rows : tie.After-out_rows-1 → tie.After-general_list_repeat-arg-2-1
 general-list-repeat-arg2-of-out-rows p = p.before.before.before.before.before.before.before
+
 abbrev get-values-of-general-list-repeat-arg2 : tie.After-general_list_repeat-arg-2-1 → tie.After-get_values
 get-values-of-general-list-repeat-arg2 p = p.before.before.before.before.before.before
+
 abbrev get-values-of-slice-known6 : tie.After-slice_known-6-1 → tie.After-get_values
 get-values-of-slice-known6 p = get-values-of-general-list-repeat-arg2 (general-list-repeat-arg2-of-out-rows (out-rows-of-slice-known6 p))
 
@@ -65,10 +73,13 @@ start-of-general-list-repeat-arg4 p = start-of-general-list-repeat-arg3 p.before
 
 abbrev o-of-slice-known6 : tie.After-slice_known-6-1 → tie.After-o-1
 o-of-slice-known6 p = p.before.before.before.before.before.before.before.before
+
 abbrev lt3-of-o : tie.After-o-1 → tie.After-lt-3-1
 lt3-of-o p = p.before.before.before.before.before.before.before.before
+
 abbrev get-list-of-lt3 : tie.After-lt-3-1 → tie.After-get_list
 get-list-of-lt3 p = p.before.before.before.before.before.before.before.before
+
 abbrev get-list-of-slice-known6 : tie.After-slice_known-6-1 → tie.After-get_list
 get-list-of-slice-known6 p = get-list-of-lt3 (lt3-of-o (o-of-slice-known6 p))
 
@@ -77,10 +88,13 @@ start-of-general-list-repeat-arg5 p = start-of-general-list-repeat-arg4 p.before
 
 abbrev lo3-of-general-list-repeat : tie.After-general_list_repeat → tie.After-lo-3-1
 lo3-of-general-list-repeat p = p.before.before.before.before.before.before.before.before.before
+
 abbrev slice-known3-of-lo3 : tie.After-lo-3-1 → tie.After-slice_known-3-1
 slice-known3-of-lo3 p = p.before.before.before.before.before.before.before.before.before
+
 abbrev start-of-slice-known3 : tie.After-slice_known-3-1 → tie.Start
 start-of-slice-known3 p = p.before.before.before.before.before.before.before.before.before
+
 abbrev start-of-slice-known6 : tie.After-slice_known-6-1 → tie.Start
 start-of-slice-known6 p = start-of-slice-known3 (slice-known3-of-lo3 (lo3-of-general-list-repeat (general-list-repeat-of-slice-known6 p)))
 

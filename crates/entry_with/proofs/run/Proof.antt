@@ -17,21 +17,28 @@ slice_bounds-get_list-end-2 c = search rules
 -- the places that are used below
 abbrev get-values3-of-lz3 : tie.After-lz-3-1 → tie.After-get_values-3
 get-values3-of-lz3 p = p.before.before.before.before.before.before
+
 abbrev run-of-slice-known4 : tie.After-slice_known-4-1 → tie.After-run
 run-of-slice-known4 p = p.before.before.before.before.before.before
+
 abbrev get-values2-of-lx3 : tie.After-lx-3-1 → tie.After-get_values-2
 get-values2-of-lx3 p = p.before.before.before.before.before.before.before
+
 abbrev get-values2-of-ly3 : tie.After-ly-3-1 → tie.After-get_values-2
 get-values2-of-ly3 p = p.before.before.before.before.before.before.before.before
+
 abbrev get-values-of-lv3 : tie.After-lv-3-1 → tie.After-get_values
 get-values-of-lv3 p = p.before.before.before.before.before.before.before.before.before
+
 abbrev get-values-of-lx3 : tie.After-lx-3-1 → tie.After-get_values
 get-values-of-lx3 p = get-values-of-lv3 p.before
 
 abbrev lx2-of-lz2 : tie.After-lz-2-1 → tie.After-lx-2-1
 lx2-of-lz2 p = p.before.before.before.before.before.before
+
 abbrev get-list-of-lx2 : tie.After-lx-2-1 → tie.After-get_list
 get-list-of-lx2 p = p.before.before.before.before.before
+
 abbrev get-list-of-lz2 : tie.After-lz-2-1 → tie.After-get_list
 get-list-of-lz2 p = get-list-of-lx2 (lx2-of-lz2 p)
 
@@ -43,15 +50,19 @@ get-list-of-lv3 p = get-list-of-lo3 p.before
 
 abbrev shared-slice-known7-of-lv : tie.After-lv-1 → tie.After-shared_slice_known-7-1
 shared-slice-known7-of-lv p = p.before.before.before.before.before.before.before
+
 abbrev start-of-shared-slice-known7 : tie.After-shared_slice_known-7-1 → tie.Start
 start-of-shared-slice-known7 p = p.before.before.before.before.before.before.before
+
 abbrev start-of-lv : tie.After-lv-1 → tie.Start
 start-of-lv p = start-of-shared-slice-known7 (shared-slice-known7-of-lv p)
 
 abbrev run-arg2-of-slice-known4 : tie.After-slice_known-4-1 → tie.After-run-arg-2-1
 run-arg2-of-slice-known4 p = p.before.before.before.before.before.before.before.before.before
+
 abbrev get-values3-of-run-arg2 : tie.After-run-arg-2-1 → tie.After-get_values-3
 get-values3-of-run-arg2 p = p.before.before.before.before.before.before.before.before
+
 abbrev get-values3-of-slice-known4 : tie.After-slice_known-4-1 → tie.After-get_values-3
 get-values3-of-slice-known4 p = get-values3-of-run-arg2 (run-arg2-of-slice-known4 p)
 
@@ -60,10 +71,13 @@ start-of-lx p = start-of-lv p.before.before.before.before
 
 abbrev run-arg4-of-slice-known4 : tie.After-slice_known-4-1 → tie.After-run-arg-4-1
 run-arg4-of-slice-known4 p = p.before.before.before.before.before.before.before
+
 abbrev lv3-of-run-arg4 : tie.After-run-arg-4-1 → tie.After-lv-3-1
 lv3-of-run-arg4 p = p.before.before.before.before.before.before.before
+
 abbrev get-values2-of-lv3 : tie.After-lv-3-1 → tie.After-get_values-2
 get-values2-of-lv3 p = p.before.before.before.before.before.before
+
 abbrev get-values2-of-slice-known4 : tie.After-slice_known-4-1 → tie.After-get_values-2
 get-values2-of-slice-known4 p = get-values2-of-lv3 (lv3-of-run-arg4 (run-arg4-of-slice-known4 p))
 
@@ -72,10 +86,13 @@ start-of-ly p = start-of-lx p.before.before.before
 
 abbrev run-arg3-of-slice-known4 : tie.After-slice_known-4-1 → tie.After-run-arg-3-1
 run-arg3-of-slice-known4 p = p.before.before.before.before.before.before.before.before
+
 abbrev lz2-of-run-arg3 : tie.After-run-arg-3-1 → tie.After-lz-2-1
 lz2-of-run-arg3 p = p.before.before.before.before.before.before.before.before
+
 abbrev get-values-of-lz2 : tie.After-lz-2-1 → tie.After-get_values
 get-values-of-lz2 p = p.before.before.before.before.before.before.before
+
 abbrev get-values-of-slice-known4 : tie.After-slice_known-4-1 → tie.After-get_values
 get-values-of-slice-known4 p = get-values-of-lz2 (lz2-of-run-arg3 (run-arg3-of-slice-known4 p))
 
@@ -90,8 +107,10 @@ start-of-lo3 p = start-of-lz2 p.before
 
 abbrev lz-of-run-arg2 : tie.After-run-arg-2-1 → tie.After-lz-1
 lz-of-run-arg2 p = p.before.before.before.before.before.before.before.before.before
+
 abbrev get-list-of-lz : tie.After-lz-1 → tie.After-get_list
 get-list-of-lz p = p.before.before.before.before.before.before.before.before.before
+
 abbrev get-list-of-slice-known4 : tie.After-slice_known-4-1 → tie.After-get_list
 get-list-of-slice-known4 p = get-list-of-lz (lz-of-run-arg2 (run-arg2-of-slice-known4 p))
 

@@ -16,8 +16,10 @@ decreases-loop-left k values elements estart a n seen₀ run₀ p₀ left₀ see
 
 abbrev S : tie.At-loop-left invariant-loop-left decreases-loop-left → tie.Start invariant-loop-left decreases-loop-left
 S l = l.before.before
+
 abbrev In : tie.After-run_after-run invariant-loop-left decreases-loop-left → tie.In-loop-left invariant-loop-left decreases-loop-left
 In r = r.before.before
+
 -- ---- needs
 
 loop-left-init : tie.Need-loop-left-init invariant-loop-left decreases-loop-left
@@ -33,7 +35,7 @@ returns-then-k-run : tie.Need-returns-then-k-run invariant-loop-left decreases-l
 returns-then-k-run c = let i = In c.before in found i.loop-left.invariant i.loop-left-test.true _ c.is_valid-valid.ensures _ c.run_after-run.ensures c.if-k-run.true
 
 overflow_add-p : tie.Need-overflow_add-p invariant-loop-left decreases-loop-left
-overflow_add-p c = let i = In c.before in omega (arith, i.loop-left-test.true, i.loop-left.invariant.places, (S i).requires.1.inside)
+overflow_add-p c = let i = In c.before in omega (arith, i.loop-left-test.true, i.loop-left.invariant.places, (S i.before).requires.1.inside)
 
 overflow_sub-left : tie.Need-overflow_sub-left invariant-loop-left decreases-loop-left
 overflow_sub-left c = omega (arith, (In c.before).loop-left-test.true)

@@ -16,14 +16,16 @@ use Rattle.grade_rows.proofs.grade_front.Tie as tie
 
 abbrev S : tie.Else-not-is_made → tie.Start
 S e = e.before.before.before.before.before
+
 abbrev counts : tie.After-bytes_for-element_bytes → tie.Else-not-is_made
 counts b = b.before.before.before.before
+
 made : (e : tie.Else-not-is_made) → is_made (S e).args.answer ≡ true
 made e = sym e.is_made.ensures ∙ not-false _ e.if-not-is_made.false-raw
 
 -- the rows at the front
-at : (m : tie.After-elements_in-m) → let a = (S m.before.before).args in AtFront m.before.rows_in_lem.result m.elements_in-m.result a.offsets.now a.rows.now a.values.now a.elements.now
-at m = rw (m.before.rows_in_lem.ensures, m.elements_in-m.ensures) ((S m.before.before).requires.front (made m.before.before))
+at : (m : tie.After-elements_in-m) → let a = (S m.before.before).args in AtFront m.rows_in-n.result m.elements_in-m.result a.offsets.now a.rows.now a.values.now a.elements.now
+at m = rw (m.rows_in-n.ensures, m.elements_in-m.ensures) ((S m.before.before).requires.front (made m.before.before))
 
 -- ---- needs
 
@@ -63,9 +65,9 @@ slice_bounds-grade_rows-end-4 c = sym (length-take-le _ _ (omega (arith, (at c.b
 grade_rows-requires : tie.Need-grade_rows-requires
 grade_rows-requires c κs =
     let s = S (counts c.before) in
-    let l = length-take-le (c.before.rows_in_lem.result + 1) s.args.offsets.now (at c.before.before.before).offsets in (
+    let l = length-take-le (c.rows_in-n.result + 1) s.args.offsets.now (at c.before.before.before).offsets in (
       s.requires.positive (made (counts c.before)),
-      (subst Readable (sym (front_cut _ _ _ _ _ _ c.bytes_for-row_bytes.ensures c.bytes_for-element_bytes.ensures)) (at c.before.before.before).formed, omega (arith, l, c.before.rows_in_lem.ensures, s.requires.room (made (counts c.before)))),
+      (subst Readable (sym (front_cut _ _ _ _ _ _ c.bytes_for-row_bytes.ensures c.bytes_for-element_bytes.ensures)) (at c.before.before.before).formed, omega (arith, l, c.rows_in-n.ensures, s.requires.room (made (counts c.before)))),
     )
 
 shape_of-grades : tie.Need-shape_of-grades
@@ -73,7 +75,7 @@ shape_of-grades c = search rules
 
 returns : tie.Need-returns
 returns c =
-    front-graded _ _ _ _ _ _ _ (made (counts c.before.before.before.before)) c.before.rows_in_lem.ensures c.elements_in-m.ensures c.bytes_for-row_bytes.ensures c.bytes_for-element_bytes.ensures c.grade_rows.ensures
+    front-graded _ _ _ _ _ _ _ (made (counts c.before.before.before.before)) c.rows_in-n.ensures c.elements_in-m.ensures c.bytes_for-row_bytes.ensures c.bytes_for-element_bytes.ensures c.grade_rows.ensures
 
 pub grade_front_spec : {M : Type 1} → statement M
 grade_front_spec =

@@ -24,6 +24,7 @@ decreases-loop-r k offsets rows rstart values elements estart grades₀ n r₀ g
 
 abbrev S : tie.At-loop-r invariant-loop-r decreases-loop-r → tie.Start invariant-loop-r decreases-loop-r
 S l = l.before.before.before.before.before
+
 abbrev C : tie.At-loop-r invariant-loop-r decreases-loop-r → Column
 C l = let a = (S l).args in column a.offsets.now (from a.rstart a.rows.now) a.values.now (from a.estart a.elements.now)
 
@@ -32,11 +33,12 @@ rows_are l = l.row_count-n.ensures
 
 abbrev In : tie.After-row_grade invariant-loop-r decreases-loop-r → tie.In-loop-r invariant-loop-r decreases-loop-r
 In g = g.before.before.before
+
 -- the grade that a turn writes is row r's
-graded : (g : tie.After-row_grade invariant-loop-r decreases-loop-r) → let l = (In g) in g.row_grade.result ≡ grade_of (S l.before).args.k (row_at (C l.before) l.loop-r.r)
+graded : (g : tie.After-row_grade invariant-loop-r decreases-loop-r) → let l = (In g).before in g.row_grade.result ≡ grade_of (S l).args.k (row_at (C l) l.loop-r.r)
 graded g =
-    let l = (In g) in
-    g.row_grade.ensures ∙ ap (grade_of (S l.before).args.k) (row_from_lem (C l.before) l.loop-r.r _ _ g.offset_at-a.ensures.0 g.offset_at-b.ensures.0)
+    let l = (In g).before in
+    g.row_grade.ensures ∙ ap (grade_of (S l).args.k) (row_from_lem (C l) l.loop-r.r _ _ g.offset_at-a.ensures.0 g.offset_at-b.ensures.0)
 
 -- ---- needs
 
@@ -59,16 +61,16 @@ row_grade-requires : tie.Need-row_grade-requires invariant-loop-r decreases-loop
 row_grade-requires c κs = ((S c.before.before.before).requires.0, between (C c.before.before.before) _ c.loop-r.r _ _ (S c.before.before.before).requires.1.0 (rows_are c.before.before.before) c.loop-r-test.true c.offset_at-a.ensures.0 c.offset_at-b.ensures.0)
 
 bounds-grades-r : tie.Need-bounds-grades-r invariant-loop-r decreases-loop-r
-bounds-grades-r c = let i = In c in omega (arith, i.loop-r-test.true, rows_are i, (S i).requires.1.1, i.loop-r.invariant.same)
+bounds-grades-r c = let i = In c in omega (arith, i.loop-r-test.true, rows_are i.before, (S i.before).requires.1.1, i.loop-r.invariant.same)
 
 overflow_add-r-in-loop-r : tie.Need-overflow_add-r-in-loop-r invariant-loop-r decreases-loop-r
-overflow_add-r-in-loop-r c = let i = In c in omega (arith, i.loop-r-test.true, rows_are i, (S i).well_formed)
+overflow_add-r-in-loop-r c = let i = In c in omega (arith, i.loop-r-test.true, rows_are i.before, (S i.before).well_formed)
 
 loop-r-smaller : tie.Need-loop-r-smaller invariant-loop-r decreases-loop-r
 loop-r-smaller c = omega (arith, (In c).loop-r-test.true)
 
 loop-r-preserved : tie.Need-loop-r-preserved invariant-loop-r decreases-loop-r
-loop-r-preserved c = let i = In c in turned (λ r. grade_of (S i).args.k (row_at (C i) r)) _ _ _ _ _ i.loop-r.invariant i.loop-r-test.true (omega (arith, rows_are i, (S i).requires.1.1)) (graded c)
+loop-r-preserved c = let i = In c in turned (λ r. grade_of (S i.before).args.k (row_at (C i.before) r)) _ _ _ _ _ i.loop-r.invariant i.loop-r-test.true (omega (arith, rows_are i.before, (S i.before).requires.1.1)) (graded c)
 
 shape_of-grades : tie.Need-shape_of-grades invariant-loop-r decreases-loop-r
 shape_of-grades c = c.loop-r.invariant.same

@@ -14,6 +14,7 @@ use Rattle.grade_rows.proofs.run_after.Tie as tie
 
 abbrev two : tie.After-same_value → tie.Else-run-eq0
 two v = v.before.before.before
+
 compared : (v : tie.After-same_value) → let a = (two v).args in v.same_value.result ≡ eq_z (get_or a.values.now (a.p - 1) (pos 0)) (get_or a.values.now a.p (pos 0))
 compared v = rw (back64 _ v.same_value-arg-1.given, back64 _ v.same_value-arg-2-1.given) at v.same_value.ensures
 

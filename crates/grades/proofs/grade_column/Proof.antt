@@ -17,6 +17,7 @@ use Rattle.grades.proofs.grade_column.Tie as tie
 
 abbrev S : tie.After-early_refusal-early → tie.Start
 S e = e.before.before.before.before
+
 abbrev C : tie.After-early_refusal-early → Column
 C e = let a = (S e).args in column a.offsets.now (from a.rows_start a.rows.now) a.values.now (from a.elements_start a.elements.now)
 
@@ -25,8 +26,9 @@ early e = early_is (S e).args.k (C e) (length (S e).args.grades.now) e.early_ref
 
 abbrev passed : tie.After-refusal_in-number → tie.Else-early-ne0
 passed r = r.before.before
-own : (r : tie.After-refusal_in-number) → r.refusal_in-number.result ≡ columns_refusal (C (passed r) ∷ []) []
-own r = r.refusal_in-number.ensures ∙ column-refusal _ (C (passed r)) r.general_array_any_value_lengths-lengths.ensures
+
+own : (r : tie.After-refusal_in-number) → r.refusal_in-number.result ≡ columns_refusal (C (passed r).before ∷ []) []
+own r = r.refusal_in-number.ensures ∙ column-refusal _ (C (passed r).before) r.general_array_any_value_lengths-lengths.ensures
 
 -- ---- needs
 
@@ -43,13 +45,13 @@ refusal_in-number-requires : tie.Need-refusal_in-number-requires
 refusal_in-number-requires c κs = search rules
 
 returns-then-number-ne0 : tie.Need-returns-then-number-ne0
-returns-then-number-ne0 c = let x = passed c.before in grade_refused _ (C x) _ (early x) x.if-early-ne0.false (own c.before) c.if-number-ne0.true
+returns-then-number-ne0 c = let x = passed c.before in grade_refused _ (C x.before) _ (early x.before) x.if-early-ne0.false (own c.before) c.if-number-ne0.true
 
 grade_rows-requires : tie.Need-grade_rows-requires
 grade_rows-requires c κs =
     let x = passed c.before.before in
-    let n = none_early _ (rows_of (C x)) _ (sym (early x) ∙ x.if-early-ne0.false) in
-    (n.0, (readable (C x) (sym (own c.before.before) ∙ c.if-number-ne0.false), omega (arith, n.1, length-rows (C x))))
+    let n = none_early _ (rows_of (C x.before)) _ (sym (early x.before) ∙ x.if-early-ne0.false) in
+    (n.0, (readable (C x.before) (sym (own c.before.before) ∙ c.if-number-ne0.false), omega (arith, n.1, length-rows (C x.before))))
 
 rows_measured-requires : tie.Need-rows_measured-requires
 rows_measured-requires c κs = search rules
@@ -60,8 +62,8 @@ shape_of-grades c = search rules
 returns : tie.Need-returns
 returns c =
     let x = passed c.before.before.before.before.before.before in
-    grade_made _ (C x) _ (early x) x.if-early-ne0.false (own c.before.before.before.before.before.before) c.if-number-ne0.false
-    (c.rows_measured.ensures ∙ column-rows _ (C x) c.general_array_any_value_lengths-lengths.ensures (sym c.refusal_in-number.ensures ∙ c.if-number-ne0.false))
+    grade_made _ (C x.before) _ (early x.before) x.if-early-ne0.false (own c.before.before.before.before.before.before) c.if-number-ne0.false
+    (c.rows_measured.ensures ∙ column-rows _ (C x.before) c.general_array_any_value_lengths-lengths.ensures (sym c.refusal_in-number.ensures ∙ c.if-number-ne0.false))
     c.grade_rows.ensures
 
 pub grade_column_spec : {M : Type 1} → statement M

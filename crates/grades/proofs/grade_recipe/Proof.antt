@@ -13,12 +13,15 @@ use Rattle.grades.proofs.grade_recipe.Tie as tie
 
 abbrev told : tie.After-after-1 → tie.After-answer_for-answer
 told c = c.before.before.before.before.before
+
 abbrev ran : tie.After-answer_for-answer → tie.After-run_recipe-done
 ran t = t.before.before.before.before.before.before.before.before.before.before.before.before.before.before.before.before.before.before.before
+
 abbrev named : tie.After-run_recipe-done → tie.After-station_for-named
 named r = r.before.before.before.before.before.before.before.before.before.before.before.before.before
+
 abbrev S : tie.After-run_recipe-done → tie.Start
-S r = (named r)
+S r = (named r).before.before.before.before.before.before.before.before.before.before.before.before.before.before.before
 
 abbrev C : tie.After-run_recipe-done → Column
 C r = let a = (S r).args in column a.offsets.now (from a.rows_start a.rows.now) a.values.now (from a.elements_start a.elements.now)

@@ -26,8 +26,10 @@ D s = let a = s.args in column a.roffsets.now (from a.r_rstart a.rrows.now) a.rv
 
 abbrev S : tie.At-loop-left invariant-loop-left decreases-loop-left → tie.Start invariant-loop-left decreases-loop-left
 S l = l.before.before.before.before.before.before
+
 abbrev L : tie.After-offset_at-d invariant-loop-left decreases-loop-left → tie.At-loop-left invariant-loop-left decreases-loop-left
 L q = q.before.before.before.before.before
+
 lefts : (q : tie.After-offset_at-d invariant-loop-left decreases-loop-left) → let l = L q in ReadableRowˡ (C (S l)).rows l.row_count-n.result (C (S l)).values (C (S l)).elements l.loop-left.r q.offset_at-a.result q.offset_at-b.result
 lefts q =
     let l = L q in

@@ -34,12 +34,15 @@ W s = hash_rows s.args.op (C s) (D s)
 
 abbrev S : tie.After-is_short → tie.Start
 S k = k.before.before.before.before.before.before.before.before.before
+
 abbrev measured : tie.After-op_refusal-long → tie.After-measure_pairs-m
 measured u = u.before.before.before
+
 abbrev enough : tie.After-op_refusal-long → tie.Else-is_short
 enough u = u.before.before.before.before.before
+
 abbrev U : tie.After-op_refusal-long → tie.Start
-U u = S (enough u)
+U u = S (enough u).before
 
 -- ---- what the tests found
 

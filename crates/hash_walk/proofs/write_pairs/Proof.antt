@@ -36,17 +36,21 @@ D s = let a = s.args in column a.roffsets.now (from a.r_rstart a.rrows.now) a.rv
 
 abbrev put : tie.At-loop-left invariant-loop-left decreases-loop-left → tie.After-put_offset invariant-loop-left decreases-loop-left
 put l = l.before.before
+
 abbrev S : tie.At-loop-left invariant-loop-left decreases-loop-left → tie.Start invariant-loop-left decreases-loop-left
-S l = (put l)
+S l = (put l).before.before.before.before.before.before.before.before.before.before
 
 abbrev L : tie.After-offset_at-d invariant-loop-left decreases-loop-left → tie.At-loop-left invariant-loop-left decreases-loop-left
 L q = q.before.before.before.before.before
+
 abbrev pair : tie.After-put_offset-arg-in-loop-left-1 invariant-loop-left decreases-loop-left → tie.After-put_pair-at invariant-loop-left decreases-loop-left
 pair p = p.before.before.before.before.before.before.before.before
+
 abbrev read : tie.After-put_pair-at invariant-loop-left decreases-loop-left → tie.After-offset_at-d invariant-loop-left decreases-loop-left
 read w = w.before.before.before.before.before
+
 abbrev turn : tie.After-out_offsets-in-loop-left-1 invariant-loop-left decreases-loop-left → tie.In-loop-left invariant-loop-left decreases-loop-left
-turn c = (read (pair c.before.before))
+turn c = (read (pair c.before.before)).before.before.before.before
 
 abbrev count : tie.At-loop-left invariant-loop-left decreases-loop-left → ℕ
 count l = (put l).row_count-n.result
@@ -108,7 +112,7 @@ put_pair-at-requires c κs =
     (one, (two, (y.ensures.1, (w.ensures.1, (rw l.loop-left.invariant.2 fits, (l.loop-left.invariant.1, place))))))
 
 overflow_add-r-in-loop-left-2 : tie.Need-overflow_add-r-in-loop-left-2 invariant-loop-left decreases-loop-left
-overflow_add-r-in-loop-left-2 c = omega (arith, (read (pair c)))
+overflow_add-r-in-loop-left-2 c = omega (arith, (read (pair c)).before.before.before.before)
 
 put_offset-requires-in-loop-left : tie.Need-put_offset-requires-in-loop-left invariant-loop-left decreases-loop-left
 put_offset-requires-in-loop-left c κs =

@@ -34,6 +34,7 @@ module _ (c : tie.Else-not-fits_i32) where
 module _ (c : tie.After-index_place-at) where
   abbrev start : tie.Start
   start = c.before.before.before
+
   at_small : SFits w32 c.index_place-at.result
   at_small = record { sfits = c.index_place-at.type_inv }
 

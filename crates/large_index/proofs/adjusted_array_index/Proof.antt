@@ -21,6 +21,7 @@ read_len s = to_z_pos w64 (omega (arith, s.requires))
 module _ (c : tie.After-index_place-at) where
   abbrev start : tie.Start
   start = c.before
+
   at_small : SFits w64 c.index_place-at.result
   at_small = record { sfits = c.index_place-at.type_inv }
 

@@ -20,17 +20,18 @@ use Rattle.large_recipes.proofs.run_recipe.Tie as tie
 
 abbrev two : tie.After-settle → tie.After-clear_large-2
 two c = c.before.before.before.before.before.before.before
+
 abbrev one : tie.After-settle → tie.After-clear_large
-one c = (two c)
+one c = (two c).before.before.before.before.before.before.before.before.before.before.before
 
 abbrev tried : tie.After-settle → tie.After-attempt-answer
-tried c = (one c)
+tried c = (one c).before.before.before.before.before.before.before.before.before.before.before.before.before.before.before.before.before.before.before.before.before.before.before.before.before.before
 
 abbrev counted : tie.After-settle → tie.After-row_count
-counted c = (tried c)
+counted c = (tried c).before.before.before.before.before.before.before.before.before.before.before.before.before.before.before.before.before.before
 
 abbrev S : tie.After-settle → tie.Start
-S c = (counted c)
+S c = (counted c).before.before.before.before.before.before.before.before.before.before.before.before.before
 
 -- ---- columns, and the lengths of the trays and the output
 

@@ -53,10 +53,13 @@ R s = rows_refusal (N s) (call_of s.args.op (rows_of (C s)) (shown_by (X s)) (sh
 
 abbrev S : tie.After-total-total → tie.Start
 S t = t.before.before.before.before.before.before.before.before
+
 abbrev sum : tie.After-write_fitting-arg-in-Sum-4-1 → tie.In-Sum-2
 sum p = p.before.before.before.before.before
+
 abbrev written : tie.After-out_large-1 → tie.After-write_fitting
 written p = p.before.before.before.before.before.before.before
+
 -- what was measured
 total_is : (t : tie.After-total-total) → t.total-total.result ≡ measure_of (gate (R (S t)) (made (length (flat (W (S t))))))
 total_is t = let s = S t in t.total-total.ensures.0 ∙ measured (N s) s.args.op (C s) (X s) (Y s) (Z s) s.requires.1
@@ -73,9 +76,9 @@ enum_known-total-in-Sum-1 c = search
 write_fitting-requires : tie.Need-write_fitting-requires
 unfolding let_through
 write_fitting-requires c κs =
-    let t = (sum c) in
-    let s = S t.before in
-    let m = measure_sum (R s) (length (flat (W s))) _ (fitted (W s) (L s)) (sym (total_is t.before) ∙ (sum c).in-Sum.is) in
+    let t = (sum c).before in
+    let s = S t in
+    let m = measure_sum (R s) (length (flat (W s))) _ (fitted (W s) (L s)) (sym (total_is t) ∙ (sum c).in-Sum.is) in
     (s.requires.0, (s.requires.1, (m.1, subst (λ x. let_through x ≤ (N s).offset) (sum c).in-Sum.is t.total-total.ensures.1)))
 
 returns-in-Refused : tie.Need-returns-in-Refused
@@ -100,9 +103,9 @@ shape_of-out_large c = search
 
 returns-in-Sum : tie.Need-returns-in-Sum
 returns-in-Sum c =
-    let t = (sum (written c)) in
-    let s = S t.before in
-    let m = measure_sum (R s) (length (flat (W s))) _ (fitted (W s) (L s)) (sym (total_is t.before) ∙ (sum (written c)).in-Sum.is) in
+    let t = (sum (written c).before).before in
+    let s = S t in
+    let m = measure_sum (R s) (length (flat (W s))) _ (fitted (W s) (L s)) (sym (total_is t) ∙ (sum (written c).before).in-Sum.is) in
     rw (laws.after_three_lem (N s) s.args.op (C s) (X s) (Y s) (Z s) (L s) s.requires.1, m.0) (written c).write_fitting.ensures
 
 pub after_three_spec : {M : Type 1} → statement M

@@ -30,8 +30,10 @@ Z s = arguments s.args.zs.now (from s.args.zstart s.args.zbits.now)
 
 abbrev S : tie.After-is_start_over → tie.Start
 S t = t.before.before.before.before.before.before
+
 abbrev started : tie.After-list_refusal-k → tie.After-is_start_over
 started f = f.before.before
+
 -- no starting bit of a column that is taken is over 7
 not_over : (f : tie.After-list_refusal-k) → let a = (S (started f)).args in start_over a.op a.xstart a.ystart a.zstart ≡ false
 not_over f = sym (started f).is_start_over.ensures ∙ f.if-is_start_over.false

@@ -51,8 +51,10 @@ M s = room_for (row_count (C s).offsets) (length (flat (W s)))
 
 abbrev early-of : tie.After-total-total → tie.After-early-k
 early-of t = t.before.before
+
 abbrev S : tie.After-early-k → tie.Start
 S e = e.before.before.before.before.before.before
+
 -- the early refusals have passed
 begun : (t : tie.After-total-total) → let s = S (early-of t) in Begun s.args.op (C s) (X s) (Y s) (Z s)
 begun t = (early-of t).early-k.ensures.1 t.if-k-ne0.false

@@ -5,6 +5,7 @@ use Rattle.list_walk.proofs.run.Tie as tie
 -- the walk, from where it has returned
 abbrev ran : tie.After-none-2-1 → tie.After-run_at
 ran c = c.before.before.before.before.before.before.before
+
 slice_bounds-run_at-end : tie.Need-slice_bounds-run_at-end
 slice_bounds-run_at-end c = refl
 

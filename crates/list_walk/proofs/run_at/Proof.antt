@@ -40,11 +40,13 @@ L s = let a = s.args in room (length (O s)) (length a.out_rows.now) (length a.ou
 
 abbrev wrote : tie.After-out_large-1 → tie.After-after_three
 wrote c = c.before.before.before.before.before.before.before
+
 abbrev passed : tie.After-out_large-1 → tie.Else-k-ne0
-passed c = (wrote c)
+passed c = (wrote c).before.before.before.before.before.before
 
 abbrev S : tie.After-early-k → tie.Start
 S e = e.before.before.before.before.before.before.before.before
+
 -- ---- needs
 
 early-k-requires : tie.Need-early-k-requires
@@ -76,7 +78,7 @@ shape_of-out_large c = (wrote c).after_three.auto.out_large
 returns : tie.Need-returns
 returns c =
     let e = passed c in
-    let s = S e in
+    let s = S e.before in
     rw (run_goes (N s) s.args.op (C s) (X s) (Y s) (Z s) _ e.early-k.ensures.0 (L s) e.if-k-ne0.false) (wrote c).after_three.ensures
 
 pub run_at_spec : {M : Type 1} → statement M

@@ -46,18 +46,22 @@ W s = call_rows (N s) s.args.op (C s) (X s) (Y s) (Z s)
 -- the places that are used below
 abbrev has-room-of-write-rows-arg5 : tie.After-write_rows-arg-5-1 → tie.After-has_room
 has-room-of-write-rows-arg5 p = p.before.before.before.before.before.before
+
 abbrev write-rows-of-list-answer-arg2 : tie.After-list-answer-arg2 → tie.After-write_rows
 write-rows-of-list-answer-arg2 p = p
 
 abbrev start-of-has-room : tie.After-has_room → tie.Start
 start-of-has-room p = p.before.before.before.before.before.before.before.before.before.before
+
 abbrev write-rows-of-list-answer : tie.After-list_answer → tie.After-write_rows
 write-rows-of-list-answer p = p.before.before.before.before.before.before.before.before
+
 abbrev out-rows-of-list-answer-arg2 : tie.After-list-answer-arg2 → tie.After-out_rows-1
 out-rows-of-list-answer-arg2 p = p
 
 abbrev else1-of-out-rows : tie.After-out_rows-1 → tie.Else-not-has_room
 else1-of-out-rows p = p.before.before.before.before.before.before.before.before
+
 abbrev else1-of-list-answer-arg2 : tie.After-list-answer-arg2 → tie.Else-not-has_room
 else1-of-list-answer-arg2 p = else1-of-out-rows (out-rows-of-list-answer-arg2 p)
 
@@ -122,8 +126,8 @@ shape_of-out_large c = search
 returns : tie.Need-returns
 returns c =
     let e = else1-of-list-answer c in
-    let s = S e in
-    list-made (W s) _ _ (fitted-made (W s) (L s) (sym (room_is e) ∙ not-false _ e.if-not-has_room.false-raw)) (rows_are e) s.requires.1.1.0 (write-rows-of-list-answer c).write_rows.ensures c.list_answer.ensures
+    let s = S e.before in
+    list-made (W s) _ _ (fitted-made (W s) (L s) (sym (room_is e.before) ∙ not-false _ e.if-not-has_room.false-raw)) (rows_are e.before) s.requires.1.1.0 (write-rows-of-list-answer c).write_rows.ensures c.list_answer.ensures
 
 pub write_fitting_spec : {M : Type 1} → statement M
 write_fitting_spec =

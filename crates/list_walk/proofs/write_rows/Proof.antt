@@ -26,34 +26,49 @@ Z s = arguments s.args.zs.now (from s.args.zstart s.args.zbits.now)
 
 abbrev S : tie.After-slice_known-2-1 → tie.Start
 S k = k.before.before.before.before.before.before.before
+
 abbrev plain_of : tie.After-write_rows-arg-in-Plain-4-1 → tie.In-Plain-2
 plain_of c = c.before.before.before.before.before
+
 abbrev told2 : tie.After-write_rows-arg-in-Slice-5-1 → tie.In-Slice
 told2 c = c.before.before.before.before.before
+
 abbrev told3 : tie.After-write_rows-arg-in-SliceBy-5-1 → tie.In-SliceBy
 told3 c = c.before.before.before.before.before
+
 abbrev told4 : tie.After-write_rows-arg-in-Resize-5-1 → tie.In-Resize
 told4 c = c.before.before.before.before.before
+
 abbrev told5 : tie.After-write_rows-arg-in-ResizeWith-5-1 → tie.In-ResizeWith
 told5 c = c.before.before.before.before.before
+
 abbrev told6 : tie.After-write_rows-arg-in-Replace-5-1 → tie.In-Replace
 told6 c = c.before.before.before.before.before
+
 abbrev told7 : tie.After-write_rows-arg-in-Remove-5-1 → tie.In-Remove
 told7 c = c.before.before.before.before.before
+
 abbrev lent1 : tie.After-out_large-1 → tie.After-write_rows-arg-in-Plain-4-1
 lent1 c = c.before.before.before.before.before.before.before.before
+
 abbrev lent2 : tie.After-out_large-in-Slice-1 → tie.After-write_rows-arg-in-Slice-5-1
 lent2 c = c.before.before.before.before.before.before.before.before
+
 abbrev lent3 : tie.After-out_large-in-SliceBy-1 → tie.After-write_rows-arg-in-SliceBy-5-1
 lent3 c = c.before.before.before.before.before.before.before.before
+
 abbrev lent4 : tie.After-out_large-in-Resize-1 → tie.After-write_rows-arg-in-Resize-5-1
 lent4 c = c.before.before.before.before.before.before.before.before
+
 abbrev lent5 : tie.After-out_large-in-ResizeWith-1 → tie.After-write_rows-arg-in-ResizeWith-5-1
 lent5 c = c.before.before.before.before.before.before.before.before
+
 abbrev lent6 : tie.After-out_large-in-Replace-1 → tie.After-write_rows-arg-in-Replace-5-1
 lent6 c = c.before.before.before.before.before.before.before.before
+
 abbrev lent7 : tie.After-out_large-in-Remove-1 → tie.After-write_rows-arg-in-Remove-5-1
 lent7 c = c.before.before.before.before.before.before.before.before
+
 -- ---- needs
 
 enum_known-op : tie.Need-enum_known-op
@@ -62,7 +77,7 @@ enum_known-op c = search rules
 write_rows-requires : tie.Need-write_rows-requires
 write_rows-requires c κs =
     let o = plain_of c in
-    let s = S o in
+    let s = S o.before in
     let e = plain_kind (N s) s.args.op (C s) (X s) (Y s) (Z s) o.in-Plain.u o.in-Plain.is in
     (s.requires.0, (rw e at s.requires.1.1.0, rw e at s.requires.1.1.1))
 
@@ -70,25 +85,25 @@ enum_told-1 : tie.Need-enum_told-1
 enum_told-1 c = search rules
 
 write_rows-requires-in-Slice : tie.Need-write_rows-requires-in-Slice
-write_rows-requires-in-Slice c κs = let s = S (told2 c) in (s.requires.0, (s.requires.1.0, (is_slice_lem s.args.op (told2 c).in-Slice.is, (s.requires.1.1.0, s.requires.1.1.1))))
+write_rows-requires-in-Slice c κs = let s = S (told2 c).before in (s.requires.0, (s.requires.1.0, (is_slice_lem s.args.op (told2 c).in-Slice.is, (s.requires.1.1.0, s.requires.1.1.1))))
 
 enum_told-in-SliceBy : tie.Need-enum_told-in-SliceBy
 enum_told-in-SliceBy c = search rules
 
 write_rows-requires-in-SliceBy : tie.Need-write_rows-requires-in-SliceBy
-write_rows-requires-in-SliceBy c κs = let s = S (told3 c) in (s.requires.0, (s.requires.1.0, (is_strided s.args.op (told3 c).in-SliceBy.is, (s.requires.1.1.0, s.requires.1.1.1))))
+write_rows-requires-in-SliceBy c κs = let s = S (told3 c).before in (s.requires.0, (s.requires.1.0, (is_strided s.args.op (told3 c).in-SliceBy.is, (s.requires.1.1.0, s.requires.1.1.1))))
 
 enum_told-in-Resize : tie.Need-enum_told-in-Resize
 enum_told-in-Resize c = search rules
 
 write_rows-requires-in-Resize : tie.Need-write_rows-requires-in-Resize
-write_rows-requires-in-Resize c κs = let s = S (told4 c) in (s.requires.0, (s.requires.1.0, (is_resize_lem s.args.op (told4 c).in-Resize.is, (s.requires.1.1.0, s.requires.1.1.1))))
+write_rows-requires-in-Resize c κs = let s = S (told4 c).before in (s.requires.0, (s.requires.1.0, (is_resize_lem s.args.op (told4 c).in-Resize.is, (s.requires.1.1.0, s.requires.1.1.1))))
 
 enum_told-in-ResizeWith : tie.Need-enum_told-in-ResizeWith
 enum_told-in-ResizeWith c = search rules
 
 write_rows-requires-in-ResizeWith : tie.Need-write_rows-requires-in-ResizeWith
-write_rows-requires-in-ResizeWith c κs = let s = S (told5 c) in (s.requires.0, (s.requires.1.0, (is_filled s.args.op (told5 c).in-ResizeWith.is, (s.requires.1.1.0, s.requires.1.1.1))))
+write_rows-requires-in-ResizeWith c κs = let s = S (told5 c).before in (s.requires.0, (s.requires.1.0, (is_filled s.args.op (told5 c).in-ResizeWith.is, (s.requires.1.1.0, s.requires.1.1.1))))
 
 enum_told-in-Replace : tie.Need-enum_told-in-Replace
 enum_told-in-Replace c = search rules
@@ -96,7 +111,7 @@ enum_told-in-Replace c = search rules
 write_rows-requires-in-Replace : tie.Need-write_rows-requires-in-Replace
 write_rows-requires-in-Replace c κs =
     let o = (told6 c).in-Replace.is in
-    let s = S (told6 c) in
+    let s = S (told6 c).before in
     let e = replace_kind (N s) s.args.op (C s) (X s) (Y s) (Z s) o in
     (s.requires.0, (replace_takes o s.requires.1.0, (rw e at s.requires.1.1.0, rw e at s.requires.1.1.1)))
 
@@ -106,7 +121,7 @@ enum_told-in-Remove c = search rules
 write_rows-requires-in-Remove : tie.Need-write_rows-requires-in-Remove
 write_rows-requires-in-Remove c κs =
     let o = (told7 c).in-Remove.is in
-    let s = S (told7 c) in
+    let s = S (told7 c).before in
     let e = remove_kind (N s) s.args.op (C s) (X s) (Y s) (Z s) o in
     (s.requires.0, (remove_takes o s.requires.1.0, (rw e at s.requires.1.1.0, rw e at s.requires.1.1.1)))
 
@@ -128,7 +143,7 @@ shape_of-out_large-in-Plain c = c.write_rows.auto.out_large
 returns-in-Plain : tie.Need-returns-in-Plain
 returns-in-Plain c =
     let o = plain_of (lent1 c) in
-    let s = S o in
+    let s = S o.before in
     rw (plain_kind (N s) s.args.op (C s) (X s) (Y s) (Z s) o.in-Plain.u o.in-Plain.is) c.write_rows.ensures
 
 shape_of-out_offsets-in-Slice : tie.Need-shape_of-out_offsets-in-Slice
@@ -221,7 +236,7 @@ shape_of-out_large-in-Replace c = c.write_rows-in-Replace.auto.out_large
 returns-in-Replace : tie.Need-returns-in-Replace
 returns-in-Replace c =
     let o = told6 (lent6 c) in
-    let s = S o in
+    let s = S o.before in
     rw (replace_kind (N s) s.args.op (C s) (X s) (Y s) (Z s) o.in-Replace.is) c.write_rows-in-Replace.ensures
 
 shape_of-out_offsets-in-Remove : tie.Need-shape_of-out_offsets-in-Remove
@@ -242,7 +257,7 @@ shape_of-out_large-in-Remove c = c.write_rows-in-Remove.auto.out_large
 returns-in-Remove : tie.Need-returns-in-Remove
 returns-in-Remove c =
     let o = told7 (lent7 c) in
-    let s = S o in
+    let s = S o.before in
     rw (remove_kind (N s) s.args.op (C s) (X s) (Y s) (Z s) o.in-Remove.is) c.write_rows-in-Remove.ensures
 
 pub write_rows_spec : {M : Type 1} → statement M

@@ -23,8 +23,10 @@ module _ (l : tie.At-loop-left invariant-loop-left decreases-loop-left) where
 
 abbrev I : tie.After-out-1 invariant-loop-left decreases-loop-left → tie.In-loop-left invariant-loop-left decreases-loop-left
 I c = c.before.before.before.before
+
 abbrev L : tie.After-out-2-1 invariant-loop-left decreases-loop-left → tie.At-loop-left invariant-loop-left decreases-loop-left
 L c = c.before.before.before.before
+
 loop-left-init : tie.Need-loop-left-init invariant-loop-left decreases-loop-left
 loop-left-init c = turning_begun
 
@@ -38,7 +40,7 @@ put_few_back-requires : tie.Need-put_few_back-requires invariant-loop-left decre
 put_few_back-requires c κs = let r = room c.before.before.before in (omega arith, omega (arith, c.loop-left-test.true))
 
 overflow_add-j : tie.Need-overflow_add-j invariant-loop-left decreases-loop-left
-overflow_add-j c = let i = I c in let b = bytes i in omega (arith, i.loop-left-test.true)
+overflow_add-j c = let i = I c in let b = bytes i.before in omega (arith, i.loop-left-test.true)
 
 loop-left-smaller : tie.Need-loop-left-smaller invariant-loop-left decreases-loop-left
 loop-left-smaller c = omega (arith, (I c).loop-left-test.true)

@@ -10,8 +10,10 @@ use Rattle.nullable_runs.proofs.put_bits.Tie as tie
 
 abbrev start : tie.Then-n-gt8 → tie.Start
 start t = t.before.before.before
+
 abbrev nulls : tie.After-push_copied → tie.After-put_nulls
 nulls p = p.before.before.before
+
 put_nulls-requires : tie.Need-put_nulls-requires
 put_nulls-requires c κs = let p = (start c.before).requires in (p.0, (p.1.0, p.1.1.0))
 

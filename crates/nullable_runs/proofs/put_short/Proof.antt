@@ -11,10 +11,13 @@ use Rattle.nullable_runs.proofs.put_short.Tie as tie
 
 abbrev start : tie.After-few_at-few → tie.Start
 start p = p.before.before.before
+
 abbrev few-of-nulls : tie.After-put_few → tie.After-few_at-few
 few-of-nulls p = p.before.before
+
 abbrev nulls-of-pushed : tie.After-push_few → tie.After-put_few
 nulls-of-pushed p = p.before.before.before
+
 few_at-few-requires : tie.Need-few_at-few-requires
 few_at-few-requires c κs = let p = c.requires in (p.0, (p.1.0, (p.1.1.0, p.1.1.1.0)))
 

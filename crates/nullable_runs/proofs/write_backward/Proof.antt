@@ -18,10 +18,13 @@ use Rattle.nullable_runs.proofs.write_backward.Tie as tie
 
 abbrev start-of-bits : tie.After-start_from-first → tie.Start
 start-of-bits p = p.before.before.before.before
+
 abbrev bits-of-nulls : tie.After-put_nulls_back → tie.After-start_from-first
 bits-of-nulls p = p.before.before.before.before.before
+
 abbrev nulls-of-pushed : tie.After-push_turned → tie.After-put_nulls_back
 nulls-of-pushed p = p.before.before.before
+
 module _ (s : tie.Start) where
   -- room for the values and the bits
   many : (s.args.at + s.args.n ≤ length s.args.out_values.now) × (bytes_for (s.args.at + s.args.n) ≤ length s.args.out_elements.now)

@@ -18,10 +18,13 @@ use Rattle.nullable_runs.proofs.write_forward.Tie as tie
 
 abbrev start-of-bits : tie.After-start_from-first → tie.Start
 start-of-bits p = p.before.before.before.before
+
 abbrev values-of-bits : tie.After-put_bits → tie.After-copy_values
 values-of-bits p = p.before.before.before.before
+
 abbrev bits-of-values : tie.After-copy_values → tie.After-start_from-first
 bits-of-values p = p.before.before
+
 module _ (s : tie.Start) where
   -- room for the values and the bits
   many : (s.args.at + s.args.n ≤ length s.args.out_values.now) × (bytes_for (s.args.at + s.args.n) ≤ length s.args.out_elements.now)

@@ -17,18 +17,22 @@ use Rattle.one_list.proofs.one_list.Tie as tie
 
 abbrev S : tie.After-takes-t → tie.Start
 S c = c.before.before.before.before.before.before
+
 abbrev Y : tie.After-start_from-zstart → tie.After-start_from-ystart
 Y c = c.before.before.before
+
 abbrev X : tie.After-start_from-zstart → tie.After-start_from-xstart
-X c = (Y c)
+X c = (Y c).before.before.before
 
 abbrev told : tie.After-start_from-zstart → tie.After-takes-t
-told c = (X c)
+told c = (X c).before.before.before
 
 abbrev cut : tie.After-after_three-arg-5-1 → tie.After-start_from-zstart
 cut c = c.before.before.before.before.before
+
 abbrev called : tie.After-out_large-1 → tie.After-after_three
 called c = c.before.before.before.before.before.before.before
+
 -- ---- the arguments
 
 abbrev A : tie.Start → Arguments
@@ -114,7 +118,7 @@ shape_of-out_large c = search
 
 returns : tie.Need-returns
 returns c =
-    let w = cut (called c) in
+    let w = cut (called c).before in
     let s = S (told w) in
     rw (← call_same s.args.op (rows_of (column (used s.args.width s.args.offsets.now s.args.large.now) (from s.args.rstart s.args.rows.now) s.args.values.now (from s.args.estart s.args.elements.now)))
     (λ u. column-shown (A s) s.requires.1.1.0 s.args.first s.args.pitch s.args.n (ltb 0 (takes_of s.args.op)) s.requires.1.1.1.first_in (ap (λ (t : Arity). ltb 0 t.columns) (told w).takes-t.ensures) (X w).column_values-x.ensures (X w).bits_from-xbits.ensures (X w).start_from-xstart.ensures u)

@@ -32,11 +32,13 @@ C s = let a = s.args in column (used a.width a.offsets.now a.large.now) (from a.
 
 abbrev counted : tie.At-loop-left invariant-loop-left decreases-loop-left → tie.After-row_count-n invariant-loop-left decreases-loop-left
 counted l = l.before.before
+
 abbrev S : tie.At-loop-left invariant-loop-left decreases-loop-left → tie.Start invariant-loop-left decreases-loop-left
-S l = (counted l)
+S l = (counted l).before.before.before
 
 abbrev inside : tie.After-measure_row-more invariant-loop-left decreases-loop-left → tie.In-loop-left invariant-loop-left decreases-loop-left
 inside m = m.before.before.before
+
 abbrev count : tie.At-loop-left invariant-loop-left decreases-loop-left → ℕ
 count l = (counted l).row_count-n.result
 
@@ -49,13 +51,13 @@ reads q =
     between (C (S q.before.before)) (count q.before.before) q.loop-left.r q.loop-left.a q.offset_at-b.result (S q.before.before).requires (counted q.before.before).row_count-n.ensures (omega (arith, q.loop-left.invariant.0.rows, q.loop-left-test.true)) q.loop-left.invariant.1 q.offset_at-b.ensures.0
 
 -- the walk after it
-more : (m : tie.After-measure_row-more invariant-loop-left decreases-loop-left) → let l = (inside m) in Summing (W l.before) (count l.before) m.offset_at-b.result (N (S l.before)).offset (l.loop-left.found + m.measure_row-more.result) (l.loop-left.r + 1) (l.loop-left.left - 1)
+more : (m : tie.After-measure_row-more invariant-loop-left decreases-loop-left) → let l = (inside m).before in Summing (W l) (count l) m.offset_at-b.result (N (S l)).offset (l.loop-left.found + m.measure_row-more.result) (l.loop-left.r + 1) (l.loop-left.left - 1)
 more m =
-    let l = (inside m) in
-    let s = S l.before in
+    let l = (inside m).before in
+    let s = S l in
     let b = m.offset_at-b in
     let v = m.is_valid-valid in
-    sum_more (W l.before) (count l.before) (N s).offset m.measure_row-more.result l.loop-left.a b.result l.loop-left.invariant.0 (inside m).loop-left-test.true
+    sum_more (W l) (count l) (N s).offset m.measure_row-more.result l.loop-left.a b.result l.loop-left.invariant.0 (inside m).loop-left-test.true
     (m.measure_row-more.ensures ∙ ap (λ (w : Row). length (elems_of w)) (plain_row_lem (N s) s.args.op (C s) l.loop-left.r l.loop-left.a b.result v.result l.loop-left.invariant.1 b.ensures.0 v.ensures))
     (omega (arith, m.measure_row-more.ensures, plain-small (N s) s.args.op (C s) l.loop-left.r l.loop-left.a b.result v.result l.loop-left.invariant.1 b.ensures.0 v.ensures))
     (reads m.before.before).rises refl b.ensures.1
@@ -85,7 +87,7 @@ measure_row-more-requires : tie.Need-measure_row-more-requires invariant-loop-le
 measure_row-more-requires c κs = record { inside = omega (arith, (reads c.before).rises, (reads c.before).inside); bits = (reads c.before).elements }
 
 overflow_add-found : tie.Need-overflow_add-found invariant-loop-left decreases-loop-left
-overflow_add-found c = omega (arith, (more c).small, (limits-fit (S (inside c)).args.width).offset)
+overflow_add-found c = omega (arith, (more c).small, (limits-fit (S (inside c).before).args.width).offset)
 
 overflow_add-r-in-loop-left : tie.Need-overflow_add-r-in-loop-left invariant-loop-left decreases-loop-left
 overflow_add-r-in-loop-left c = omega (arith, (inside c).loop-left.invariant.0.rows, (inside c).loop-left-test.true)

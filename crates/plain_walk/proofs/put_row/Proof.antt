@@ -14,14 +14,19 @@ use Rattle.plain_walk.proofs.put_row.Tie as tie
 -- the places that are used below: a null row's branch, a valid one's, the elements written, and the ends
 abbrev start-of-then : tie.Then-not-valid → tie.Start
 start-of-then p = p.before.before.before.before
+
 abbrev start-of-else : tie.Else-not-valid → tie.Start
 start-of-else p = p.before.before.before.before
+
 abbrev then-of : tie.After-slice_known-then-not-valid-1 → tie.Then-not-valid
 then-of p = p.before.before.before.before
+
 abbrev else-of : tie.After-write_plain-next → tie.Else-not-valid
 else-of p = p.before.before.before
+
 abbrev written_of : tie.After-slice_known-4-1 → tie.After-write_plain-next
 written_of p = p.before.before.before.before.before.before.before
+
 push_bit-requires : tie.Need-push_bit-requires
 push_bit-requires c κs = omega (arith, (start-of-then c.before).requires.1.rows)
 

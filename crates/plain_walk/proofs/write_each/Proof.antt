@@ -42,20 +42,25 @@ O s = used s.args.width s.args.out_offsets.now s.args.out_large.now
 
 abbrev put : tie.At-loop-left invariant-loop-left decreases-loop-left → tie.After-put_offset invariant-loop-left decreases-loop-left
 put l = l.before.before.before
+
 abbrev begun : tie.After-put_offset-arg-2-1 invariant-loop-left decreases-loop-left → tie.Start invariant-loop-left decreases-loop-left
 begun p = p.before.before.before.before.before.before.before
+
 abbrev S : tie.At-loop-left invariant-loop-left decreases-loop-left → tie.Start invariant-loop-left decreases-loop-left
-S l = begun (put l)
+S l = begun (put l).before
 
 abbrev written : tie.After-put_offset-arg-in-loop-left-2-1 invariant-loop-left decreases-loop-left → tie.After-put_row-at invariant-loop-left decreases-loop-left
 written p = p.before.before.before.before.before.before.before
+
 abbrev turned : tie.After-out_large-in-loop-left-1 invariant-loop-left decreases-loop-left → tie.After-put_row-at invariant-loop-left decreases-loop-left
 turned p = written p.before.before.before
 
 abbrev looked : tie.After-put_row-at invariant-loop-left decreases-loop-left → tie.After-is_valid-valid invariant-loop-left decreases-loop-left
 looked w = w.before.before.before.before
+
 abbrev inside : tie.After-is_valid-valid invariant-loop-left decreases-loop-left → tie.In-loop-left invariant-loop-left decreases-loop-left
 inside v = v.before.before.before
+
 abbrev count : tie.At-loop-left invariant-loop-left decreases-loop-left → ℕ
 count l = (put l).row_count-n.result
 
@@ -77,13 +82,13 @@ reads q =
 -- the row that a turn makes is row r's
 abbrev made : tie.After-is_valid-valid invariant-loop-left decreases-loop-left → Row
 made v =
-    let s = S (inside v) in
+    let s = S (inside v).before in
     plain_row v.is_valid-valid.result s.args.op (tab (elem_at (C s).values (C s).elements) v.offset_at-a.result (v.offset_at-b.result - v.offset_at-a.result))
 
-same_row : (v : tie.After-is_valid-valid invariant-loop-left decreases-loop-left) → let l = (inside v) in made v ≡ W l.before l.loop-left.r
+same_row : (v : tie.After-is_valid-valid invariant-loop-left decreases-loop-left) → let l = (inside v).before in made v ≡ W l l.loop-left.r
 same_row v =
-    let l = (inside v) in
-    let s = S l.before in
+    let l = (inside v).before in
+    let s = S l in
     plain_row_lem (N s) s.args.op (C s) l.loop-left.r v.offset_at-a.result v.offset_at-b.result v.is_valid-valid.result v.offset_at-a.ensures.0 v.offset_at-b.ensures.0 v.is_valid-valid.ensures
 
 row_count-n-requires : tie.Need-row_count-n-requires invariant-loop-left decreases-loop-left
@@ -112,8 +117,8 @@ is_valid-valid-requires c κs = ((reads c).rows, (reads c).there)
 
 put_row-at-requires : tie.Need-put_row-at-requires invariant-loop-left decreases-loop-left
 put_row-at-requires c κs =
-    let l = (inside c.before.before.before) in
-    (record { inside = omega (arith, (reads c.before.before.before.before).rises, (reads c.before.before.before.before).inside); bits = (reads c.before.before.before.before).elements }, walk_room (W l.before) (count l.before) (made c.before.before.before) (inside c.before.before.before).loop-left-test.true (same_row c.before.before.before) l.loop-left.invariant.0 (roomy l.before _ (put_keeps (O (S l.before)) 0 0 (put l.before).put_offset.ensures)))
+    let l = (inside c.before.before.before).before in
+    (record { inside = omega (arith, (reads c.before.before.before.before).rises, (reads c.before.before.before.before).inside); bits = (reads c.before.before.before.before).elements }, walk_room (W l) (count l) (made c.before.before.before) (inside c.before.before.before).loop-left-test.true (same_row c.before.before.before) l.loop-left.invariant.0 (roomy l _ (put_keeps (O (S l)) 0 0 (put l).put_offset.ensures)))
 
 overflow_add-r-in-loop-left : tie.Need-overflow_add-r-in-loop-left invariant-loop-left decreases-loop-left
 overflow_add-r-in-loop-left c = let i = inside (looked (written c)) in omega (arith, i, i.loop-left.invariant.0.rows, i.loop-left-test.true)
@@ -122,10 +127,10 @@ put_offset-requires-in-loop-left : tie.Need-put_offset-requires-in-loop-left inv
 put_offset-requires-in-loop-left c κs =
     let w = written c in
     let v = looked (written c) in
-    let l = (inside v) in
-    let s = S l.before in
-    let k = walk_small (W l.before) (count l.before) (made v) (inside v).loop-left-test.true (same_row v) l.loop-left.invariant.0 w.put_row-at.ensures in
-    (walk_slot (W l.before) (count l.before) (made v) (inside v).loop-left-test.true (same_row v) l.loop-left.invariant.0 (roomy l.before _ (put_keeps (O (S l.before)) 0 0 (put l.before).put_offset.ensures)), omega (arith, s.requires.1.0, rw (plain_rows_lem (N s) s.args.op (C s) (count l.before) (rows_are l.before)) at k))
+    let l = (inside v).before in
+    let s = S l in
+    let k = walk_small (W l) (count l) (made v) (inside v).loop-left-test.true (same_row v) l.loop-left.invariant.0 w.put_row-at.ensures in
+    (walk_slot (W l) (count l) (made v) (inside v).loop-left-test.true (same_row v) l.loop-left.invariant.0 (roomy l _ (put_keeps (O (S l)) 0 0 (put l).put_offset.ensures)), omega (arith, s.requires.1.0, rw (plain_rows_lem (N s) s.args.op (C s) (count l) (rows_are l)) at k))
 
 overflow_add-r-in-loop-left-2 : tie.Need-overflow_add-r-in-loop-left-2 invariant-loop-left decreases-loop-left
 overflow_add-r-in-loop-left-2 c = let i = inside (looked (turned c)) in omega (arith, i, i.loop-left.invariant.0.rows, i.loop-left-test.true)
@@ -140,8 +145,8 @@ loop-left-preserved : tie.Need-loop-left-preserved invariant-loop-left decreases
 loop-left-preserved c =
     let w = turned c in
     let v = looked (turned c) in
-    let l = (inside v) in
-    (walk_more (W l.before) (count l.before) (made v) (inside v).loop-left-test.true (same_row v) l.loop-left.invariant.0 w.put_row-at.ensures c.put_offset-in-loop-left.ensures, c.put_offset-in-loop-left.auto.narrow ∙ l.loop-left.invariant.1, c.put_offset-in-loop-left.auto.wide ∙ l.loop-left.invariant.2)
+    let l = (inside v).before in
+    (walk_more (W l) (count l) (made v) (inside v).loop-left-test.true (same_row v) l.loop-left.invariant.0 w.put_row-at.ensures c.put_offset-in-loop-left.ensures, c.put_offset-in-loop-left.auto.narrow ∙ l.loop-left.invariant.1, c.put_offset-in-loop-left.auto.wide ∙ l.loop-left.invariant.2)
 
 shape_of-out_offsets : tie.Need-shape_of-out_offsets invariant-loop-left decreases-loop-left
 shape_of-out_offsets c = c.loop-left.invariant.1 ∙ (put c.before).put_offset.kept.1.0

@@ -21,12 +21,16 @@ C s = let a = s.args in column (used a.width a.offsets.now a.large.now) (from a.
 
 abbrev begun : tie.After-is_bare → tie.Start
 begun p = p.before.before.before.before.before
+
 abbrev chosen : tie.After-write_rows-arg-then-is_bare-4-1 → tie.Then-is_bare
 chosen p = p.before.before.before.before.before
+
 abbrev written : tie.After-out_large-1 → tie.After-write_rows
 written p = p.before.before.before.before.before.before.before
+
 abbrev each : tie.After-out_large-2-1 → tie.After-write_each
 each p = p.before.before.before.before.before.before.before
+
 -- the column has no bitmap
 bare : (t : tie.Then-is_bare) → let a = (begun t.before).args in (length a.rows.now ≡ 0) × (length a.elements.now ≡ 0) × (copies a.op ≡ true)
 bare t = let a = (begun t.before).args in bare_is a.op a.rows.now a.elements.now (sym t.is_bare.ensures ∙ t.if-is_bare.true)
@@ -37,7 +41,7 @@ is_bare-requires c κs = search
 write_rows-requires : tie.Need-write_rows-requires
 write_rows-requires c κs =
     let t = chosen c in
-    let s = begun t in
+    let s = begun t.before in
     let b = bare t in
     (b.2, (s.requires.0.offsets, (bare_small (N s) s.args.op (C s) b.0 b.1 s.requires.1.0, bare_room (N s) s.args.op (C s) b.0 b.1 s.requires.1.1)))
 
@@ -58,8 +62,8 @@ shape_of-out_large-then-is_bare c = (written c).write_rows.auto.out_large
 
 returns-then-is_bare : tie.Need-returns-then-is_bare
 returns-then-is_bare c =
-    let t = chosen (written c) in
-    let s = begun t in
+    let t = chosen (written c).before in
+    let s = begun t.before in
     bare_fills (N s) s.args.op (C s) (bare t).0 (bare t).1 (written c).write_rows.ensures
 
 write_each-requires : tie.Need-write_each-requires

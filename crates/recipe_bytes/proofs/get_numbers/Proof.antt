@@ -14,6 +14,7 @@ use Rattle.recipe_bytes.proofs.get_numbers.Tie as tie
 module _ (t : tie.After-numbers_taken-n) where
   abbrev S : tie.Start
   S = t.before.before.before
+
   abbrev n : ℕ
   n = t.numbers_taken-n.result
 

@@ -14,19 +14,25 @@ slice_bounds-get_numbers-end c = search rules
 -- the places that are used below
 abbrev get-values-of-sv3 : tie.After-sv-3-1 → tie.After-get_values
 get-values-of-sv3 p = p.before.before.before.before.before.before.before
+
 abbrev get-values-of-la3 : tie.After-la-3-1 → tie.After-get_values
 get-values-of-la3 p = p.before.before.before.before.before.before.before.before
+
 abbrev get-list2-of-lv3 : tie.After-lv-3-1 → tie.After-get_list-2
 get-list2-of-lv3 p = p.before.before.before.before.before.before.before.before.before
+
 abbrev get-list2-of-so3 : tie.After-so-3-1 → tie.After-get_list-2
 get-list2-of-so3 p = p.before.before.before.before.before.before.before.before.before.before
+
 abbrev get-list2-of-sv3 : tie.After-sv-3-1 → tie.After-get_list-2
 get-list2-of-sv3 p = get-list2-of-so3 p.before
 
 abbrev get-list2-of-ns3 : tie.After-ns-3-1 → tie.After-get_list-2
 get-list2-of-ns3 p = p.before.before.before.before.before.before.before
+
 abbrev get-list-of-get-list2 : tie.After-get_list-2 → tie.After-get_list
 get-list-of-get-list2 p = p.before.before.before.before.before
+
 abbrev get-list-of-ns3 : tie.After-ns-3-1 → tie.After-get_list
 get-list-of-ns3 p = get-list-of-get-list2 (get-list2-of-ns3 p)
 
@@ -38,8 +44,10 @@ get-list-of-lv3 p = get-list-of-lo3 p.before
 
 abbrev so-of-la2 : tie.After-la-2-1 → tie.After-so-1
 so-of-la2 p = p.before.before.before.before.before.before.before
+
 abbrev get-numbers-of-so : tie.After-so-1 → tie.After-get_numbers
 get-numbers-of-so p = p.before.before.before.before.before.before.before
+
 abbrev get-numbers-of-la2 : tie.After-la-2-1 → tie.After-get_numbers
 get-numbers-of-la2 p = get-numbers-of-so (so-of-la2 p)
 
@@ -48,15 +56,19 @@ get-numbers-of-ns3 p = get-numbers-of-la2 p.before.before
 
 abbrev shared-slice-known9-of-ns : tie.After-ns-1 → tie.After-shared_slice_known-9-1
 shared-slice-known9-of-ns p = p.before.before.before.before.before.before.before.before.before
+
 abbrev start-of-shared-slice-known9 : tie.After-shared_slice_known-9-1 → tie.Start
 start-of-shared-slice-known9 p = p.before.before.before.before.before.before.before.before.before
+
 abbrev start-of-ns : tie.After-ns-1 → tie.Start
 start-of-ns p = start-of-shared-slice-known9 (shared-slice-known9-of-ns p)
 
 abbrev slice-known9-of-slice-known12 : tie.After-slice_known-12-1 → tie.After-slice_known-9-1
 slice-known9-of-slice-known12 p = p.before.before.before.before.before.before.before.before.before
+
 abbrev run-recipe-of-slice-known9 : tie.After-slice_known-9-1 → tie.After-run_recipe
 run-recipe-of-slice-known9 p = p.before.before.before.before.before.before.before.before.before
+
 abbrev run-recipe-of-slice-known12 : tie.After-slice_known-12-1 → tie.After-run_recipe
 run-recipe-of-slice-known12 p = run-recipe-of-slice-known9 (slice-known9-of-slice-known12 p)
 
@@ -89,12 +101,16 @@ start-of-sv3 p = start-of-so3 p.before
 
 abbrev bv2-of-slice-known12 : tie.After-slice_known-12-1 → tie.After-bv-2-1
 bv2-of-slice-known12 p = p.before.before.before.before.before.before.before.before
+
 abbrev one-rows-of-bv2 : tie.After-bv-2-1 → tie.After-one_rows-1
 one-rows-of-bv2 p = p.before.before.before.before.before.before.before.before
+
 abbrev bv-of-one-rows : tie.After-one_rows-1 → tie.After-bv-1
 bv-of-one-rows p = p.before.before.before.before.before.before.before.before
+
 abbrev la3-of-bv : tie.After-bv-1 → tie.After-la-3-1
 la3-of-bv p = p.before.before.before.before.before.before.before
+
 abbrev get-values-of-slice-known12 : tie.After-slice_known-12-1 → tie.After-get_values
 get-values-of-slice-known12 p = get-values-of-la3 (la3-of-bv (bv-of-one-rows (one-rows-of-bv2 (bv2-of-slice-known12 p))))
 
@@ -112,8 +128,10 @@ start-of-av p = start-of-run-recipe-arg p.before
 
 abbrev bo-of-run-recipe : tie.After-run_recipe → tie.After-bo-1
 bo-of-run-recipe p = p.before.before.before.before.before.before.before.before
+
 abbrev lv3-of-bo : tie.After-bo-1 → tie.After-lv-3-1
 lv3-of-bo p = p.before.before.before.before.before.before.before.before
+
 abbrev get-list2-of-slice-known12 : tie.After-slice_known-12-1 → tie.After-get_list-2
 get-list2-of-slice-known12 p = get-list2-of-lv3 (lv3-of-bo (bo-of-run-recipe (run-recipe-of-slice-known9 (slice-known9-of-slice-known12 p))))
 
@@ -134,10 +152,13 @@ start-of-run-recipe-arg4 p = start-of-bv p.before
 
 abbrev sv3-of-bv : tie.After-bv-1 → tie.After-sv-3-1
 sv3-of-bv p = p.before.before.before.before.before.before.before.before
+
 abbrev sv2-of-sv3 : tie.After-sv-3-1 → tie.After-sv-2-1
 sv2-of-sv3 p = p.before.before.before.before.before.before.before.before.before
+
 abbrev get-list-of-sv2 : tie.After-sv-2-1 → tie.After-get_list
 get-list-of-sv2 p = p.before.before.before.before.before.before.before
+
 abbrev get-list-of-slice-known12 : tie.After-slice_known-12-1 → tie.After-get_list
 get-list-of-slice-known12 p = get-list-of-sv2 (sv2-of-sv3 (sv3-of-bv (bv-of-one-rows (one-rows-of-bv2 (bv2-of-slice-known12 p)))))
 
@@ -152,30 +173,40 @@ start-of-run-recipe-arg7 p = start-of-run-recipe-arg6 p.before
 
 abbrev run-recipe-arg2-of-run-recipe : tie.After-run_recipe → tie.After-run_recipe-arg-2-1
 run-recipe-arg2-of-run-recipe p = p.before.before.before.before.before.before.before.before.before
+
 abbrev lo3-of-run-recipe-arg2 : tie.After-run_recipe-arg-2-1 → tie.After-lo-3-1
 lo3-of-run-recipe-arg2 p = p.before.before.before.before.before.before.before.before
+
 abbrev sv-of-lo3 : tie.After-lo-3-1 → tie.After-sv-1
 sv-of-lo3 p = p.before.before.before.before.before.before.before.before.before
+
 abbrev get-numbers-of-sv : tie.After-sv-1 → tie.After-get_numbers
 get-numbers-of-sv p = p.before.before.before.before.before.before.before.before
+
 abbrev get-numbers-of-slice-known12 : tie.After-slice_known-12-1 → tie.After-get_numbers
 get-numbers-of-slice-known12 p = get-numbers-of-sv (sv-of-lo3 (lo3-of-run-recipe-arg2 (run-recipe-arg2-of-run-recipe (run-recipe-of-slice-known9 (slice-known9-of-slice-known12 p)))))
 
 abbrev ns3-of-run-recipe-arg2 : tie.After-run_recipe-arg-2-1 → tie.After-ns-3-1
 ns3-of-run-recipe-arg2 p = p.before.before.before.before.before.before.before.before.before
+
 abbrev lv2-of-ns3 : tie.After-ns-3-1 → tie.After-lv-2-1
 lv2-of-ns3 p = p.before.before.before.before.before.before.before.before.before.before
+
 abbrev slice-known5-of-lv2 : tie.After-lv-2-1 → tie.After-slice_known-5-1
 slice-known5-of-lv2 p = p.before.before.before.before.before.before.before.before.before
+
 abbrev shared-slice-known8-of-slice-known5 : tie.After-slice_known-5-1 → tie.After-shared_slice_known-8-1
 shared-slice-known8-of-slice-known5 p = p.before.before.before.before.before.before.before.before
+
 abbrev start-of-shared-slice-known8 : tie.After-shared_slice_known-8-1 → tie.Start
 start-of-shared-slice-known8 p = p.before.before.before.before.before.before.before.before
+
 abbrev start-of-slice-known12 : tie.After-slice_known-12-1 → tie.Start
 start-of-slice-known12 p = start-of-shared-slice-known8 (shared-slice-known8-of-slice-known5 (slice-known5-of-lv2 (lv2-of-ns3 (ns3-of-run-recipe-arg2 (run-recipe-arg2-of-run-recipe (run-recipe-of-slice-known9 (slice-known9-of-slice-known12 p)))))))
 
 abbrev numbers-taken-of-lo3 : tie.After-lo-3-1 → tie.After-numbers_taken-nn
 numbers-taken-of-lo3 p = p.before.before
+
 abbrev numbers-taken-of-slice-known12 : tie.After-slice_known-12-1 → tie.After-numbers_taken-nn
 numbers-taken-of-slice-known12 p = numbers-taken-of-lo3 (lo3-of-run-recipe-arg2 (run-recipe-arg2-of-run-recipe (run-recipe-of-slice-known9 (slice-known9-of-slice-known12 p))))
 
@@ -326,7 +357,7 @@ returns c =
     let one = same_room _ _ (length-take-le _ _ p.one-offsets) (length-take-le _ _ p.one-values) in
     let two = same_room _ _ (length-take-le _ _ p.two-offsets) (length-take-le _ _ p.two-values) in
     let out = same_room _ _ (length-take-le _ _ q.0) (length-take-le _ _ q.1) in
-    let numbers = cut_at (get-numbers-of-slice-known12 c).get_numbers.new.1.0 (numbers-taken-of-slice-known12 c).numbers_taken-nn.ensures (get-numbers-of-slice-known12 c).get_numbers.ensures in
+    let numbers = cut_at (get-numbers-of-slice-known12 c).get_numbers.new.ns (numbers-taken-of-slice-known12 c).numbers_taken-nn.ensures (get-numbers-of-slice-known12 c).get_numbers.ensures in
     let e = recipe_read s.args.station s.args.columns s.args.numbers.now _ _ _ _ _ numbers d.offsets d.values b.offsets b.values (get-values-of-slice-known12 c).get_values.ensures one two out in (
       list_ran s.args.mo s.args.mv s.args.o.now s.args.v.now m.0 k.kept.1.1.1.1.1.1.1.1.1.1.1.1.1.1.1.1.1.1.1.1.1.1.1.1.1.1.1.0 k.kept.1.1.1.1.1.1.1.1.1.1.1.1.1.1.1.1.1.1.1.1.1.1.1.1.1.1.1.1.1.0 q.0 q.1 e,
       ((m.1.0.rows, m.1.0.elements, m.1.1.0.rows, m.1.1.0.elements), tallied_as _ _ e m.1.1.1),

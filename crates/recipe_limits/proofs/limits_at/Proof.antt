@@ -23,10 +23,12 @@ S c = c
 
 abbrev counted : tie.After-largest_offset-most → tie.After-row_count-n
 counted c = c.before
+
 abbrev first : tie.After-row_count-n → tie.After-measure_rows-came
 first c = c.before.before.before
+
 abbrev unrefused : tie.After-row_count-n → tie.Else-k-ne0
-unrefused c = (first c)
+unrefused c = (first c).before
 
 -- ---- columns
 
@@ -86,7 +88,7 @@ steps_limits-t-requires : tie.Need-steps_limits-t-requires
 steps_limits-t-requires c κs =
     let r = counted c in
     let e = unrefused r in
-    let s = S e in
+    let s = S e.before in
     let a = s.args in
     (all_steps a.numbers.now a.columns r.row_count-n.result (length a.arguments.now) (passes e).formed ((passes e).many ∙ ap (λ (n : ℕ). a.columns * n) (sym r.row_count-n.ensures)) r.if-steps-eq0.false, (rw r.row_count-n.ensures (reads e).0.rows, (covers e, rw c.largest_offset-most.ensures (first r).measure_rows-came.ensures.1)))
 
@@ -95,7 +97,7 @@ unfolding asked_recipe
 returns c =
     let r = counted c.before in
     let e = unrefused r in
-    let s = S e in
+    let s = S e.before in
     let a = s.args in
     let m = (first r).measure_rows-came in
     limits_steps (limits_at a.width) a.numbers.now a.columns (C s) (D s) (A s) (none-refused e) _ m.ensures.0 m.ensures.1 r.row_count-n.result _ (limits_in c.steps_limits-t.result) r.row_count-n.ensures r.measure_rows-second.ensures.0 r.if-steps-eq0.false (rw c.largest_offset-most.ensures at c.steps_limits-t.ensures)

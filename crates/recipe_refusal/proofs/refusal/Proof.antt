@@ -30,16 +30,19 @@ A s = arguments s.args.args.now (from s.args.start s.args.bits.now)
 
 abbrev S₁ : tie.Else-is_malformed → tie.Start
 S₁ e = e.before.before.before.before.before.before.before.before
+
 abbrev S : tie.Else-start-gt7 → tie.Start
 S e = S₁ e.before
 
 abbrev two-of-three : tie.Else-k-ne0 → tie.Else-start-gt7
 two-of-three e = e.before.before
+
 abbrev two-of-four : tie.Else-is_short → tie.Else-start-gt7
 two-of-four e = two-of-three e.before.before
 
 abbrev four-of-five : tie.Else-row_count → tie.Else-is_short
 four-of-five e = e.before.before.before
+
 -- ---- what does not apply there
 
 formed : (e : tie.Else-is_malformed) → let s = S₁ e in malformed (recipe s.args.numbers.now s.args.columns) ≡ false
@@ -67,7 +70,7 @@ by_length w =
     let l = four-of-five w.before in
     let e = two-of-four l in
     let s = S e in
-    refused-length s.args.numbers.now s.args.columns (C s) (D s) (A s) (formed e) (in_byteᵇ e) (whole l) (long l) (equal w.before) w.is_wrong_length.result w.is_wrong_length.ensures
+    refused-length s.args.numbers.now s.args.columns (C s) (D s) (A s) (formed e.before) (in_byteᵇ e) (whole l.before.before) (long l) (equal w.before) w.is_wrong_length.result w.is_wrong_length.ensures
 
 -- ---- needs
 
@@ -99,7 +102,7 @@ unfolding refusal2ᵃ
 returns-then-is_short c =
     let e = two-of-three c.before.before in
     let s = S e in
-    refused-short s.args.numbers.now s.args.columns (C s) (D s) (A s) (formed e) (in_byteᵇ e) (whole c.before.before) (sym c.is_short.ensures ∙ c.if-is_short.true)
+    refused-short s.args.numbers.now s.args.columns (C s) (D s) (A s) (formed e.before) (in_byteᵇ e) (whole c.before.before) (sym c.is_short.ensures ∙ c.if-is_short.true)
 
 row_count-requires : tie.Need-row_count-requires
 row_count-requires c κs = search rules
@@ -111,13 +114,13 @@ returns-then-row_count : tie.Need-returns-then-row_count
 returns-then-row_count c =
     let e = two-of-four c.before.before.before in
     let s = S e in
-    refused-rows s.args.numbers.now s.args.columns (C s) (D s) (A s) (formed e) (in_byteᵇ e) (whole c.before.before.before.before.before) (long c.before.before.before) (λ z. c.if-row_count.true (c.row_count.ensures ∙ z ∙ sym c.row_count-2.ensures))
+    refused-rows s.args.numbers.now s.args.columns (C s) (D s) (A s) (formed e.before) (in_byteᵇ e) (whole c.before.before.before.before.before) (long c.before.before.before) (λ z. c.if-row_count.true (c.row_count.ensures ∙ z ∙ sym c.row_count-2.ensures))
 
 is_wrong_length-requires : tie.Need-is_wrong_length-requires
 is_wrong_length-requires c κs =
     let e = two-of-four (four-of-five c) in
     let a = (S e).args in
-    few_lent a.numbers.now a.columns (formed e)
+    few_lent a.numbers.now a.columns (formed e.before)
 
 returns-then-is_wrong_length : tie.Need-returns-then-is_wrong_length
 returns-then-is_wrong_length c = sym (by_length c.before ∙ rw c.if-is_wrong_length.true)

@@ -43,8 +43,10 @@ Y s = arguments s.args.ys.now (from s.args.ystart s.args.ybits.now)
 
 abbrev S : tie.At-loop-left invariant-loop-left decreases-loop-left → tie.Start invariant-loop-left decreases-loop-left
 S l = l.before.before.before.before.before.before.before
+
 abbrev counted : tie.At-loop-left invariant-loop-left decreases-loop-left → tie.After-row_count-n invariant-loop-left decreases-loop-left
 counted l = l.before.before
+
 abbrev count : tie.At-loop-left invariant-loop-left decreases-loop-left → ℕ
 count l = (counted l).row_count-n.result
 
@@ -53,6 +55,7 @@ W l = let s = S l in row_made_at (N s) L.Remove (C s) (X s) (Y s) none
 
 abbrev turn : tie.After-measure_row-found invariant-loop-left decreases-loop-left → tie.After-offset_at-b invariant-loop-left decreases-loop-left
 turn m = m.before.before.before
+
 -- row r of a turn can be read
 reads : (q : tie.After-offset_at-b invariant-loop-left decreases-loop-left) → ReadableRowˡ (C (S q.before.before)).rows (count q.before.before) (C (S q.before.before)).values (C (S q.before.before)).elements q.loop-left.r q.loop-left.a q.offset_at-b.result
 reads q =
@@ -60,15 +63,15 @@ reads q =
     between (C (S q.before.before)) (count q.before.before) q.loop-left.r q.loop-left.a q.offset_at-b.result (S q.before.before).requires.0 (counted q.before.before).row_count-n.ensures (omega (arith, q.loop-left.invariant.0.rows, t)) (q.loop-left.invariant.1 t) q.offset_at-b.ensures.0
 
 -- the walk after it
-more : (m : tie.After-measure_row-found invariant-loop-left decreases-loop-left) → let q = turn m in Summing (W q) (count q) q.offset_at-b.result (N (S q)).offset (q.loop-left.found + m.measure_row-found.result) (q.loop-left.r + 1) (q.loop-left.left - 1)
+more : (m : tie.After-measure_row-found invariant-loop-left decreases-loop-left) → let q = turn m in Summing (W q.before.before) (count q.before.before) q.offset_at-b.result (N (S q.before.before)).offset (q.loop-left.found + m.measure_row-found.result) (q.loop-left.r + 1) (q.loop-left.left - 1)
 more m =
     let q = turn m in
-    let s = S q in
+    let s = S q.before.before in
     let b = q.offset_at-b in
     let t = q.loop-left-test.true in
     let f = m.taken_at-element in
     let k = m.limit_at-limit in
-    sum_more (W q) (count q) (N s).offset m.measure_row-found.result q.loop-left.a b.result q.loop-left.invariant.0 t
+    sum_more (W q.before.before) (count q.before.before) (N s).offset m.measure_row-found.result q.loop-left.a b.result q.loop-left.invariant.0 t
     (removed-long (N s) (C s) (X s) (Y s) none q.loop-left.r q.loop-left.a b.result (q.loop-left.invariant.1 t) b.ensures.0 f.result k.result f.ensures k.ensures m.measure_row-found.result m.measure_row-found.ensures)
     (removed_le (N s) (C s) (X s) (Y s) none q.loop-left.r q.loop-left.a b.result (q.loop-left.invariant.1 t) b.ensures.0 f.result k.result f.ensures k.ensures m.measure_row-found.result m.measure_row-found.ensures)
     (reads q).rises refl b.ensures.1
@@ -101,7 +104,7 @@ measure_row-found-requires : tie.Need-measure_row-found-requires invariant-loop-
 measure_row-found-requires c κs = record { inside = omega (arith, (reads c.before.before).rises, (reads c.before.before).inside); bits = (reads c.before.before).elements }
 
 overflow_add-found : tie.Need-overflow_add-found invariant-loop-left decreases-loop-left
-overflow_add-found c = omega (arith, (more c).small, (limits-fit (S (turn c)).args.width).offset)
+overflow_add-found c = omega (arith, (more c).small, (limits-fit (S (turn c).before.before).args.width).offset)
 
 overflow_add-r-in-loop-left : tie.Need-overflow_add-r-in-loop-left invariant-loop-left decreases-loop-left
 overflow_add-r-in-loop-left c = let q = turn c in omega (arith, q.loop-left.invariant.0.rows, q.loop-left-test.true)

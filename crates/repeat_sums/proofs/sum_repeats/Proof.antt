@@ -23,8 +23,10 @@ decreases-loop-left offsets rows rstart counts count-bits cstart width large n l
 
 abbrev S : tie.At-loop-left invariant-loop-left decreases-loop-left → tie.Start invariant-loop-left decreases-loop-left
 S l = l.before.before.before.before.before.before
+
 abbrev loop-of : tie.After-row_len-len invariant-loop-left decreases-loop-left → tie.At-loop-left invariant-loop-left decreases-loop-left
 loop-of w = w.before.before.before.before.before.before
+
 -- ---- the limits, the rows, and what is summed of each
 
 abbrev L : tie.At-loop-left invariant-loop-left decreases-loop-left → Limits

@@ -25,8 +25,10 @@ A s = let a = s.args in arguments a.counts.now (from a.cstart a.count_bits.now)
 
 abbrev S : tie.After-list_refusal-k → tie.Start
 S f = f.before.before.before.before.before
+
 abbrev list_of : tie.Else-is_short → tie.After-list_refusal-k
 list_of e = e.before.before.before
+
 -- the counts' starting bit is not over 7
 in_byte : (f : tie.After-list_refusal-k) → (S f).args.cstart ≤ 7
 in_byte f = omega (arith, f)

@@ -26,11 +26,13 @@ R s = let a = s.args in repeat_room (length (used a.width a.out_offsets.now a.ou
 
 abbrev S : tie.After-has_room → tie.Start
 S h = h.before.before.before.before.before.before.before.before.before.before
+
 abbrev wrote : tie.After-repeat-answer-arg3 → tie.After-write_repeats
 wrote c = c
 
 abbrev tested : tie.After-write_repeats-arg-8-1 → tie.Else-not-has_room
 tested p = p.before.before.before.before.before.before.before.before
+
 rows_are : (h : tie.After-has_room) → h.row_count-n.result ≡ length (O (S h))
 rows_are h = h.row_count-n.ensures ∙ sym (length_repeats _ _)
 
@@ -65,15 +67,15 @@ returns-then-not-has_room : tie.Need-returns-then-not-has_room
 returns-then-not-has_room c = let s = S c.before in repeat_refused 9 (fitted_short (O s) (R s) (sym (room_is c.before) ∙ not-true _ c.if-not-has_room.true-raw))
 
 write_repeats-requires : tie.Need-write_repeats-requires
-write_repeats-requires c κs = let e = tested c in let s = S e in (s.requires.0, (s.requires.1.0, (s.requires.1.1.0, roomy e)))
+write_repeats-requires c κs = let e = tested c in let s = S e.before in (s.requires.0, (s.requires.1.0, (s.requires.1.1.0, roomy e)))
 
 repeat_answer-requires : tie.Need-repeat_answer-requires
 repeat_answer-requires c κs =
     let w = (wrote c).write_repeats.auto in
-    let e = tested (wrote c) in
+    let e = tested (wrote c).before in
     let r = roomy e in
-    let s = S e in
-    (omega (arith, r.rows, rows_are e, w.1.1.1.1.1.1.1.1.1.1.0), (omega (arith, r.lists.room.rows, s.requires.1.1.1.0, w.1.1.1.1.1.1.1.1.1.1.1.1.0), omega (arith, r.lists.room.elements, s.requires.1.1.1.1.0, w.1.1.1.1.1.1.1.1.1.1.1.1.1.1.0)))
+    let s = S e.before in
+    (omega (arith, r.rows, rows_are e.before, w.1.1.1.1.1.1.1.1.1.1.0), (omega (arith, r.lists.room.rows, s.requires.1.1.1.0, w.1.1.1.1.1.1.1.1.1.1.1.1.0), omega (arith, r.lists.room.elements, s.requires.1.1.1.1.0, w.1.1.1.1.1.1.1.1.1.1.1.1.1.1.0)))
 
 shape_of-out_offsets : tie.Need-shape_of-out_offsets
 shape_of-out_offsets c = (wrote c).write_repeats.auto.out_offsets
@@ -101,9 +103,9 @@ shape_of-inner_large c = (wrote c).write_repeats.auto.inner_large
 
 returns : tie.Need-returns
 returns c =
-    let e = tested (wrote c) in
-    let s = S e in
-    repeat_made (O s) _ _ _ (fitted-made (O s) (R s) (sym (room_is e) ∙ not-false _ e.if-not-has_room.false-raw)) (rows_are e) s.requires.1.1.1.0 s.requires.1.1.1.1.0 (wrote c).write_repeats.ensures c.repeat_answer.ensures
+    let e = tested (wrote c).before in
+    let s = S e.before in
+    repeat_made (O s) _ _ _ (fitted-made (O s) (R s) (sym (room_is e.before) ∙ not-false _ e.if-not-has_room.false-raw)) (rows_are e.before) s.requires.1.1.1.0 s.requires.1.1.1.1.0 (wrote c).write_repeats.ensures c.repeat_answer.ensures
 
 pub fill_spec : {M : Type 1} → statement M
 fill_spec =

@@ -25,6 +25,7 @@ A s = let a = s.args in arguments a.counts.now (from a.cstart a.count_bits.now)
 
 abbrev S : tie.After-early-k → tie.Start
 S e = e.before.before.before.before
+
 -- the early refusals have passed
 begun : (e : tie.Else-k-ne0) → let s = S e.before in Begun (C s) (A s)
 begun e = e.early-k.ensures.1 e.if-k-ne0.false

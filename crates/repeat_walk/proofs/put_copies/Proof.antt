@@ -43,18 +43,25 @@ W s = row_from (B s) (E s) s.args.r s.args.a s.args.b
 -- the places that are used below
 abbrev start-of-is-valid : tie.After-is_valid-valid invariant-loop-left decreases-loop-left → tie.Start invariant-loop-left decreases-loop-left
 start-of-is-valid p = p.before.before.before.before.before
+
 abbrev push-bit-of-inner-large : tie.After-inner_large-1 invariant-loop-left decreases-loop-left → tie.After-push_bit invariant-loop-left decreases-loop-left
 push-bit-of-inner-large p = p.before.before.before.before.before.before.before
+
 abbrev start-of-row-len : tie.After-row_len-len invariant-loop-left decreases-loop-left → tie.Start invariant-loop-left decreases-loop-left
 start-of-row-len p = p.before.before.before.before.before.before
+
 abbrev start-of-loop : tie.At-loop-left invariant-loop-left decreases-loop-left → tie.Start invariant-loop-left decreases-loop-left
 start-of-loop p = p.before.before.before.before.before.before.before
+
 abbrev in-loop-of-push-bit-arg : tie.After-push_bit-arg-1 invariant-loop-left decreases-loop-left → tie.In-loop-left invariant-loop-left decreases-loop-left
 in-loop-of-push-bit-arg p = p.before.before.before.before.before.before.before
+
 abbrev loop-of-push-bit-arg : tie.After-push_bit-arg-1 invariant-loop-left decreases-loop-left → tie.At-loop-left invariant-loop-left decreases-loop-left
 loop-of-push-bit-arg p = p.before.before.before.before.before.before.before.before
+
 abbrev write-forward-of-put-offset-arg2 : tie.After-put_offset-arg-in-loop-left-1 invariant-loop-left decreases-loop-left → tie.After-write_forward-at invariant-loop-left decreases-loop-left
 write-forward-of-put-offset-arg2 p = p.before.before.before.before.before.before.before.before.before
+
 abbrev write-forward-of-inner-large : tie.After-inner_large-1 invariant-loop-left decreases-loop-left → tie.After-write_forward-at invariant-loop-left decreases-loop-left
 write-forward-of-inner-large p = write-forward-of-put-offset-arg2 p.before.before.before
 

@@ -30,12 +30,16 @@ R s = let a = s.args in repeat_room (length (used a.width a.out_offsets.now a.ou
 
 abbrev filled : tie.After-inner_large-1 → tie.After-fill
 filled c = c.before.before.before.before.before.before.before.before.before.before.before
+
 abbrev told : tie.After-fill-arg-in-Of-7-1 → tie.In-Of-2
 told c = c.before.before.before.before.before.before.before.before
+
 abbrev summed : tie.In-Of-2 → tie.After-sum_repeats
 summed f = f.before
+
 abbrev S : tie.After-early-k → tie.Start
 S e = e.before.before.before.before.before.before.before
+
 -- the early refusals have passed
 begun : (e : tie.Else-k-ne0) → let s = S e.before in Begun (C s) (A s)
 begun e = e.early-k.ensures.1 e.if-k-ne0.false
@@ -60,9 +64,9 @@ enum_known-lists c = search
 fill-requires : tie.Need-fill-requires
 fill-requires c κs =
     let f = told c in
-    let e = (summed f) in
-    let s = S e.before.before in
-    let b = begun e.before in
+    let e = (summed f).before in
+    let s = S e.before in
+    let b = begun e in
     let m = sums_are (M s) (C s) (A s) _ _ (sym f.in-Of.is ∙ (summed f).sum_repeats.ensures) in
     (b.list, (b.bits, (b.equal, (m.0, (m.1, (m.2, m.3))))))
 
@@ -97,10 +101,10 @@ shape_of-inner_large c = (filled c).fill.auto.inner_large
 
 returns-in-Of : tie.Need-returns-in-Of
 returns-in-Of c =
-    let f = told (filled c) in
-    let e = (summed f) in
-    let s = S e.before.before in
-    rw (run_fits (M s) (C s) (A s) _ e.early-k.ensures.0 e.if-k-ne0.false (begun e.before).equal _ _ (sym f.in-Of.is ∙ (summed f).sum_repeats.ensures) (R s)) (filled c).fill.ensures
+    let f = told (filled c).before in
+    let e = (summed f).before in
+    let s = S e.before in
+    rw (run_fits (M s) (C s) (A s) _ e.early-k.ensures.0 e.if-k-ne0.false (begun e).equal _ _ (sym f.in-Of.is ∙ (summed f).sum_repeats.ensures) (R s)) (filled c).fill.ensures
 
 pub run_spec : {M : Type 1} → statement M
 run_spec =

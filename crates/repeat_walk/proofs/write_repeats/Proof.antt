@@ -53,27 +53,32 @@ IO s = let a = s.args in used a.width a.inner_offsets.now a.inner_large.now
 
 abbrev inner₀ : tie.At-loop-left invariant-loop-left decreases-loop-left → tie.After-put_offset-2 invariant-loop-left decreases-loop-left
 inner₀ l = l.before.before.before
+
 abbrev outer₀ : tie.At-loop-left invariant-loop-left decreases-loop-left → tie.After-put_offset invariant-loop-left decreases-loop-left
-outer₀ l = (inner₀ l)
+outer₀ l = (inner₀ l).before.before.before.before.before
 
 abbrev start-of-row-count : tie.After-row_count-n invariant-loop-left decreases-loop-left → tie.Start invariant-loop-left decreases-loop-left
 start-of-row-count p = p.before.before.before.before.before.before.before
+
 abbrev S : tie.At-loop-left invariant-loop-left decreases-loop-left → tie.Start invariant-loop-left decreases-loop-left
-S l = start-of-row-count (outer₀ l)
+S l = start-of-row-count (outer₀ l).before.before.before
 
 -- ---- places: the copies put, and the row read, from the outer row put
 
 abbrev copied : tie.After-inner_large-in-loop-left-1 invariant-loop-left decreases-loop-left → tie.After-put_copies-at invariant-loop-left decreases-loop-left
 copied p = p.before.before.before.before.before.before.before
+
 abbrev read : tie.After-put_copies-at invariant-loop-left decreases-loop-left → tie.After-offset_at-b invariant-loop-left decreases-loop-left
 read p = p.before.before.before.before.before.before
+
 abbrev put : tie.After-out_large-in-loop-left-1 invariant-loop-left decreases-loop-left → tie.After-put_outer invariant-loop-left decreases-loop-left
 put c = c.before.before.before.before
+
 abbrev copied-before : tie.After-put_outer invariant-loop-left decreases-loop-left → tie.After-put_copies-at invariant-loop-left decreases-loop-left
 copied-before u = copied u.before.before.before.before
 
 abbrev turn : tie.After-out_large-in-loop-left-1 invariant-loop-left decreases-loop-left → tie.In-loop-left invariant-loop-left decreases-loop-left
-turn c = (read (copied-before (put c)))
+turn c = (read (copied-before (put c))).before.before.before
 
 -- ---- the rows, and the outer rows that they become
 
@@ -88,6 +93,7 @@ O l = repeat_at (C (S l)) (A (S l))
 
 abbrev L : tie.After-offset_at-b invariant-loop-left decreases-loop-left → tie.At-loop-left invariant-loop-left decreases-loop-left
 L q = q.before.before.before.before
+
 -- the copies that a turn writes are those of outer row r
 abbrev row : tie.After-offset_at-b invariant-loop-left decreases-loop-left → Row
 row q = let l = L q in row_from (C (S l)).rows (elem_at (C (S l)).values (C (S l)).elements) l.loop-left.r q.offset_at-a.result q.offset_at-b.result

@@ -57,22 +57,27 @@ Z s = arguments s.args.zs.now (from s.args.zstart s.args.zbits.now)
 
 abbrev put : tie.At-loop-left invariant-loop-left decreases-loop-left → tie.After-put_offset invariant-loop-left decreases-loop-left
 put l = l.before.before.before.before
+
 abbrev begun : tie.After-put_offset-arg-2-1 invariant-loop-left decreases-loop-left → tie.Start invariant-loop-left decreases-loop-left
 begun p = p.before.before.before.before.before.before.before.before.before.before
+
 abbrev S : tie.At-loop-left invariant-loop-left decreases-loop-left → tie.Start invariant-loop-left decreases-loop-left
-S l = begun (put l)
+S l = begun (put l).before
 
 abbrev written : tie.After-put_offset-arg-in-loop-left-2-1 invariant-loop-left decreases-loop-left → tie.After-put_row-at invariant-loop-left decreases-loop-left
 written p = p.before.before.before.before.before.before.before
+
 abbrev turned : tie.After-out_large-in-loop-left-1 invariant-loop-left decreases-loop-left → tie.After-put_row-at invariant-loop-left decreases-loop-left
 turned p = written p.before.before.before
 
 abbrev taken : tie.After-put_row-at invariant-loop-left decreases-loop-left → tie.After-taken_at-to invariant-loop-left decreases-loop-left
 taken w = w.before.before.before.before
+
 abbrev between-offsets : tie.After-taken_at-to invariant-loop-left decreases-loop-left → tie.After-offset_at-b invariant-loop-left decreases-loop-left
 between-offsets o = o.before.before.before
+
 abbrev inside : tie.After-put_row-at invariant-loop-left decreases-loop-left → tie.In-loop-left invariant-loop-left decreases-loop-left
-inside w = (between-offsets (taken w))
+inside w = (between-offsets (taken w)).before
 
 abbrev count : tie.At-loop-left invariant-loop-left decreases-loop-left → ℕ
 count l = (put l).row_count-n.result
@@ -97,13 +102,13 @@ reads q =
 abbrev made : (o : tie.After-taken_at-to invariant-loop-left decreases-loop-left) → Row
 made o =
     let q = between-offsets o in
-    let s = S q in
+    let s = S q.before.before in
     row_made (op_made (replace_op o.taken_at-needle.result o.taken_at-to.result o.limit_at-limit.result) (tab (elem_at (C s).values (C s).elements) q.loop-left.a (q.offset_at-b.result - q.loop-left.a)))
 
-same_row : (o : tie.After-taken_at-to invariant-loop-left decreases-loop-left) → let l = (between-offsets o) in made o ≡ W l.before.before l.loop-left.r
+same_row : (o : tie.After-taken_at-to invariant-loop-left decreases-loop-left) → let l = (between-offsets o).before.before in made o ≡ W l l.loop-left.r
 same_row o =
     let q = between-offsets o in
-    let s = S q in
+    let s = S q.before.before in
     replaced_row (N s) (C s) (X s) (Y s) (Z s) q.loop-left.r q.loop-left.a q.offset_at-b.result (q.loop-left.invariant.3 q.loop-left-test.true) q.offset_at-b.ensures.0 o.taken_at-needle.result o.taken_at-to.result o.limit_at-limit.result o.taken_at-needle.ensures o.taken_at-to.ensures o.limit_at-limit.ensures
 
 row_count-n-requires : tie.Need-row_count-n-requires invariant-loop-left decreases-loop-left
@@ -139,7 +144,7 @@ taken_at-to-requires c κs = (λ e. rw (rows_are c.before.before.before.before) 
 put_row-at-requires : tie.Need-put_row-at-requires invariant-loop-left decreases-loop-left
 put_row-at-requires c κs =
     let q = between-offsets c.before.before.before in
-    (record { inside = omega (arith, (reads q).rises, (reads q).inside); bits = (reads q).elements }, walk_room (W q) (count q) (made c.before.before.before) q.loop-left-test.true (same_row c.before.before.before) q.loop-left.invariant.0 (roomy q _ (put_keeps (O (S q)) 0 0 (put q).put_offset.ensures)))
+    (record { inside = omega (arith, (reads q).rises, (reads q).inside); bits = (reads q).elements }, walk_room (W q.before.before) (count q.before.before) (made c.before.before.before) q.loop-left-test.true (same_row c.before.before.before) q.loop-left.invariant.0 (roomy q.before.before _ (put_keeps (O (S q.before.before)) 0 0 (put q.before.before).put_offset.ensures)))
 
 overflow_add-r-in-loop-left : tie.Need-overflow_add-r-in-loop-left invariant-loop-left decreases-loop-left
 overflow_add-r-in-loop-left c = let i = inside (written c) in omega (arith, i.loop-left.invariant.0.rows, i.loop-left-test.true)
@@ -149,9 +154,9 @@ put_offset-requires-in-loop-left c κs =
     let w = written c in
     let o = taken w in
     let i = inside w in
-    let s = S i in
-    let k = walk_small (W i) (count i) (made o) i.loop-left-test.true (same_row o) i.loop-left.invariant.0 w.put_row-at.ensures in
-    (walk_slot (W i) (count i) (made o) i.loop-left-test.true (same_row o) i.loop-left.invariant.0 (roomy i _ (put_keeps (O (S i)) 0 0 (put i).put_offset.ensures)), omega (arith, s.requires.1.1.0, rw (rows_at (N s) L.Replace (C s) (X s) (Y s) (Z s) (count i) (rows_are i)) at k))
+    let s = S i.before in
+    let k = walk_small (W i.before) (count i.before) (made o) i.loop-left-test.true (same_row o) i.loop-left.invariant.0 w.put_row-at.ensures in
+    (walk_slot (W i.before) (count i.before) (made o) i.loop-left-test.true (same_row o) i.loop-left.invariant.0 (roomy i.before _ (put_keeps (O (S i.before)) 0 0 (put i.before).put_offset.ensures)), omega (arith, s.requires.1.1.0, rw (rows_at (N s) L.Replace (C s) (X s) (Y s) (Z s) (count i.before) (rows_are i.before)) at k))
 
 overflow_add-r-in-loop-left-2 : tie.Need-overflow_add-r-in-loop-left-2 invariant-loop-left decreases-loop-left
 overflow_add-r-in-loop-left-2 c = let i = inside (turned c) in omega (arith, i.loop-left.invariant.0.rows, i.loop-left-test.true)
@@ -166,8 +171,8 @@ loop-left-preserved : tie.Need-loop-left-preserved invariant-loop-left decreases
 loop-left-preserved c =
     let w = turned c in
     let o = taken w in
-    let l = (inside w) in (
-      walk_more (W l.before) (count l.before) (made o) (inside w).loop-left-test.true (same_row o) l.loop-left.invariant.0 w.put_row-at.ensures c.put_offset-in-loop-left.ensures,
+    let l = (inside w).before in (
+      walk_more (W l) (count l) (made o) (inside w).loop-left-test.true (same_row o) l.loop-left.invariant.0 w.put_row-at.ensures c.put_offset-in-loop-left.ensures,
       c.put_offset-in-loop-left.auto.narrow ∙ l.loop-left.invariant.1,
       c.put_offset-in-loop-left.auto.wide ∙ l.loop-left.invariant.2,
       λ h. (between-offsets o).offset_at-b.ensures.0,

@@ -25,14 +25,19 @@ made s = row_made (op_made (resize_op s.args.count s.args.fill) (es s))
 -- the places that are used below: a null count, a count read, the elements written, and the ends
 abbrev start-of-null : tie.In-Null → tie.Start
 start-of-null p = p.before.before.before.before
+
 abbrev null_of : tie.After-slice_known-in-Null-1 → tie.In-Null
 null_of p = p.before.before.before.before
+
 abbrev start-of-count : tie.After-limit_of → tie.Start
 start-of-count p = p.before.before.before.before.before
+
 abbrev count_of : tie.After-write_resized-next → tie.After-limit_of
 count_of p = p.before.before.before
+
 abbrev written_of : tie.After-slice_known-in-Value-2-1 → tie.After-write_resized-next
 written_of p = p.before.before.before.before.before.before.before
+
 row_is : (p : tie.After-limit_of) → let s = start-of-count p in made s ≡ list_row (resized p.limit_of.result (fill_elem s.args.fill) (es s))
 row_is p =
     let s = start-of-count p in

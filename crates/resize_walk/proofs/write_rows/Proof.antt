@@ -55,23 +55,28 @@ Z s = arguments s.args.zs.now (from s.args.zstart s.args.zbits.now)
 
 abbrev put : tie.At-loop-left invariant-loop-left decreases-loop-left → tie.After-put_offset invariant-loop-left decreases-loop-left
 put l = l.before.before.before
+
 abbrev kind : tie.At-loop-left invariant-loop-left decreases-loop-left → tie.After-is_filled-filled invariant-loop-left decreases-loop-left
-kind l = (put l)
+kind l = (put l).before.before.before
 
 abbrev begun : tie.After-put_offset-arg-2-1 invariant-loop-left decreases-loop-left → tie.Start invariant-loop-left decreases-loop-left
 begun p = p.before.before.before.before.before.before.before.before.before.before.before
+
 abbrev S : tie.At-loop-left invariant-loop-left decreases-loop-left → tie.Start invariant-loop-left decreases-loop-left
-S l = begun (put l)
+S l = begun (put l).before
 
 abbrev written : tie.After-put_offset-arg-in-loop-left-2-1 invariant-loop-left decreases-loop-left → tie.After-put_row-at invariant-loop-left decreases-loop-left
 written p = p.before.before.before.before.before.before.before
+
 abbrev turned : tie.After-out_large-in-loop-left-1 invariant-loop-left decreases-loop-left → tie.After-put_row-at invariant-loop-left decreases-loop-left
 turned p = written p.before.before.before
 
 abbrev read : tie.After-put_row-at invariant-loop-left decreases-loop-left → tie.After-fill_at-fill invariant-loop-left decreases-loop-left
 read w = w.before.before.before.before
+
 abbrev inside : tie.After-fill_at-fill invariant-loop-left decreases-loop-left → tie.In-loop-left invariant-loop-left decreases-loop-left
 inside f = f.before.before.before.before
+
 abbrev count : tie.At-loop-left invariant-loop-left decreases-loop-left → ℕ
 count l = (kind l).row_count-n.result
 
@@ -97,14 +102,14 @@ reads q =
 -- the row that a turn makes is row r's
 abbrev made : tie.After-fill_at-fill invariant-loop-left decreases-loop-left → Row
 made f =
-    let s = S (inside f) in
+    let s = S (inside f).before in
     row_made (op_made (resize_op f.count_at-count.result f.fill_at-fill.result) (tab (elem_at (C s).values (C s).elements) f.offset_at-a.result (f.offset_at-b.result - f.offset_at-a.result)))
 
-same_row : (f : tie.After-fill_at-fill invariant-loop-left decreases-loop-left) → let l = (inside f) in made f ≡ W l.before l.loop-left.r
+same_row : (f : tie.After-fill_at-fill invariant-loop-left decreases-loop-left) → let l = (inside f).before in made f ≡ W l l.loop-left.r
 same_row f =
-    let l = (inside f) in
-    let s = S l.before in
-    resized_row (C s) (X s) (kind l.before).is_filled-filled.result (Y s) l.loop-left.r f.offset_at-a.result f.offset_at-b.result f.count_at-count.result f.fill_at-fill.result f.offset_at-a.ensures.0 f.offset_at-b.ensures.0 f.count_at-count.ensures f.fill_at-fill.ensures
+    let l = (inside f).before in
+    let s = S l in
+    resized_row (C s) (X s) (kind l).is_filled-filled.result (Y s) l.loop-left.r f.offset_at-a.result f.offset_at-b.result f.count_at-count.result f.fill_at-fill.result f.offset_at-a.ensures.0 f.offset_at-b.ensures.0 f.count_at-count.ensures f.fill_at-fill.ensures
 
 row_count-n-requires : tie.Need-row_count-n-requires invariant-loop-left decreases-loop-left
 row_count-n-requires c κs = search
@@ -142,8 +147,8 @@ fill_at-fill-requires c κs =
 
 put_row-at-requires : tie.Need-put_row-at-requires invariant-loop-left decreases-loop-left
 put_row-at-requires c κs =
-    let l = (inside c.before.before.before) in
-    (record { inside = omega (arith, (reads c.before.before.before.before.before).rises, (reads c.before.before.before.before.before).inside); bits = (reads c.before.before.before.before.before).elements }, walk_room (W l.before) (count l.before) (made c.before.before.before) (inside c.before.before.before).loop-left-test.true (same_row c.before.before.before) l.loop-left.invariant.0 (roomy l.before _ (put_keeps (O (S l.before)) 0 0 (put l.before).put_offset.ensures)))
+    let l = (inside c.before.before.before).before in
+    (record { inside = omega (arith, (reads c.before.before.before.before.before).rises, (reads c.before.before.before.before.before).inside); bits = (reads c.before.before.before.before.before).elements }, walk_room (W l) (count l) (made c.before.before.before) (inside c.before.before.before).loop-left-test.true (same_row c.before.before.before) l.loop-left.invariant.0 (roomy l _ (put_keeps (O (S l)) 0 0 (put l).put_offset.ensures)))
 
 overflow_add-r-in-loop-left : tie.Need-overflow_add-r-in-loop-left invariant-loop-left decreases-loop-left
 overflow_add-r-in-loop-left c = let i = inside (read (written c)) in omega (arith, i, i.loop-left.invariant.0.rows, i.loop-left-test.true)
@@ -152,9 +157,9 @@ put_offset-requires-in-loop-left : tie.Need-put_offset-requires-in-loop-left inv
 put_offset-requires-in-loop-left c κs =
     let w = written c in
     let f = read (written c) in
-    let l = (inside f) in
-    let k = walk_small (W l.before) (count l.before) (made f) (inside f).loop-left-test.true (same_row f) l.loop-left.invariant.0 w.put_row-at.ensures in
-    (walk_slot (W l.before) (count l.before) (made f) (inside f).loop-left-test.true (same_row f) l.loop-left.invariant.0 (roomy l.before _ (put_keeps (O (S l.before)) 0 0 (put l.before).put_offset.ensures)), omega (arith, (S l.before).requires.1.1.1.0, rw (all_rows l.before) at k))
+    let l = (inside f).before in
+    let k = walk_small (W l) (count l) (made f) (inside f).loop-left-test.true (same_row f) l.loop-left.invariant.0 w.put_row-at.ensures in
+    (walk_slot (W l) (count l) (made f) (inside f).loop-left-test.true (same_row f) l.loop-left.invariant.0 (roomy l _ (put_keeps (O (S l)) 0 0 (put l).put_offset.ensures)), omega (arith, (S l).requires.1.1.1.0, rw (all_rows l) at k))
 
 overflow_add-r-in-loop-left-2 : tie.Need-overflow_add-r-in-loop-left-2 invariant-loop-left decreases-loop-left
 overflow_add-r-in-loop-left-2 c = let i = inside (read (turned c)) in omega (arith, i, i.loop-left.invariant.0.rows, i.loop-left-test.true)
@@ -169,8 +174,8 @@ loop-left-preserved : tie.Need-loop-left-preserved invariant-loop-left decreases
 loop-left-preserved c =
     let w = turned c in
     let f = read (turned c) in
-    let l = (inside f) in
-    (walk_more (W l.before) (count l.before) (made f) (inside f).loop-left-test.true (same_row f) l.loop-left.invariant.0 w.put_row-at.ensures c.put_offset-in-loop-left.ensures, c.put_offset-in-loop-left.auto.narrow ∙ l.loop-left.invariant.1, c.put_offset-in-loop-left.auto.wide ∙ l.loop-left.invariant.2)
+    let l = (inside f).before in
+    (walk_more (W l) (count l) (made f) (inside f).loop-left-test.true (same_row f) l.loop-left.invariant.0 w.put_row-at.ensures c.put_offset-in-loop-left.ensures, c.put_offset-in-loop-left.auto.narrow ∙ l.loop-left.invariant.1, c.put_offset-in-loop-left.auto.wide ∙ l.loop-left.invariant.2)
 
 shape_of-out_offsets : tie.Need-shape_of-out_offsets invariant-loop-left decreases-loop-left
 shape_of-out_offsets c = c.loop-left.invariant.1 ∙ (put c.before).put_offset.kept.1.0

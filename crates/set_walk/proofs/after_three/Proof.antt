@@ -35,6 +35,7 @@ W s = pair_rows s.args.op (C s) (D s)
 
 abbrev S : tie.After-union_refusal-long → tie.Start
 S u = u.before.before.before.before.before.before.before.before.before
+
 -- what the test for 8 found
 eight : (u : tie.After-union_refusal-long) → let s = S u in u.union_refusal-long.result ≡ union_refusal (limits_at s.args.width) s.args.op (length (flat (W s)))
 eight u = u.union_refusal-long.ensures ∙ ap (union_refusal (limits_at (S u).args.width) (S u).args.op) u.measure_pairs-m.ensures.0

@@ -21,6 +21,7 @@ D s = let a = s.args in column (used a.width a.roffsets.now a.rlarge.now) (from 
 
 abbrev S : tie.After-lists_refusal-k → tie.Start
 S f = f.before.before.before.before.before
+
 -- 13, 1 and 2 do not apply
 formed : (e : tie.Else-k-ne0) → let s = S e.before in columns_refusal (C s ∷ D s ∷ []) [] ≡ 0
 formed e = sym e.lists_refusal-k.ensures ∙ e.if-k-ne0.false

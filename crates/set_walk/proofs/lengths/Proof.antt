@@ -31,6 +31,7 @@ M s = length (flat (pair_rows s.args.op (C s) (D s)))
 
 abbrev S : tie.After-early-k → tie.Start
 S e = e.before.before.before.before.before
+
 -- the early refusals have passed
 begun : (e : tie.Else-k-ne0) → let s = S e.before in Begun (C s) (D s)
 begun e = e.early-k.ensures.1 e.if-k-ne0.false

@@ -30,9 +30,11 @@ D s = let a = s.args in column (used a.width a.roffsets.now a.rlarge.now) (from 
 
 abbrev S : tie.At-loop-left invariant-loop-left decreases-loop-left → tie.Start invariant-loop-left decreases-loop-left
 S l = l.before.before.before.before.before.before
+
 -- the pairs of rows of a turn can be read
 abbrev L : tie.After-offset_at-d invariant-loop-left decreases-loop-left → tie.At-loop-left invariant-loop-left decreases-loop-left
 L q = q.before.before.before.before.before
+
 lefts : (q : tie.After-offset_at-d invariant-loop-left decreases-loop-left) → let l = L q in ReadableRowˡ (C (S l)).rows l.row_count-n.result (C (S l)).values (C (S l)).elements l.loop-left.r q.offset_at-a.result q.offset_at-b.result
 lefts q =
     let l = L q in

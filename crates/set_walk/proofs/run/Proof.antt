@@ -23,11 +23,13 @@ L s = let a = s.args in room (length (used a.width a.out_offsets.now a.out_large
 
 abbrev wrote : tie.After-out_large-1 → tie.After-after_three
 wrote c = c.before.before.before.before.before.before.before
+
 abbrev passed : tie.After-out_large-1 → tie.Else-k-ne0
-passed c = (wrote c)
+passed c = (wrote c).before.before.before.before.before.before
 
 abbrev S : tie.After-early-k → tie.Start
 S e = e.before.before.before.before.before.before.before
+
 -- ---- needs
 
 early-k-requires : tie.Need-early-k-requires
@@ -59,7 +61,7 @@ shape_of-out_large c = search
 returns : tie.Need-returns
 returns c =
     let e = passed c in
-    let s = S e in
+    let s = S e.before in
     rw (run_goes s.args.op (C s) (D s) (limits_at s.args.width) _ (e.early-k.ensures.0 s.args.op) (L s) e.if-k-ne0.false) (wrote c).after_three.ensures
 
 pub run_spec : {M : Type 1} → statement M

@@ -34,21 +34,29 @@ D s = let a = s.args in column (used a.width a.roffsets.now a.rlarge.now) (from 
 
 abbrev put : tie.At-loop-left invariant-loop-left decreases-loop-left → tie.After-put_offset invariant-loop-left decreases-loop-left
 put l = l.before.before.before
+
 -- the places that are used below
 abbrev loop-of-offset-at4 : tie.After-offset_at-d invariant-loop-left decreases-loop-left → tie.At-loop-left invariant-loop-left decreases-loop-left
 loop-of-offset-at4 p = p.before.before.before.before.before
+
 abbrev put-pair-of-put-offset-arg4 : tie.After-put_offset-arg-in-loop-left-2-1 invariant-loop-left decreases-loop-left → tie.After-put_pair-at invariant-loop-left decreases-loop-left
 put-pair-of-put-offset-arg4 p = p.before.before.before.before.before.before.before
+
 abbrev start-of-put-offset-arg2 : tie.After-put_offset-arg-2-1 invariant-loop-left decreases-loop-left → tie.Start invariant-loop-left decreases-loop-left
 start-of-put-offset-arg2 p = p.before.before.before.before.before.before.before.before.before
+
 abbrev put-pair-of-out-large2 : tie.After-out_large-in-loop-left-1 invariant-loop-left decreases-loop-left → tie.After-put_pair-at invariant-loop-left decreases-loop-left
 put-pair-of-out-large2 p = p.before.before.before.before.before.before.before.before.before.before
+
 abbrev start-of-put-offset : tie.After-put_offset invariant-loop-left decreases-loop-left → tie.Start invariant-loop-left decreases-loop-left
 start-of-put-offset p = p.before.before.before.before.before.before.before.before.before.before
+
 abbrev out-rows-of-put-offset-arg4 : tie.After-put_offset-arg-in-loop-left-2-1 invariant-loop-left decreases-loop-left → tie.After-out_rows-1 invariant-loop-left decreases-loop-left
 out-rows-of-put-offset-arg4 p = p.before.before.before.before.before.before
+
 abbrev offset-at4-of-out-rows : tie.After-out_rows-1 invariant-loop-left decreases-loop-left → tie.After-offset_at-d invariant-loop-left decreases-loop-left
 offset-at4-of-out-rows p = p.before.before.before.before.before
+
 abbrev offset-at4-of-put-offset-arg4 : tie.After-put_offset-arg-in-loop-left-2-1 invariant-loop-left decreases-loop-left → tie.After-offset_at-d invariant-loop-left decreases-loop-left
 offset-at4-of-put-offset-arg4 p = offset-at4-of-out-rows (out-rows-of-put-offset-arg4 p)
 
@@ -57,8 +65,10 @@ offset-at4-of-out-large2 p = offset-at4-of-put-offset-arg4 p.before.before.befor
 
 abbrev put-pair-arg3-of-put-offset-arg4 : tie.After-put_offset-arg-in-loop-left-2-1 invariant-loop-left decreases-loop-left → tie.After-put_pair-arg-in-loop-left-2-1 invariant-loop-left decreases-loop-left
 put-pair-arg3-of-put-offset-arg4 p = p.before.before.before.before.before.before.before.before
+
 abbrev in-loop-of-put-pair-arg3 : tie.After-put_pair-arg-in-loop-left-2-1 invariant-loop-left decreases-loop-left → tie.In-loop-left invariant-loop-left decreases-loop-left
 in-loop-of-put-pair-arg3 p = p.before.before.before.before.before.before.before
+
 abbrev in-loop-of-put-offset-arg4 : tie.After-put_offset-arg-in-loop-left-2-1 invariant-loop-left decreases-loop-left → tie.In-loop-left invariant-loop-left decreases-loop-left
 in-loop-of-put-offset-arg4 p = in-loop-of-put-pair-arg3 (put-pair-arg3-of-put-offset-arg4 p)
 

@@ -57,13 +57,15 @@ Z s = arguments s.args.zs.now (from s.args.zstart s.args.zbits.now)
 
 abbrev takes : tie.At-loop-left invariant-loop-left decreases-loop-left → tie.After-takes-t invariant-loop-left decreases-loop-left
 takes l = l.before.before
+
 abbrev S : tie.At-loop-left invariant-loop-left decreases-loop-left → tie.Start invariant-loop-left decreases-loop-left
-S l = (takes l)
+S l = (takes l).before.before.before.before.before.before.before
 
 abbrev second : tie.After-plan_at-plan invariant-loop-left decreases-loop-left → tie.After-offset_at-b invariant-loop-left decreases-loop-left
 second p = p.before.before.before
+
 abbrev looped : tie.After-plan_at-plan invariant-loop-left decreases-loop-left → tie.At-loop-left invariant-loop-left decreases-loop-left
-looped p = (second p)
+looped p = (second p).before.before
 
 -- ---- the operation, by its test
 

@@ -68,25 +68,30 @@ Z s = arguments s.args.zs.now (from s.args.zstart s.args.zbits.now)
 
 abbrev put : tie.At-loop-left invariant-loop-left decreases-loop-left → tie.After-put_offset invariant-loop-left decreases-loop-left
 put l = l.before.before.before.before
+
 abbrev takes : tie.At-loop-left invariant-loop-left decreases-loop-left → tie.After-takes-t invariant-loop-left decreases-loop-left
-takes l = (put l)
+takes l = (put l).before.before.before
 
 abbrev begun : tie.After-takes-t invariant-loop-left decreases-loop-left → tie.Start invariant-loop-left decreases-loop-left
 begun t = t.before.before.before.before.before.before.before.before.before
+
 abbrev S : tie.At-loop-left invariant-loop-left decreases-loop-left → tie.Start invariant-loop-left decreases-loop-left
 S l = begun (takes l)
 
 abbrev written : tie.After-put_offset-arg-in-loop-left-2-1 invariant-loop-left decreases-loop-left → tie.After-put_slice-at invariant-loop-left decreases-loop-left
 written p = p.before.before.before.before.before.before.before
+
 abbrev turned : tie.After-out_large-in-loop-left-1 invariant-loop-left decreases-loop-left → tie.After-put_slice-at invariant-loop-left decreases-loop-left
 turned p = written p.before.before.before
 
 abbrev planned : tie.After-put_slice-at invariant-loop-left decreases-loop-left → tie.After-plan_at-plan invariant-loop-left decreases-loop-left
 planned w = w.before.before.before.before
+
 abbrev second : tie.After-plan_at-plan invariant-loop-left decreases-loop-left → tie.After-offset_at-b invariant-loop-left decreases-loop-left
 second p = p.before.before.before
+
 abbrev looped : tie.After-plan_at-plan invariant-loop-left decreases-loop-left → tie.At-loop-left invariant-loop-left decreases-loop-left
-looped p = (second p)
+looped p = (second p).before.before
 
 -- ---- the operation, by its test
 
@@ -204,7 +209,7 @@ put_slice-at-requires c κs =
     (record { inside = omega (arith, (reads q).rises, (reads q).inside); bits = (reads q).elements }, (null_empty _ _ _ _ _ _ _ _ _ c.plan_at-plan.ensures, (op_doable (N s) (OP l) (C s).rows (X s) (Y s) (Z s) l.loop-left.r _ (done c.before.before.before) (chosen c.before.before.before) (omega (arith, q.offset_at-b.ensures.1, (limits-fit s.args.width).offset)), walk_room (W l) (count l) (made c.before.before.before) q.loop-left-test.true (same_row c.before.before.before) l.loop-left.invariant.0 (roomy l _ (put_keeps (O s) 0 0 (put l).put_offset.ensures)))))
 
 overflow_add-r-in-loop-left : tie.Need-overflow_add-r-in-loop-left invariant-loop-left decreases-loop-left
-overflow_add-r-in-loop-left c = let p = planned (written c) in omega (arith, (second p), (looped p).loop-left.invariant.0.rows, (second p).loop-left-test.true)
+overflow_add-r-in-loop-left c = let p = planned (written c) in omega (arith, (second p).before, (looped p).loop-left.invariant.0.rows, (second p).loop-left-test.true)
 
 put_offset-requires-in-loop-left : tie.Need-put_offset-requires-in-loop-left invariant-loop-left decreases-loop-left
 put_offset-requires-in-loop-left c κs =
@@ -217,13 +222,13 @@ put_offset-requires-in-loop-left c κs =
     (walk_slot (W l) (count l) (made p) t (same_row p) l.loop-left.invariant.0 (roomy l _ (put_keeps (O s) 0 0 (put l).put_offset.ensures)), omega (arith, s.requires.1.1.1.0, size_as (N s) (C s) (X s) (Y s) (Z s) (op_is l), (rw (rows_at (N s) (OP l) (C s) (X s) (Y s) (Z s) (count l) (rows_are l)) at k)))
 
 overflow_add-r-in-loop-left-2 : tie.Need-overflow_add-r-in-loop-left-2 invariant-loop-left decreases-loop-left
-overflow_add-r-in-loop-left-2 c = let p = planned (turned c) in omega (arith, (second p), (looped p).loop-left.invariant.0.rows, (second p).loop-left-test.true)
+overflow_add-r-in-loop-left-2 c = let p = planned (turned c) in omega (arith, (second p).before, (looped p).loop-left.invariant.0.rows, (second p).loop-left-test.true)
 
 overflow_sub-left : tie.Need-overflow_sub-left invariant-loop-left decreases-loop-left
 overflow_sub-left c = omega (arith, (second (planned (turned c))).loop-left-test.true)
 
 overflow_sub-known : tie.Need-overflow_sub-known invariant-loop-left decreases-loop-left
-overflow_sub-known c = (holds (planned (turned c.before))).some
+overflow_sub-known c = (holds (planned (turned c.before)).before.before).some
 
 loop-left-smaller : tie.Need-loop-left-smaller invariant-loop-left decreases-loop-left
 loop-left-smaller c = omega (arith, (second (planned (turned c.before))).loop-left-test.true)
@@ -234,7 +239,7 @@ loop-left-preserved c =
     let p = planned w in
     let l = looped p in
     let o = c.put_offset-in-loop-left in
-    (walk_more (W l) (count l) (made p) (second p).loop-left-test.true (same_row p) l.loop-left.invariant.0 w.put_slice-at.ensures o.ensures, o.auto.narrow ∙ l.loop-left.invariant.1, o.auto.wide ∙ l.loop-left.invariant.2, (second p).offset_at-b.ensures.0, held_rest (G l) p.if-known-eq0.known (holds p))
+    (walk_more (W l) (count l) (made p) (second p).loop-left-test.true (same_row p) l.loop-left.invariant.0 w.put_slice-at.ensures o.ensures, o.auto.narrow ∙ l.loop-left.invariant.1, o.auto.wide ∙ l.loop-left.invariant.2, (second p).offset_at-b.ensures.0, held_rest (G l) p.if-known-eq0.known (holds p.before.before))
 
 shape_of-out_offsets : tie.Need-shape_of-out_offsets invariant-loop-left decreases-loop-left
 shape_of-out_offsets c = c.loop-left.invariant.1 ∙ (put c.before).put_offset.kept.1.0

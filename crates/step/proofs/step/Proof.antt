@@ -17,14 +17,19 @@ use Rattle.step.proofs.step.Tie as tie
 
 abbrev S : tie.After-operation_of → tie.Start
 S c = c.before.before.before.before.before.before.before.before
+
 abbrev one : tie.After-one_list-arg-in-One-4-1 → tie.In-One-2
 one c = c.before.before.before.before.before
+
 abbrev two : tie.After-after_three-arg-in-Two-4-1 → tie.In-Two-2
 two c = c.before.before.before.before.before
+
 abbrev one-made : tie.After-out_large-1 → tie.After-one_list
 one-made c = c.before.before.before.before.before.before.before
+
 abbrev two_made : tie.After-out_large-in-Two-1 → tie.After-after_three
 two_made c = c.before.before.before.before.before.before.before
+
 -- ---- columns, and the step
 
 abbrev C : tie.Start → Column
@@ -49,8 +54,8 @@ enum_known-op c = search
 
 one_list-requires : tie.Need-one_list-requires
 one_list-requires c κs =
-    let m = (one c) in
-    let s = S m.before in
+    let m = (one c).before in
+    let s = S m in
     let a = s.args in
     (s.requires.0, (s.requires.1.0, (s.requires.1.1.0.bits, uses-one (T s) a.pitch a.n (length a.args.now) _ _ m.operation_of.ensures (one c).in-One.is s.requires.1.1.1.uses)))
 
@@ -58,7 +63,7 @@ enum_known-op-in-Two-1 : tie.Need-enum_known-op-in-Two-1
 enum_known-op-in-Two-1 c = search
 
 after_three-requires : tie.Need-after_three-requires
-after_three-requires c κs = let s = S (two c) in (s.requires.0, (s.requires.1.1.0.second, s.requires.1.1.0.rows ∙ sym s.requires.1.0))
+after_three-requires c κs = let s = S (two c).before in (s.requires.0, (s.requires.1.1.0.second, s.requires.1.1.0.rows ∙ sym s.requires.1.0))
 
 enum_told-1 : tie.Need-enum_told-1
 enum_told-1 c = search
@@ -81,8 +86,8 @@ shape_of-out_large-in-One c = search
 returns-in-One : tie.Need-returns-in-One
 returns-in-One c =
     let w = one-made c in
-    let t = one w in
-    let s = S t in
+    let t = one w.before in
+    let s = S t.before in
     rw (step-one (T s) (rows_of (C s)) (rows_of (D s)) (Cols s) _ (sym t.operation_of.ensures ∙ t.in-One.is)) w.one_list.ensures
 
 shape_of-out_offsets-in-Two : tie.Need-shape_of-out_offsets-in-Two
@@ -103,8 +108,8 @@ shape_of-out_large-in-Two c = search
 returns-in-Two : tie.Need-returns-in-Two
 returns-in-Two c =
     let w = two_made c in
-    let t = two w in
-    let s = S t in
+    let t = two w.before in
+    let s = S t.before in
     rw (step-two (T s) (rows_of (C s)) (rows_of (D s)) (Cols s) _ (sym t.operation_of.ensures ∙ t.in-Two.is)) w.after_three.ensures
 
 returns-in-None : tie.Need-returns-in-None

@@ -12,18 +12,23 @@ use Rattle.step.proofs.step_at.Tie as tie
 
 abbrev entered : tie.After-slice_known-2-1 → tie.After-shared_slice_known-1
 entered c = c.before.before.before.before.before.before.before.before.before
+
 abbrev S : tie.After-shared_slice_known-12-1 → tie.Start
-S c = (entered c.before.before.before.before)
+S c = (entered c.before.before.before.before).before
 
 -- a step from the list, and one from a tray: before its call and after it
 abbrev list : tie.After-step-arg-then-k-eq0-4-1 → tie.Then-k-eq0
 list c = c.before.before.before.before.before
+
 abbrev tray : tie.After-step_from-arg-5-1 → tie.Else-k-eq0
 tray c = c.before.before.before.before.before
+
 abbrev listed : tie.After-out_large-1 → tie.After-step
 listed c = c.before.before.before.before.before.before.before
+
 abbrev drawn : tie.After-out_large-2-1 → tie.After-step_from
 drawn c = c.before.before.before.before.before.before.before
+
 -- ---- columns
 
 abbrev C : tie.Start → Column
@@ -73,7 +78,7 @@ bounds-recipe-i-4 c = omega arith
 step-requires : tie.Need-step-requires
 step-requires c κs =
     let t = list c in
-    let p = (S t).requires in
+    let p = (S t.before).requires in
     (p.1.0.first t.if-k-eq0.true, (p.1.0.rows t.if-k-eq0.true, p.1.1))
 
 shape_of-out_offsets-then-k-eq0 : tie.Need-shape_of-out_offsets-then-k-eq0
@@ -94,14 +99,14 @@ shape_of-out_large-then-k-eq0 c = search
 returns-then-k-eq0 : tie.Need-returns-then-k-eq0
 returns-then-k-eq0 c =
     let w = listed c in
-    let t = list w in
-    let s = S t in
+    let t = list w.before in
+    let s = S t.before in
     rw (taken-first s.args.k (C s) (F s) t.if-k-eq0.true) w.step.ensures
 
 step_from-requires : tie.Need-step_from-requires
 step_from-requires c κs =
     let t = tray c in
-    let p = (S t).requires in
+    let p = (S t.before).requires in
     (p.1.0.later t.if-k-eq0.false, p.1.1)
 
 shape_of-out_offsets : tie.Need-shape_of-out_offsets
@@ -122,8 +127,8 @@ shape_of-out_large c = search
 returns : tie.Need-returns
 returns c =
     let w = drawn c in
-    let t = tray w in
-    let s = S t in
+    let t = tray w.before in
+    let s = S t.before in
     rw (taken-later s.args.k (C s) (F s) t.if-k-eq0.false) w.step_from.ensures
 
 pub step_at_spec : {M : Type 1} → statement M

@@ -19,11 +19,13 @@ use Rattle.step.proofs.step_from.Tie as tie
 
 abbrev S : tie.After-bytes_for-ne → tie.Start
 S c = c.before.before.before.before.before.before.before.before.before.before.before
+
 abbrev sized : tie.After-step-arg10 → tie.After-bytes_for-ne
 sized c = c
 
 abbrev called : tie.After-out_large-1 → tie.After-step
 called c = c.before.before.before.before.before.before.before
+
 -- ---- how much of each slice of offsets, and the column at the tray's front
 
 narrow : (b : tie.After-bytes_for-ne) → b.pick-no.result ≤ length (S b).args.from_offsets.now

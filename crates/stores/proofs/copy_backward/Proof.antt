@@ -30,6 +30,7 @@ module _ (i : tie.In-loop-left invariant-loop-left decreases-loop-left invariant
 module _ (i : tie.In-loop-left-2 invariant-loop-left decreases-loop-left invariant-loop-left-2 decreases-loop-left-2) where
   abbrev start : tie.Start invariant-loop-left decreases-loop-left invariant-loop-left-2 decreases-loop-left-2
   start = i.before.before.before.before
+
   inside2 : (start.args.a + (i.loop-left-2.left - 1) < length start.args.values.now) × (i.loop-left-2.k < length i.loop-left-2.out)
   inside2 =
       let v = i.loop-left-2.invariant in

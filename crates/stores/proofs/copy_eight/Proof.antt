@@ -13,6 +13,7 @@ use Rattle.stores.proofs.copy_eight.Tie as tie
 -- after the first four were copied
 abbrev start : tie.After-copy_four → tie.Start
 start f = f.before.before
+
 copy_four-requires : tie.Need-copy_four-requires
 copy_four-requires c κs = (omega (arith, c.requires.0), omega (arith, c.requires.1))
 

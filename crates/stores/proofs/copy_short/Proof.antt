@@ -13,8 +13,10 @@ use Rattle.stores.proofs.copy_short.Tie as tie
 -- where four values are there, and after the first of these were copied
 abbrev many : tie.After-copy_four → tie.Else-n-lt4
 many c = c.before.before
+
 abbrev first : tie.After-out-3-1 → tie.After-copy_four
 first c = c.before.before.before.before
+
 copy_each-requires : tie.Need-copy_each-requires
 copy_each-requires c κs = c.requires.1
 

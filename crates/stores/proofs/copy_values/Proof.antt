@@ -25,6 +25,7 @@ module _ (i : tie.In-loop-left invariant-loop-left decreases-loop-left) where
 module _ (e : tie.After-loop-left invariant-loop-left decreases-loop-left) where
   abbrev start : tie.Start invariant-loop-left decreases-loop-left
   start = e.before.before.before
+
   abbrev last : ℕ
   last = start.args.n - 8
 

@@ -18,6 +18,7 @@ decreases-loop-left bitmap₀ k m byte j₀ left₀ bitmap j left = left
 module _ (i : tie.In-loop-left invariant-loop-left decreases-loop-left) where
   abbrev start : tie.Start invariant-loop-left decreases-loop-left
   start = i.before.before.before
+
   next : replicate i.loop-left.left start.args.byte ≡ start.args.byte ∷ replicate (i.loop-left.left - 1) start.args.byte
   next = same_step _ i.loop-left.left i.loop-left-test.true
 

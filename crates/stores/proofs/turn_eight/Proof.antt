@@ -13,6 +13,7 @@ use Rattle.stores.proofs.turn_eight.Tie as tie
 -- after the first four were copied
 abbrev start : tie.After-turn_four → tie.Start
 start f = f.before.before
+
 overflow_add-p : tie.Need-overflow_add-p
 overflow_add-p c = omega (arith, c, c.requires.0)
 

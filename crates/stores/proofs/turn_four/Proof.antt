@@ -16,6 +16,7 @@ module _ (s : tie.Start) where
 
 abbrev start : tie.After-v3-1 → tie.Start
 start c = c.before.before.before.before
+
 offset_bounds-values-p : tie.Need-offset_bounds-values-p
 offset_bounds-values-p c = (from c).bytes0
 

@@ -21,6 +21,7 @@ decreases-loop-left rows rstart n counts bits start width sum₀ r₀ left₀ su
 
 abbrev S : tie.At-loop-left invariant-loop-left decreases-loop-left → tie.Start invariant-loop-left decreases-loop-left
 S l = l.before.before.before
+
 abbrev B : tie.Start invariant-loop-left decreases-loop-left → Bits
 B s = from s.args.rstart s.args.rows.now
 

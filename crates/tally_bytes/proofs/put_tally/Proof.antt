@@ -34,7 +34,7 @@ slice_bounds-encode_u64-end-3 c = search rules
 encode_u64-requires-2 : tie.Need-encode_u64-requires-2
 encode_u64-requires-2 c κs =
     let r : length c.args.tally.refused ≡ 16 = search rules in
-    part_room c.encode_u64.new.1.0 (length c.args.tally.refused) r (rw c.encode_u64.auto.d c.requires)
+    part_room c.encode_u64.new.d (length c.args.tally.refused) r (rw c.encode_u64.auto.d c.requires)
 
 shape_of-bytes : tie.Need-shape_of-bytes
 shape_of-bytes c = search rules
@@ -44,7 +44,7 @@ returns c =
     let a = c.args in
     let f : length a.tally.finished ≡ 16 = search rules in
     let k = c.encode_u64.auto.d in
-    behind (bytes_of_counts a.tally.finished) (bytes_of_counts a.tally.refused) a.bytes.now c.encode_u64.new.1.0 c.encode_u64-2.new.1.0 128
+    behind (bytes_of_counts a.tally.finished) (bytes_of_counts a.tally.refused) a.bytes.now c.encode_u64.new.d c.encode_u64-2.new.d 128
     (length-bytes_of_counts a.tally.finished ∙ ap (λ (n : ℕ). n * 8) f) (omega (arith, k, c.requires)) c.encode_u64.ensures c.encode_u64-2.ensures
 
 pub put_tally_spec : {M : Type 1} → statement M

@@ -36,6 +36,7 @@ A s = arguments s.args.indexes.now (from s.args.istart s.args.index_bits.now)
 
 abbrev S : tie.After-list_refusal-k → tie.Start
 S f = f.before.before.before.before.before
+
 -- the indexes' starting bit is not over 7
 in_byte : (f : tie.After-list_refusal-k) → (S f).args.istart ≤ 7
 in_byte f = omega (arith, f)

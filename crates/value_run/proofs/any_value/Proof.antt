@@ -25,6 +25,7 @@ L s = value_room (length s.args.out_values.now) (length s.args.out_rows.now)
 
 abbrev S : tie.After-list_refusal-k → tie.Start
 S f = f.before.before.before.before
+
 list_refusal-k-requires : tie.Need-list_refusal-k-requires
 list_refusal-k-requires c κs = search
 

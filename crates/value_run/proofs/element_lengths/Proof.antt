@@ -13,6 +13,7 @@ use Rattle.value_run.proofs.element_lengths.Tie as tie
 
 abbrev S : tie.After-element_refusal-k → tie.Start
 S f = f.before.before.before.before
+
 abbrev C : tie.Start → Column
 C s = let a = s.args in column (used a.width a.offsets.now a.large.now) (from a.rows_start a.rows.now) a.values.now (from a.elements_start a.elements.now)
 

@@ -30,6 +30,7 @@ L s = value_room (length s.args.out_values.now) (length s.args.out_rows.now)
 
 abbrev S : tie.After-has_value_room → tie.Start
 S h = h.before.before.before.before.before.before
+
 -- what the test of the room tells
 rows_are : (h : tie.After-has_value_room) → h.row_count-n.result ≡ length (W (S h))
 rows_are h = let s = S h in h.row_count-n.ensures ∙ sym (length-made s.args.op (C s) (A s))

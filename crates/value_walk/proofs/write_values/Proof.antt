@@ -29,6 +29,7 @@ C s = let a = s.args in column (used a.width a.offsets.now a.large.now) (from a.
 
 abbrev S : tie.At-loop-left invariant-loop-left decreases-loop-left → tie.Start invariant-loop-left decreases-loop-left
 S l = l.before.before.before.before.before.before
+
 abbrev count : tie.At-loop-left invariant-loop-left decreases-loop-left → ℕ
 count l = l.row_count-n.result
 

@@ -20,6 +20,7 @@ decreases-loop-left offsets sizes rows rstart values elements estart r₀ left�
 
 abbrev S : tie.At-loop-left invariant-loop-left decreases-loop-left → tie.Start invariant-loop-left decreases-loop-left
 S l = l.before.before.before
+
 abbrev C : tie.At-loop-left invariant-loop-left decreases-loop-left → View
 C l = let a = (S l).args in view a.offsets.now a.sizes.now (from a.rstart a.rows.now) a.values.now (from a.estart a.elements.now)
 

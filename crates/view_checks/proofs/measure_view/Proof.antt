@@ -19,6 +19,7 @@ decreases-loop-left offsets sizes rows rstart values elements estart n found₀ 
 
 abbrev S : tie.At-loop-left invariant-loop-left decreases-loop-left → tie.Start invariant-loop-left decreases-loop-left
 S l = l.before.before.before
+
 abbrev C : tie.At-loop-left invariant-loop-left decreases-loop-left → View
 C l = let a = (S l).args in view a.offsets.now a.sizes.now (from a.rstart a.rows.now) a.values.now (from a.estart a.elements.now)
 
@@ -28,6 +29,7 @@ count l = length (S l).args.offsets.now
 -- the length of row r, from its size
 abbrev L : tie.After-row_len-len invariant-loop-left decreases-loop-left → tie.At-loop-left invariant-loop-left decreases-loop-left
 L m = m.before.before.before
+
 told : (m : tie.After-row_len-len invariant-loop-left decreases-loop-left) → m.row_len-len.result ≡ length (elems_of (view_at (C (L m)) (L m).loop-left.r))
 told m = view-length (C (L m)) (L m).loop-left.r _ _ m.offset_at-size.ensures.0 m.row_len-len.ensures
 

@@ -13,6 +13,7 @@ use Rattle.view_checks.proofs.view_refusal.Tie as tie
 -- the places that are used below
 abbrev S : tie.Else-is_start_over → tie.Start
 S e = e.before.before.before.before
+
 -- no starting bit is over 7
 none_over : (e : tie.Else-is_start_over) → (ltb 7 (S e).args.rstart || ltb 7 (S e).args.estart) ≡ false
 none_over e = sym e.is_start_over.ensures ∙ e.if-is_start_over.false

@@ -20,8 +20,10 @@ use Rattle.views.proofs.copy_shown.Tie as tie
 
 abbrev S : tie.After-measure_view-m → tie.Start
 S m = m.before.before.before.before.before
+
 abbrev roomed : tie.After-write_shown → tie.Else-not-has_room
 roomed w = w.before.before.before.before.before
+
 -- ---- the view, its rows, and the lengths of the output
 
 abbrev C : tie.Start → View
@@ -70,7 +72,7 @@ list_answer-requires : tie.Need-list_answer-requires
 list_answer-requires c κs =
     let e = roomed c.before.before.before.before.before.before in
     let r = roomy e in
-    (omega (arith, r.rows, rows_are (S e), c.write_shown.auto.out_rows), omega (arith, r.elements, (within e).0, c.write_shown.auto.out_elements))
+    (omega (arith, r.rows, rows_are (S e.before.before.before), c.write_shown.auto.out_rows), omega (arith, r.elements, (within e.before.before).0, c.write_shown.auto.out_elements))
 
 shape_of-out_offsets : tie.Need-shape_of-out_offsets
 shape_of-out_offsets c = c.write_shown.auto.out_offsets
@@ -87,8 +89,8 @@ shape_of-out_elements c = c.write_shown.auto.out_elements
 returns : tie.Need-returns
 returns c =
     let e = roomed c.before.before.before.before.before.before.before in
-    let s = S e in
-    list-made (W s) _ _ ((within e).1 (L s) ∙ fitted-made (W s) (L s) (sym (room_is e) ∙ not-false _ e.if-not-has_room.false-raw)) (rows_are s) (within e).0 c.write_shown.ensures c.list_answer.ensures
+    let s = S e.before.before.before in
+    list-made (W s) _ _ ((within e.before.before).1 (L s) ∙ fitted-made (W s) (L s) (sym (room_is e.before) ∙ not-false _ e.if-not-has_room.false-raw)) (rows_are s) (within e.before.before).0 c.write_shown.ensures c.list_answer.ensures
 
 pub copy_shown_spec : {M : Type 1} → statement M
 copy_shown_spec =

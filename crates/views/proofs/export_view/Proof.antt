@@ -11,6 +11,7 @@ use Rattle.views.proofs.export_view.Tie as tie
 
 abbrev S : tie.After-list_refusal-k → tie.Start
 S k = k.before.before.before.before.before
+
 abbrev C : tie.Start → Column
 C s = let a = s.args in column a.offsets.now (from a.rows_start a.rows.now) a.values.now (from a.elements_start a.elements.now)
 

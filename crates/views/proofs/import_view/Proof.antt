@@ -13,6 +13,7 @@ use Rattle.views.proofs.import_view.Tie as tie
 
 abbrev S : tie.After-view_refusal-k → tie.Start
 S k = k.before.before.before.before.before
+
 abbrev C : tie.Start → View
 C s = let a = s.args in view a.offsets.now a.sizes.now (from a.rows_start a.rows.now) a.values.now (from a.elements_start a.elements.now)
 

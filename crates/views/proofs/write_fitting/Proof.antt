@@ -18,8 +18,10 @@ use Rattle.views.proofs.write_fitting.Tie as tie
 
 abbrev S : tie.After-has_view_room → tie.Start
 S h = h.before.before.before.before.before.before.before
+
 abbrev roomed : tie.After-write_view → tie.Else-not-has_view_room
 roomed w = w.before.before.before.before.before.before
+
 -- ---- the column, its rows, and the lengths of the output
 
 abbrev C : tie.Start → Column
@@ -63,7 +65,7 @@ list_answer-requires : tie.Need-list_answer-requires
 list_answer-requires c κs =
     let e = roomed c.before.before.before.before.before.before.before in
     let r = roomy e in
-    (omega (arith, r.rows, rows_are e, c.write_view.auto.out_rows), omega (arith, r.elements, e.measure_rows-m.ensures.0, c.write_view.auto.out_elements))
+    (omega (arith, r.rows, rows_are e.before, c.write_view.auto.out_rows), omega (arith, r.elements, e.measure_rows-m.ensures.0, c.write_view.auto.out_elements))
 
 shape_of-out_offsets : tie.Need-shape_of-out_offsets
 shape_of-out_offsets c = c.write_view.auto.out_offsets
@@ -83,8 +85,8 @@ shape_of-out_elements c = c.write_view.auto.out_elements
 returns : tie.Need-returns
 returns c =
     let e = roomed c.before.before.before.before.before.before.before.before in
-    let s = S e in
-    view_made (W s) _ _ (export_made (W s) (L s) (sym (room_is e) ∙ not-false _ e.if-not-has_view_room.false-raw)) (rows_are e) e.measure_rows-m.ensures.0 c.write_view.ensures c.list_answer.ensures
+    let s = S e.before in
+    view_made (W s) _ _ (export_made (W s) (L s) (sym (room_is e.before) ∙ not-false _ e.if-not-has_view_room.false-raw)) (rows_are e.before) e.measure_rows-m.ensures.0 c.write_view.ensures c.list_answer.ensures
 
 pub write_fitting_spec : {M : Type 1} → statement M
 write_fitting_spec =

@@ -23,11 +23,13 @@ decreases-loop-left offsets sizes rows rstart values elements estart out-offsets
 
 abbrev put : tie.At-loop-left invariant-loop-left decreases-loop-left → tie.After-put_offset invariant-loop-left decreases-loop-left
 put l = l.before.before
+
 abbrev S : tie.At-loop-left invariant-loop-left decreases-loop-left → tie.Start invariant-loop-left decreases-loop-left
-S l = (put l)
+S l = (put l).before.before.before.before.before.before
 
 abbrev read : tie.After-put_row-at invariant-loop-left decreases-loop-left → tie.After-offset_at-size invariant-loop-left decreases-loop-left
 read w = w.before.before.before.before
+
 -- ---- the view, its rows, and how many
 
 abbrev C : tie.Start invariant-loop-left decreases-loop-left → View
@@ -72,28 +74,28 @@ put_row-at-requires c κs =
     )
 
 overflow_add-r : tie.Need-overflow_add-r invariant-loop-left decreases-loop-left
-overflow_add-r c = omega (arith, (read c.before.before.before.before.before.before))
+overflow_add-r c = omega (arith, (read c.before.before.before.before.before.before).before.before)
 
 put_offset-requires-in-loop-left : tie.Need-put_offset-requires-in-loop-left invariant-loop-left decreases-loop-left
 put_offset-requires-in-loop-left c κs =
     let q = read c.before.before.before.before.before.before in
-    let s = S q in
-    let k = walk_small (W q) (count q) (made q) q.loop-left-test.true (same_row q) q.loop-left.invariant c.put_row-at.ensures in
-    (walk_slot (W q) (count q) (made q) q.loop-left-test.true (same_row q) q.loop-left.invariant (rw (← shown-rows (C s) (count q) refl) at (kept-room s.requires.1.1 (put_keeps s.args.out_offsets.now 0 0 (put q).put_offset.ensures))), omega (arith, s.requires.1.0, rw (shown-rows (C s) (count q) refl) at k))
+    let s = S q.before.before.before in
+    let k = walk_small (W q.before.before.before) (count q.before.before.before) (made q) q.loop-left-test.true (same_row q) q.loop-left.invariant c.put_row-at.ensures in
+    (walk_slot (W q.before.before.before) (count q.before.before.before) (made q) q.loop-left-test.true (same_row q) q.loop-left.invariant (rw (← shown-rows (C s) (count q.before.before.before) refl) at (kept-room s.requires.1.1 (put_keeps s.args.out_offsets.now 0 0 (put q.before.before.before).put_offset.ensures))), omega (arith, s.requires.1.0, rw (shown-rows (C s) (count q.before.before.before) refl) at k))
 
 overflow_add-r-in-loop-left : tie.Need-overflow_add-r-in-loop-left invariant-loop-left decreases-loop-left
-overflow_add-r-in-loop-left c = omega (arith, (read c.before.before.before.before.before.before.before.before))
+overflow_add-r-in-loop-left c = omega (arith, (read c.before.before.before.before.before.before.before.before).before.before)
 
 overflow_sub-left : tie.Need-overflow_sub-left invariant-loop-left decreases-loop-left
-overflow_sub-left c = omega (arith, (read c.before.before.before.before.before.before.before.before))
+overflow_sub-left c = omega (arith, (read c.before.before.before.before.before.before.before.before).before.before)
 
 loop-left-smaller : tie.Need-loop-left-smaller invariant-loop-left decreases-loop-left
-loop-left-smaller c = omega (arith, (read c.before.before.before.before.before.before.before.before))
+loop-left-smaller c = omega (arith, (read c.before.before.before.before.before.before.before.before).before.before)
 
 loop-left-preserved : tie.Need-loop-left-preserved invariant-loop-left decreases-loop-left
 loop-left-preserved c =
     let q = read c.before.before.before.before.before.before.before.before in
-    walk_more (W q) (count q) (made q) q.loop-left-test.true (same_row q) q.loop-left.invariant c.put_row-at.ensures c.put_offset-in-loop-left.ensures
+    walk_more (W q.before.before.before) (count q.before.before.before) (made q) q.loop-left-test.true (same_row q) q.loop-left.invariant c.put_row-at.ensures c.put_offset-in-loop-left.ensures
 
 shape_of-out_offsets : tie.Need-shape_of-out_offsets invariant-loop-left decreases-loop-left
 shape_of-out_offsets c = c.loop-left.invariant.lo ∙ (put c.before).put_offset.kept.0

@@ -30,14 +30,19 @@ decreases-loop-left offsets rows rstart values elements estart out-offsets₀ ou
 
 abbrev S : tie.At-loop-left invariant-loop-left decreases-loop-left → tie.Start invariant-loop-left decreases-loop-left
 S l = l.before.before.before.before.before.before
+
 abbrev valued : tie.After-put_row-next invariant-loop-left decreases-loop-left → tie.After-offset_of-begin invariant-loop-left decreases-loop-left
 valued w = w.before.before.before.before
+
 abbrev read : tie.After-offset_of-begin invariant-loop-left decreases-loop-left → tie.After-offset_at-b invariant-loop-left decreases-loop-left
 read o = o.before.before
+
 abbrev placed : tie.After-put_offset invariant-loop-left decreases-loop-left → tie.After-put_row-next invariant-loop-left decreases-loop-left
 placed p = p.before.before.before.before.before.before.before
+
 abbrev sized : tie.After-put_offset-in-loop-left invariant-loop-left decreases-loop-left → tie.After-put_offset invariant-loop-left decreases-loop-left
 sized p = p.before.before.before
+
 -- ---- the column, its rows, and how many
 
 abbrev C : tie.Start invariant-loop-left decreases-loop-left → Column
@@ -67,7 +72,7 @@ same_row q =
 begins : (o : tie.After-offset_of-begin invariant-loop-left decreases-loop-left) → let q = read o in o.offset_of-begin.result ≡ pick (is_row (made q)) q.loop-left.at 0
 begins o =
     let q = read o in
-    rw (is_row-from (C (S q)).rows q.loop-left.r q.offset_at-a.result q.offset_at-b.result (elem_at (C (S q)).values (C (S q)).elements), ← o.is_valid-valid.ensures) o.offset_of-begin.ensures
+    rw (is_row-from (C (S q.before.before.before)).rows q.loop-left.r q.offset_at-a.result q.offset_at-b.result (elem_at (C (S q.before.before.before)).values (C (S q.before.before.before)).elements), ← o.is_valid-valid.ensures) o.offset_of-begin.ensures
 
 pick_le : (b : Bool) (n : ℕ) → pick b n 0 ≤ n
 pick_le true n = omega arith
@@ -77,11 +82,11 @@ begin_small : (o : tie.After-offset_of-begin invariant-loop-left decreases-loop-
 begin_small o = let p = pick_le o.is_valid-valid.result (read o).loop-left.at in omega (arith, o.offset_of-begin.ensures)
 
 -- the elements written after row r are no more than there are
-small : (w : tie.After-put_row-next invariant-loop-left decreases-loop-left) → let l = (read (valued w)) in (w.put_row-next.result ≤ 2147483647) × (l.loop-left.at ≤ w.put_row-next.result)
+small : (w : tie.After-put_row-next invariant-loop-left decreases-loop-left) → let l = (read (valued w)).before.before.before in (w.put_row-next.result ≤ 2147483647) × (l.loop-left.at ≤ w.put_row-next.result)
 small w =
     let q = read (valued w) in
-    let k = show_small (W q) (count q) (made q) q.loop-left-test.true (same_row q) q.loop-left.invariant w.put_row-next.ensures in
-    (omega (arith, (S q).requires.1.0, rw (rows_at (C (S q)) (count q) (rows_are q)) at k), show_rises (W q) (count q) (made q) q.loop-left-test.true (same_row q) q.loop-left.invariant w.put_row-next.ensures)
+    let k = show_small (W q.before.before.before) (count q.before.before.before) (made q) q.loop-left-test.true (same_row q) q.loop-left.invariant w.put_row-next.ensures in
+    (omega (arith, (S q.before.before.before).requires.1.0, rw (rows_at (C (S q.before.before.before)) (count q.before.before.before) (rows_are q.before.before.before)) at k), show_rises (W q.before.before.before) (count q.before.before.before) (made q) q.loop-left-test.true (same_row q) q.loop-left.invariant w.put_row-next.ensures)
 
 row_count-n-requires : tie.Need-row_count-n-requires invariant-loop-left decreases-loop-left
 row_count-n-requires c κs = search rules
@@ -108,7 +113,7 @@ offset_of-begin-requires c κs = search rules
 put_row-next-requires : tie.Need-put_row-next-requires invariant-loop-left decreases-loop-left
 put_row-next-requires c κs =
     let q = read c.before.before.before in
-    (between (C (S q)) _ q.loop-left.r _ _ (S q).requires.0 (rows_are q) (omega (arith, q, q.loop-left.invariant.walk.rows)) q.offset_at-a.ensures.0 q.offset_at-b.ensures.0, show_room (W q) (count q) (made q) q.loop-left-test.true (same_row q) q.loop-left.invariant (roomy q))
+    (between (C (S q.before.before.before)) _ q.loop-left.r _ _ (S q.before.before.before).requires.0 (rows_are q.before.before.before) (omega (arith, q, q.loop-left.invariant.walk.rows)) q.offset_at-a.ensures.0 q.offset_at-b.ensures.0, show_room (W q.before.before.before) (count q.before.before.before) (made q) q.loop-left-test.true (same_row q) q.loop-left.invariant (roomy q.before.before.before))
 
 overflow_sub-size : tie.Need-overflow_sub-size invariant-loop-left decreases-loop-left
 overflow_sub-size c = (small c.before.before.before.before.before).1
@@ -116,17 +121,17 @@ overflow_sub-size c = (small c.before.before.before.before.before).1
 put_offset-requires : tie.Need-put_offset-requires invariant-loop-left decreases-loop-left
 put_offset-requires c κs =
     let q = read (valued c.before.before.before.before.before.before) in
-    ((show_slots (W q) (count q) (made q) q.loop-left-test.true (same_row q) q.loop-left.invariant (roomy q)).0, omega (arith, begin_small (valued c.before.before.before.before.before.before), (small c.before.before.before.before.before.before).0, (small c.before.before.before.before.before.before).1))
+    ((show_slots (W q.before.before.before) (count q.before.before.before) (made q) q.loop-left-test.true (same_row q) q.loop-left.invariant (roomy q.before.before.before)).0, omega (arith, begin_small (valued c.before.before.before.before.before.before), (small c.before.before.before.before.before.before).0, (small c.before.before.before.before.before.before).1))
 
 put_offset-requires-in-loop-left : tie.Need-put_offset-requires-in-loop-left invariant-loop-left decreases-loop-left
 put_offset-requires-in-loop-left c κs =
     let w = placed c.before.before in
     let q = read (valued w) in
-    ((show_slots (W q) (count q) (made q) q.loop-left-test.true (same_row q) q.loop-left.invariant (roomy q)).1, omega (arith, (small w).0))
+    ((show_slots (W q.before.before.before) (count q.before.before.before) (made q) q.loop-left-test.true (same_row q) q.loop-left.invariant (roomy q.before.before.before)).1, omega (arith, (small w).0))
 
 -- the turn, from its end
 abbrev turn : tie.After-put_offset-in-loop-left invariant-loop-left decreases-loop-left → tie.In-loop-left invariant-loop-left decreases-loop-left
-turn p = (read (valued (placed (sized p))))
+turn p = (read (valued (placed (sized p)))).before.before
 
 overflow_add-r-in-loop-left : tie.Need-overflow_add-r-in-loop-left invariant-loop-left decreases-loop-left
 overflow_add-r-in-loop-left c = let i = turn c.before in omega (arith, i, i.loop-left.invariant.walk.rows)
@@ -142,7 +147,7 @@ loop-left-preserved c =
     let w = placed (sized c.before) in
     let o = valued w in
     let q = read o in
-    show_more (W q) (count q) (made q) q.loop-left-test.true (same_row q) q.loop-left.invariant w.put_row-next.ensures o.offset_of-begin.result (w.put_row-next.result - q.loop-left.at) (begins o) refl (sized c.before).put_offset.ensures c.put_offset-in-loop-left.ensures
+    show_more (W q.before.before.before) (count q.before.before.before) (made q) q.loop-left-test.true (same_row q) q.loop-left.invariant w.put_row-next.ensures o.offset_of-begin.result (w.put_row-next.result - q.loop-left.at) (begins o) refl (sized c.before).put_offset.ensures c.put_offset-in-loop-left.ensures
 
 shape_of-out_offsets : tie.Need-shape_of-out_offsets invariant-loop-left decreases-loop-left
 shape_of-out_offsets c = c.loop-left.invariant.offsets.same

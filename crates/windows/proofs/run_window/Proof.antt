@@ -12,11 +12,12 @@ use Rattle.windows.proofs.run_window.Tie as tie
 
 abbrev two : tie.After-slice_known-16-1 → tie.After-clear-2
 two c = c.before.before.before.before.before.before
+
 abbrev one : tie.After-slice_known-16-1 → tie.After-clear
-one c = (two c)
+one c = (two c).before.before.before.before.before.before.before.before.before.before.before
 
 abbrev tried : tie.After-slice_known-16-1 → tie.After-attempt-answer
-tried c = (one c)
+tried c = (one c).before.before.before.before.before.before.before.before.before.before.before.before.before.before.before.before.before.before.before.before.before.before.before.before.before.before
 
 -- ---- needs
 

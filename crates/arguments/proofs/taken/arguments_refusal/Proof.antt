@@ -12,6 +12,7 @@ use Rattle.arguments.proofs.taken.arguments_refusal.Tie as tie
 
 abbrev S : tie.After-takes-t → tie.Start
 S t = t.before.before.before.before
+
 columns : (t : tie.After-takes-t) → takes_of (S t).args.op ≡ t.takes-t.result.columns
 columns t = ap (λ a. a.columns) (sym t.takes-t.ensures)
 

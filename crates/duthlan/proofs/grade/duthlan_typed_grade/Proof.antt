@@ -9,10 +9,12 @@ use Rattle.duthlan.proofs.grade.duthlan_typed_grade.Tie as tie
 
 abbrev told : tie.After-slice_known-4-1 → tie.After-put_grade
 told c = c.before.before
+
 abbrev ran : tie.After-slice_known-4-1 → tie.After-grade_column-answer
 ran c = c.before.before.before.before.before.before
+
 abbrev long : tie.After-slice_known-4-1 → tie.Else-counts-lt1
-long c = (ran c)
+long c = (ran c).before.before
 
 -- ---- needs
 

@@ -11,17 +11,18 @@ use Rattle.duthlan.proofs.grade.duthlan_typed_grade_recipe.Tie as tie
 
 abbrev told : tie.After-slice_known-18-1 → tie.After-settle
 told c = c.before.before.before.before
+
 abbrev ran : tie.After-slice_known-18-1 → tie.After-grade_recipe-done
-ran c = (told c)
+ran c = (told c).before.before.before.before.before.before.before.before.before.before.before.before.before.before.before.before.before.before.before.before.before.before.before
 
 abbrev chosen : tie.After-slice_known-18-1 → tie.After-k_for-by
-chosen c = (ran c)
+chosen c = (ran c).before.before.before.before.before.before.before.before.before.before.before.before.before.before
 
 abbrev got : tie.After-slice_known-18-1 → tie.After-get_tally-before
-got c = (chosen c)
+got c = (chosen c).before
 
 abbrev start : tie.After-slice_known-18-1 → tie.Start
-start c = (got c)
+start c = (got c).before.before.before.before.before.before.before.before.before.before.before.before.before.before.before.before.before
 
 -- ---- needs
 

@@ -10,10 +10,12 @@ use Rattle.duthlan.proofs.hash.duthlan_typed_distinct_hashed.Tie as tie
 
 abbrev told : tie.After-slice_known-8-1 → tie.After-put_list
 told c = c.before.before
+
 abbrev ran : tie.After-slice_known-8-1 → tie.After-general_array_distinct_hashed-answer
 ran c = c.before.before.before.before.before.before.before.before.before.before.before.before
+
 abbrev long : tie.After-slice_known-8-1 → tie.Else-counts-lt4
-long c = (ran c)
+long c = (ran c).before.before.before.before.before.before
 
 -- ---- needs
 

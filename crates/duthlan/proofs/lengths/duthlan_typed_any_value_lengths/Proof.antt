@@ -10,11 +10,12 @@ use Rattle.duthlan.proofs.lengths.duthlan_typed_any_value_lengths.Tie as tie
 
 abbrev told : tie.After-slice_known-2-1 → tie.After-put_values
 told c = c.before.before
+
 abbrev asked : tie.After-slice_known-2-1 → tie.After-general_array_any_value_lengths-answer
-asked c = (told c)
+asked c = (told c).before.before
 
 abbrev long : tie.After-slice_known-2-1 → tie.Else-lengths-lt2
-long c = (asked c)
+long c = (asked c).before
 
 -- ---- needs
 

@@ -10,11 +10,12 @@ use Rattle.duthlan.proofs.lengths.duthlan_typed_list_repeat_lengths.Tie as tie
 
 abbrev told : tie.After-slice_known-2-1 → tie.After-put_repeat
 told c = c.before.before
+
 abbrev asked : tie.After-slice_known-2-1 → tie.After-general_list_repeat_lengths-answer
-asked c = (told c)
+asked c = (told c).before.before
 
 abbrev long : tie.After-slice_known-2-1 → tie.Else-lengths-lt6
-long c = (asked c)
+long c = (asked c).before
 
 -- ---- needs
 

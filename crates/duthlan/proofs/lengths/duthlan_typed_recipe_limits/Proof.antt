@@ -10,11 +10,12 @@ use Rattle.duthlan.proofs.lengths.duthlan_typed_recipe_limits.Tie as tie
 
 abbrev told : tie.After-slice_known-2-1 → tie.After-put_limits
 told c = c.before.before
+
 abbrev asked : tie.After-slice_known-2-1 → tie.After-recipe_limits-answer
-asked c = (told c)
+asked c = (told c).before.before
 
 abbrev long : tie.After-slice_known-2-1 → tie.Else-limits-lt3
-long c = (asked c)
+long c = (asked c).before
 
 -- ---- needs
 

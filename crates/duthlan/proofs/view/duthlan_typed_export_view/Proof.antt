@@ -10,10 +10,12 @@ use Rattle.duthlan.proofs.view.duthlan_typed_export_view.Tie as tie
 
 abbrev told : tie.After-slice_known-6-1 → tie.After-put_list
 told c = c.before.before
+
 abbrev ran : tie.After-slice_known-6-1 → tie.After-export_view-answer
 ran c = c.before.before.before.before.before.before.before.before.before.before.before
+
 abbrev long : tie.After-slice_known-6-1 → tie.Else-counts-lt4
-long c = (ran c)
+long c = (ran c).before.before.before.before.before.before
 
 -- ---- needs
 

@@ -7,14 +7,15 @@ use Rattle.duthlan.proofs.window.duthlan_typed_recipe_rows.Tie as tie
 
 abbrev told : tie.After-slice_known-14-1 → tie.After-settle
 told c = c.before.before
+
 abbrev ran : tie.After-slice_known-14-1 → tie.After-run_window-answer
-ran c = (told c)
+ran c = (told c).before.before.before.before.before.before.before.before.before.before.before.before.before.before.before.before.before.before.before.before
 
 abbrev last : tie.After-slice_known-14-1 → tie.After-end_for-last
-last c = (ran c)
+last c = (ran c).before.before.before.before.before.before.before.before.before.before.before.before.before
 
 abbrev first : tie.After-slice_known-14-1 → tie.After-begin_for-first
-first c = (last c)
+first c = (last c).before
 
 -- ---- needs
 

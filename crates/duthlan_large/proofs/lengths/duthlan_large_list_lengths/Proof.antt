@@ -11,17 +11,18 @@ use Rattle.duthlan_large.proofs.lengths.duthlan_large_list_lengths.Tie as tie
 
 abbrev told : tie.After-slice_known-in-Of-1 → tie.After-put_list
 told c = c.before.before
+
 abbrev asked : tie.After-slice_known-in-Of-1 → tie.After-lengths-answer
-asked c = (told c)
+asked c = (told c).before.before
 
 abbrev long : tie.After-slice_known-in-Of-1 → tie.Else-lengths-lt4
-long c = (asked c)
+long c = (asked c).before
 
 abbrev named : tie.After-slice_known-in-Of-1 → tie.In-Of-2
-named c = (long c)
+named c = (long c).before
 
 abbrev looked : tie.After-slice_known-in-Of-1 → tie.After-one_of-named
-looked c = (named c)
+looked c = (named c).before
 
 -- ---- needs
 
@@ -35,7 +36,7 @@ enum_known-named : tie.Need-enum_known-named
 enum_known-named c = search rules
 
 returns-then-lengths-lt4 : tie.Need-returns-then-lengths-lt4
-returns-then-lengths-lt4 c = short_lengths room_counts _ (list-lengths _ _ _ _ _ _ c.before.before.before.before.one_of_lem.ensures c.in-Of.is) (lt-ltb _ 4 c.if-lengths-lt4.true)
+returns-then-lengths-lt4 c = short_lengths room_counts _ (list-lengths _ _ _ _ _ _ c.one_of-named.ensures c.in-Of.is) (lt-ltb _ 4 c.if-lengths-lt4.true)
 
 lengths-answer-requires : tie.Need-lengths-answer-requires
 lengths-answer-requires c κs = tt
@@ -44,14 +45,14 @@ put_list-requires : tie.Need-put_list-requires
 put_list-requires c κs = c.if-lengths-lt4.false
 
 returns-in-None : tie.Need-returns-in-None
-returns-in-None c = no_such_lengths room_counts _ (no_list-lengths _ _ _ _ _ _ c.before.before.one_of_lem.ensures c.in-None.is)
+returns-in-None c = no_such_lengths room_counts _ (no_list-lengths _ _ _ _ _ _ c.one_of-named.ensures c.in-None.is)
 
 shape_of-lengths : tie.Need-shape_of-lengths
 shape_of-lengths c = (told c).put_list.auto.lengths
 
 returns-else-lengths-lt4 : tie.Need-returns-else-lengths-lt4
 returns-else-lengths-lt4 c =
-    own_lengths room_counts _ (list-lengths _ _ _ _ _ _ (looked c).one_of_lem.ensures (named c).in-Of.is) (le-ltb _ 4 (long c).if-lengths-lt4.false) (asked c).lengths-answer.ensures (told c).put_list.ensures
+    own_lengths room_counts _ (list-lengths _ _ _ _ _ _ (looked c).one_of-named.ensures (named c).in-Of.is) (le-ltb _ 4 (long c).if-lengths-lt4.false) (asked c).lengths-answer.ensures (told c).put_list.ensures
 
 pub duthlan_large_list_lengths_spec : {M : Type 1} → statement M
 duthlan_large_list_lengths_spec =

@@ -11,17 +11,18 @@ use Rattle.duthlan_large.proofs.lengths.duthlan_large_lists_lengths.Tie as tie
 
 abbrev told : tie.After-slice_known-in-Two-1 → tie.After-put_list
 told c = c.before.before
+
 abbrev asked : tie.After-slice_known-in-Two-1 → tie.After-generic_set_lists_lengths-answer
-asked c = (told c)
+asked c = (told c).before.before
 
 abbrev long : tie.After-slice_known-in-Two-1 → tie.Else-lengths-lt4
-long c = (asked c)
+long c = (asked c).before
 
 abbrev named : tie.After-slice_known-in-Two-1 → tie.In-Two-2
-named c = (long c)
+named c = (long c).before
 
 abbrev looked : tie.After-slice_known-in-Two-1 → tie.After-operation_of-named
-looked c = (named c)
+looked c = (named c).before
 
 -- ---- needs
 

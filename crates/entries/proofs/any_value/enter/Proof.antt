@@ -14,10 +14,13 @@ use Rattle.entries.proofs.any_value.enter.Tie as tie
 -- the places that are used below
 abbrev run-of-put-values-arg2 : tie.After-put_values-arg-2-1 → tie.After-run-answer
 run-of-put-values-arg2 p = p.before.before.before.before.before.before
+
 abbrev start-of-else1 : tie.Else-k-ne0 → tie.Start
 start-of-else1 p = p.before.before.before.before.before.before.before.before.before
+
 abbrev else1-of-put-values-arg2 : tie.After-put_values-arg-2-1 → tie.Else-k-ne0
 else1-of-put-values-arg2 p = p.before.before.before.before.before.before.before.before.before
+
 abbrev run-of-slice-known6 : tie.After-slice_known-6-1 → tie.After-run-answer
 run-of-slice-known6 p = run-of-put-values-arg2 p.before.before.before.before.before
 
@@ -26,8 +29,10 @@ else1-of-slice-known6 p = else1-of-put-values-arg2 p.before.before.before.before
 
 abbrev slice-known4-of-slice-known6 : tie.After-slice_known-6-1 → tie.After-slice_known-4-1
 slice-known4-of-slice-known6 p = p.before.before.before.before.before.before.before.before
+
 abbrev any-value-refusal-of-slice-known4 : tie.After-slice_known-4-1 → tie.After-any_value_refusal-k
 any-value-refusal-of-slice-known4 p = p.before.before.before.before.before.before.before
+
 abbrev any-value-refusal-of-slice-known6 : tie.After-slice_known-6-1 → tie.After-any_value_refusal-k
 any-value-refusal-of-slice-known6 p = any-value-refusal-of-slice-known4 (slice-known4-of-slice-known6 p)
 

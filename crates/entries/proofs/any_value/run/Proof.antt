@@ -17,13 +17,16 @@ slice_bounds-get_list-end-2 c = search rules
 -- the places that are used below
 abbrev start-of-lv : tie.After-lv-1 → tie.Start
 start-of-lv p = p.before.before.before.before.before.before.before
+
 abbrev start-of-lv2 : tie.After-lv-2-1 → tie.Start
 start-of-lv2 p = start-of-lv p.before.before.before
 
 abbrev general-array-any-value-arg-of-slice-known2 : tie.After-slice_known-2-1 → tie.After-general_array_any_value-arg-1
 general-array-any-value-arg-of-slice-known2 p = p.before.before.before.before.before
+
 abbrev get-list-of-general-array-any-value-arg : tie.After-general_array_any_value-arg-1 → tie.After-get_list
 get-list-of-general-array-any-value-arg p = p.before.before.before.before.before
+
 abbrev get-list-of-slice-known2 : tie.After-slice_known-2-1 → tie.After-get_list
 get-list-of-slice-known2 p = get-list-of-general-array-any-value-arg (general-array-any-value-arg-of-slice-known2 p)
 
@@ -67,7 +70,7 @@ shape_of-v : tie.Need-shape_of-v
 shape_of-v c =
     let k = c.general_array_any_value in
     let s = start-of-slice-known2 c in
-    whole k.new.1.1.1.1.1.1.0 s.args.v.now s.args.m s.requires.1 k.auto.out_values
+    whole k.new.out_values s.args.v.now s.args.m s.requires.1 k.auto.out_values
 
 shape_of-out_rows : tie.Need-shape_of-out_rows
 shape_of-out_rows c = c.general_array_any_value.auto.out_rows

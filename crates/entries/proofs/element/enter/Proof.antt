@@ -13,12 +13,16 @@ use Rattle.entries.proofs.element.enter.Tie as tie
 -- the places that are used below
 abbrev run-of-put-values-arg2 : tie.After-put_values-arg-2-1 → tie.After-run-answer
 run-of-put-values-arg2 p = p.before.before.before.before.before.before
+
 abbrev else1-of-put-values-arg2 : tie.After-put_values-arg-2-1 → tie.Else-k-ne0
 else1-of-put-values-arg2 p = p.before.before.before.before.before.before.before.before.before
+
 abbrev shared-slice-known5-of-else1 : tie.Else-k-ne0 → tie.After-shared_slice_known-5-1
 shared-slice-known5-of-else1 p = p.before.before.before.before.before.before
+
 abbrev start-of-shared-slice-known5 : tie.After-shared_slice_known-5-1 → tie.Start
 start-of-shared-slice-known5 p = p.before.before.before.before.before
+
 abbrev start-of-else1 : tie.Else-k-ne0 → tie.Start
 start-of-else1 p = start-of-shared-slice-known5 (shared-slice-known5-of-else1 p)
 
@@ -30,8 +34,10 @@ else1-of-slice-known6 p = else1-of-put-values-arg2 p.before.before.before.before
 
 abbrev slice-known4-of-slice-known6 : tie.After-slice_known-6-1 → tie.After-slice_known-4-1
 slice-known4-of-slice-known6 p = p.before.before.before.before.before.before.before.before
+
 abbrev element-refusal-of-slice-known4 : tie.After-slice_known-4-1 → tie.After-element_refusal-k
 element-refusal-of-slice-known4 p = p.before.before.before.before.before.before.before
+
 abbrev element-refusal-of-slice-known6 : tie.After-slice_known-6-1 → tie.After-element_refusal-k
 element-refusal-of-slice-known6 p = element-refusal-of-slice-known4 (slice-known4-of-slice-known6 p)
 

@@ -17,14 +17,19 @@ slice_bounds-get_list-end-2 c = search rules
 -- the places that are used below
 abbrev get-list-of-lo3 : tie.After-lo-3-1 → tie.After-get_list
 get-list-of-lo3 p = p.before.before.before.before.before.before
+
 abbrev get-list-of-lv3 : tie.After-lv-3-1 → tie.After-get_list
 get-list-of-lv3 p = p.before.before.before.before.before.before.before
+
 abbrev start-of-lv : tie.After-lv-1 → tie.Start
 start-of-lv p = p.before.before.before.before.before.before.before.before.before
+
 abbrev general-array-element-arg-of-slice-known2 : tie.After-slice_known-2-1 → tie.After-general_array_element-arg-1
 general-array-element-arg-of-slice-known2 p = p.before.before.before.before.before
+
 abbrev get-values-of-general-array-element-arg : tie.After-general_array_element-arg-1 → tie.After-get_values
 get-values-of-general-array-element-arg p = p.before.before.before.before.before
+
 abbrev get-values-of-slice-known2 : tie.After-slice_known-2-1 → tie.After-get_values
 get-values-of-slice-known2 p = get-values-of-general-array-element-arg (general-array-element-arg-of-slice-known2 p)
 
@@ -92,7 +97,7 @@ shape_of-v : tie.Need-shape_of-v
 shape_of-v c =
     let k = c.general_array_element in
     let s = start-of-slice-known2 c in
-    whole k.new.1.1.1.1.1.1.1.1.1.0 s.args.v.now s.args.m s.requires.1.1 k.auto.out_values
+    whole k.new.out_values s.args.v.now s.args.m s.requires.1.1 k.auto.out_values
 
 shape_of-out_rows : tie.Need-shape_of-out_rows
 shape_of-out_rows c = c.general_array_element.auto.out_rows

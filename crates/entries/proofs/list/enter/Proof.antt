@@ -14,24 +14,31 @@ use Rattle.entries.proofs.list.enter.Tie as tie
 -- the places that are used below
 abbrev put-list-of-slice-known10 : tie.After-slice_known-in-Of-5-1 → tie.After-put_list
 put-list-of-slice-known10 p = p.before.before.before.before.before.before
+
 abbrev out-elements-of-put-list-arg3 : tie.After-put_list-arg-in-Of-2-1 → tie.After-out_elements-1
 out-elements-of-put-list-arg3 p = p.before.before.before.before.before.before
+
 abbrev run-of-out-elements : tie.After-out_elements-1 → tie.After-run-answer
 run-of-out-elements p = p.before.before.before.before.before
+
 abbrev run-of-put-list-arg3 : tie.After-put_list-arg-in-Of-2-1 → tie.After-run-answer
 run-of-put-list-arg3 p = run-of-out-elements (out-elements-of-put-list-arg3 p)
 
 abbrev slice-known3-of-else1 : tie.Else-k-ne0 → tie.After-slice_known-3-1
 slice-known3-of-else1 p = p.before.before.before.before.before.before
+
 abbrev start-of-slice-known3 : tie.After-slice_known-3-1 → tie.Start
 start-of-slice-known3 p = p.before.before.before.before.before.before.before
+
 abbrev start-of-else1 : tie.Else-k-ne0 → tie.Start
 start-of-else1 p = start-of-slice-known3 (slice-known3-of-else1 p)
 
 abbrev slice-known6-of-put-list-arg3 : tie.After-put_list-arg-in-Of-2-1 → tie.After-slice_known-in-Of-1
 slice-known6-of-put-list-arg3 p = p.before.before.before.before.before.before.before.before
+
 abbrev else1-of-slice-known6 : tie.After-slice_known-in-Of-1 → tie.Else-k-ne0
 else1-of-slice-known6 p = p.before.before.before.before.before.before.before.before
+
 abbrev else1-of-put-list-arg3 : tie.After-put_list-arg-in-Of-2-1 → tie.Else-k-ne0
 else1-of-put-list-arg3 p = else1-of-slice-known6 (slice-known6-of-put-list-arg3 p)
 
@@ -43,30 +50,40 @@ else1-of-slice-known10 p = else1-of-put-list-arg3 p.before.before.before.before.
 
 abbrev put-list-arg2-of-slice-known10 : tie.After-slice_known-in-Of-5-1 → tie.After-put_list-arg-in-Of-1
 put-list-arg2-of-slice-known10 p = p.before.before.before.before.before.before.before.before
+
 abbrev out-rows-of-put-list-arg2 : tie.After-put_list-arg-in-Of-1 → tie.After-out_rows-1
 out-rows-of-put-list-arg2 p = p.before.before.before.before.before.before.before.before
+
 abbrev list-refusal-of-out-rows : tie.After-out_rows-1 → tie.After-list_refusal-k
 list-refusal-of-out-rows p = p.before.before.before.before.before.before.before.before
+
 abbrev list-refusal-of-slice-known10 : tie.After-slice_known-in-Of-5-1 → tie.After-list_refusal-k
 list-refusal-of-slice-known10 p = list-refusal-of-out-rows (out-rows-of-put-list-arg2 (put-list-arg2-of-slice-known10 p))
 
 abbrev put-list-arg-of-slice-known10 : tie.After-slice_known-in-Of-5-1 → tie.After-put_list-arg-1
 put-list-arg-of-slice-known10 p = p.before.before.before.before.before.before.before.before.before
+
 abbrev run-of-put-list-arg : tie.After-put_list-arg-1 → tie.After-run-answer
 run-of-put-list-arg p = p.before.before.before.before.before.before.before.before.before
+
 abbrev named-of-run : tie.After-run-answer → tie.In-Of-2
 named-of-run p = p.before.before.before.before.before.before.before
+
 abbrev named-of-slice-known10 : tie.After-slice_known-in-Of-5-1 → tie.In-Of-2
 named-of-slice-known10 p = named-of-run (run-of-put-list-arg (put-list-arg-of-slice-known10 p))
 
 abbrev put-list-arg3-of-slice-known10 : tie.After-slice_known-in-Of-5-1 → tie.After-put_list-arg-in-Of-2-1
 put-list-arg3-of-slice-known10 p = p.before.before.before.before.before.before.before
+
 abbrev v2-of-put-list-arg3 : tie.After-put_list-arg-in-Of-2-1 → tie.After-v-in-Of-1
 v2-of-put-list-arg3 p = p.before.before.before.before.before.before.before
+
 abbrev run-arg-of-v2 : tie.After-v-in-Of-1 → tie.After-run-arg-1
 run-arg-of-v2 p = p.before.before.before.before.before.before.before
+
 abbrev unary-of-of-run-arg : tie.After-run-arg-1 → tie.After-unary_of-named
 unary-of-of-run-arg p = p.before.before.before.before.before
+
 abbrev unary-of-of-slice-known10 : tie.After-slice_known-in-Of-5-1 → tie.After-unary_of-named
 unary-of-of-slice-known10 p = unary-of-of-run-arg (run-arg-of-v2 (v2-of-put-list-arg3 (put-list-arg3-of-slice-known10 p)))
 

@@ -18,8 +18,10 @@ slice_bounds-get_list-end-2 c = search rules
 -- the places that are used below
 abbrev run-of-slice-known4 : tie.After-slice_known-4-1 → tie.After-run
 run-of-slice-known4 p = p.before.before.before.before.before.before
+
 abbrev start-of-lv : tie.After-lv-1 → tie.Start
 start-of-lv p = p.before.before.before.before.before.before.before.before
+
 abbrev start-of-lv2 : tie.After-lv-2-1 → tie.Start
 start-of-lv2 p = start-of-lv p.before.before.before
 
@@ -37,8 +39,10 @@ start-of-run-arg2 p = start-of-run-arg p.before
 
 abbrev run-arg3-of-slice-known4 : tie.After-slice_known-4-1 → tie.After-run-arg-3-1
 run-arg3-of-slice-known4 p = p.before.before.before.before.before.before.before.before
+
 abbrev get-list-of-run-arg3 : tie.After-run-arg-3-1 → tie.After-get_list
 get-list-of-run-arg3 p = p.before.before.before.before.before.before.before
+
 abbrev get-list-of-slice-known4 : tie.After-slice_known-4-1 → tie.After-get_list
 get-list-of-slice-known4 p = get-list-of-run-arg3 (run-arg3-of-slice-known4 p)
 

@@ -14,17 +14,22 @@ use Rattle.entries.proofs.two_lists.enter.Tie as tie
 -- the places that are used below
 abbrev put-list-of-slice-known10 : tie.After-slice_known-in-Two-5-1 → tie.After-put_list
 put-list-of-slice-known10 p = p.before.before.before.before.before.before
+
 abbrev out-elements-of-put-list-arg3 : tie.After-put_list-arg-in-Two-2-1 → tie.After-out_elements-1
 out-elements-of-put-list-arg3 p = p.before.before.before.before.before.before
+
 abbrev run-of-out-elements : tie.After-out_elements-1 → tie.After-run-answer
 run-of-out-elements p = p.before.before.before.before.before
+
 abbrev run-of-put-list-arg3 : tie.After-put_list-arg-in-Two-2-1 → tie.After-run-answer
 run-of-put-list-arg3 p = run-of-out-elements (out-elements-of-put-list-arg3 p)
 
 abbrev slice-known6-of-put-list-arg3 : tie.After-put_list-arg-in-Two-2-1 → tie.After-slice_known-in-Two-1
 slice-known6-of-put-list-arg3 p = p.before.before.before.before.before.before.before.before
+
 abbrev else1-of-slice-known6 : tie.After-slice_known-in-Two-1 → tie.Else-k-ne0
 else1-of-slice-known6 p = p.before.before.before.before.before.before.before.before
+
 abbrev else1-of-put-list-arg3 : tie.After-put_list-arg-in-Two-2-1 → tie.Else-k-ne0
 else1-of-put-list-arg3 p = else1-of-slice-known6 (slice-known6-of-put-list-arg3 p)
 
@@ -33,10 +38,13 @@ run-of-slice-known10 p = run-of-put-list-arg3 p.before.before.before.before.befo
 
 abbrev slice-known4-of-else1 : tie.Else-k-ne0 → tie.After-slice_known-4-1
 slice-known4-of-else1 p = p.before.before.before.before.before
+
 abbrev shared-slice-known6-of-slice-known4 : tie.After-slice_known-4-1 → tie.After-shared_slice_known-6-1
 shared-slice-known6-of-slice-known4 p = p.before.before.before.before.before.before
+
 abbrev start-of-shared-slice-known6 : tie.After-shared_slice_known-6-1 → tie.Start
 start-of-shared-slice-known6 p = p.before.before.before.before.before.before
+
 abbrev start-of-else1 : tie.Else-k-ne0 → tie.Start
 start-of-else1 p = start-of-shared-slice-known6 (shared-slice-known6-of-slice-known4 (slice-known4-of-else1 p))
 
@@ -45,30 +53,40 @@ else1-of-slice-known10 p = else1-of-put-list-arg3 p.before.before.before.before.
 
 abbrev put-list-arg2-of-slice-known10 : tie.After-slice_known-in-Two-5-1 → tie.After-put_list-arg-in-Two-1
 put-list-arg2-of-slice-known10 p = p.before.before.before.before.before.before.before.before
+
 abbrev out-rows-of-put-list-arg2 : tie.After-put_list-arg-in-Two-1 → tie.After-out_rows-1
 out-rows-of-put-list-arg2 p = p.before.before.before.before.before.before.before.before
+
 abbrev lists-refusal-of-out-rows : tie.After-out_rows-1 → tie.After-lists_refusal-k
 lists-refusal-of-out-rows p = p.before.before.before.before.before.before.before.before
+
 abbrev lists-refusal-of-slice-known10 : tie.After-slice_known-in-Two-5-1 → tie.After-lists_refusal-k
 lists-refusal-of-slice-known10 p = lists-refusal-of-out-rows (out-rows-of-put-list-arg2 (put-list-arg2-of-slice-known10 p))
 
 abbrev put-list-arg-of-slice-known10 : tie.After-slice_known-in-Two-5-1 → tie.After-put_list-arg-1
 put-list-arg-of-slice-known10 p = p.before.before.before.before.before.before.before.before.before
+
 abbrev run-of-put-list-arg : tie.After-put_list-arg-1 → tie.After-run-answer
 run-of-put-list-arg p = p.before.before.before.before.before.before.before.before.before
+
 abbrev named-of-run : tie.After-run-answer → tie.In-Two-2
 named-of-run p = p.before.before.before.before.before.before.before
+
 abbrev named-of-slice-known10 : tie.After-slice_known-in-Two-5-1 → tie.In-Two-2
 named-of-slice-known10 p = named-of-run (run-of-put-list-arg (put-list-arg-of-slice-known10 p))
 
 abbrev put-list-arg3-of-slice-known10 : tie.After-slice_known-in-Two-5-1 → tie.After-put_list-arg-in-Two-2-1
 put-list-arg3-of-slice-known10 p = p.before.before.before.before.before.before.before
+
 abbrev v2-of-put-list-arg3 : tie.After-put_list-arg-in-Two-2-1 → tie.After-v-in-Two-1
 v2-of-put-list-arg3 p = p.before.before.before.before.before.before.before
+
 abbrev run-arg-of-v2 : tie.After-v-in-Two-1 → tie.After-run-arg-1
 run-arg-of-v2 p = p.before.before.before.before.before.before.before
+
 abbrev operation-of-of-run-arg : tie.After-run-arg-1 → tie.After-operation_of-named
 operation-of-of-run-arg p = p.before.before.before.before.before
+
 abbrev operation-of-of-slice-known10 : tie.After-slice_known-in-Two-5-1 → tie.After-operation_of-named
 operation-of-of-slice-known10 p = operation-of-of-run-arg (run-arg-of-v2 (v2-of-put-list-arg3 (put-list-arg3-of-slice-known10 p)))
 

@@ -17,18 +17,25 @@ slice_bounds-get_list-end-2 c = search rules
 -- the places that are used below
 abbrev get-list2-of-rv3 : tie.After-rv-3-1 → tie.After-get_list-2
 get-list2-of-rv3 p = p.before.before.before.before.before.before
+
 abbrev generic-set-lists-of-slice-known4 : tie.After-slice_known-4-1 → tie.After-generic_set_lists
 generic-set-lists-of-slice-known4 p = p.before.before.before.before.before.before
+
 abbrev get-list-of-rv2 : tie.After-rv-2-1 → tie.After-get_list
 get-list-of-rv2 p = p.before.before.before.before.before.before.before
+
 abbrev get-list-of-lo3 : tie.After-lo-3-1 → tie.After-get_list
 get-list-of-lo3 p = p.before.before.before.before.before.before.before.before
+
 abbrev get-list-of-lv3 : tie.After-lv-3-1 → tie.After-get_list
 get-list-of-lv3 p = p.before.before.before.before.before.before.before.before.before
+
 abbrev shared-slice-known6-of-lv : tie.After-lv-1 → tie.After-shared_slice_known-6-1
 shared-slice-known6-of-lv p = p.before.before.before.before.before.before
+
 abbrev start-of-shared-slice-known6 : tie.After-shared_slice_known-6-1 → tie.Start
 start-of-shared-slice-known6 p = p.before.before.before.before.before.before
+
 abbrev start-of-lv : tie.After-lv-1 → tie.Start
 start-of-lv p = start-of-shared-slice-known6 (shared-slice-known6-of-lv p)
 
@@ -37,8 +44,10 @@ start-of-rv p = start-of-lv p.before.before.before.before.before
 
 abbrev generic-set-lists-arg2-of-slice-known4 : tie.After-slice_known-4-1 → tie.After-generic_set_lists-arg-2-1
 generic-set-lists-arg2-of-slice-known4 p = p.before.before.before.before.before.before.before.before.before
+
 abbrev get-list2-of-generic-set-lists-arg2 : tie.After-generic_set_lists-arg-2-1 → tie.After-get_list-2
 get-list2-of-generic-set-lists-arg2 p = p.before.before.before.before.before.before.before.before
+
 abbrev get-list2-of-slice-known4 : tie.After-slice_known-4-1 → tie.After-get_list-2
 get-list2-of-slice-known4 p = get-list2-of-generic-set-lists-arg2 (generic-set-lists-arg2-of-slice-known4 p)
 
@@ -53,8 +62,10 @@ start-of-lv3 p = start-of-lo3 p.before
 
 abbrev generic-set-lists-arg3-of-slice-known4 : tie.After-slice_known-4-1 → tie.After-generic_set_lists-arg-3-1
 generic-set-lists-arg3-of-slice-known4 p = p.before.before.before.before.before.before.before.before
+
 abbrev rv2-of-generic-set-lists-arg3 : tie.After-generic_set_lists-arg-3-1 → tie.After-rv-2-1
 rv2-of-generic-set-lists-arg3 p = p.before.before.before.before.before.before.before
+
 abbrev get-list-of-slice-known4 : tie.After-slice_known-4-1 → tie.After-get_list
 get-list-of-slice-known4 p = get-list-of-rv2 (rv2-of-generic-set-lists-arg3 (generic-set-lists-arg3-of-slice-known4 p))
 

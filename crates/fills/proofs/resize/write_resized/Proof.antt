@@ -42,15 +42,17 @@ module _ (s : tie.Start) where
 module _ (c : tie.After-write_forward-k) where
   abbrev s₂ : tie.Start
   s₂ = c.before.before.before.before.before.before
+
   longer : s₂.args.n ≤ s₂.args.count
   longer = omega (arith, c)
 
-  copied : Writing (es s₂) s₂.args.at s₂.args.out_values.now s₂.args.out_elements.now (replicate (s₂.args.count - s₂.args.n) (F s₂)) c.write_forward-k.result c.write_forward-k.new.1.1.1.1.1.0 c.write_forward-k.new.1.1.1.1.1.1.0
+  copied : Writing (es s₂) s₂.args.at s₂.args.out_values.now s₂.args.out_elements.now (replicate (s₂.args.count - s₂.args.n) (F s₂)) c.write_forward-k.result c.write_forward-k.new.out_values c.write_forward-k.new.out_elements
   copied = run_written (none s₂) (row s₂) _ (filled s₂ longer) c.write_forward-k.ensures
 
 module _ (c : tie.After-fill_cell) where
   abbrev w₂ : tie.After-write_forward-k
   w₂ = c.before.before.before.before
+
   -- the fill is the argument that is written
   fill_is : replicate ((s₂ w₂).args.count - (s₂ w₂).args.n) (F (s₂ w₂)) ≡ replicate ((s₂ w₂).args.count - (s₂ w₂).args.n) (elem_of c.fill_cell.result)
   fill_is = rw c.fill_cell.ensures

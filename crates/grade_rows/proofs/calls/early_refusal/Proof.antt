@@ -10,10 +10,10 @@ returns-then-k-eq0 : tie.Need-returns-then-k-eq0
 returns-then-k-eq0 c = twelve _ _ _ c.if-k-eq0.true
 
 returns-then-grades-n : tie.Need-returns-then-grades-n
-returns-then-grades-n c = nine _ _ _ c.if-k-eq0.false c.before.before.rows_of_lem.ensures c.if-grades-n.true
+returns-then-grades-n c = nine _ _ _ c.if-k-eq0.false c.rows_of-n.ensures c.if-grades-n.true
 
 returns : tie.Need-returns
-returns c = neither _ _ _ c.if-k-eq0.false c.before.before.rows_of_lem.ensures c.if-grades-n.false
+returns c = neither _ _ _ c.if-k-eq0.false c.rows_of-n.ensures c.if-grades-n.false
 
 pub early_refusal_spec : {M : Type 1} → statement M
 early_refusal_spec =

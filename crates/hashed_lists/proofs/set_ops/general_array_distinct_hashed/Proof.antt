@@ -24,13 +24,16 @@ R s = let a = s.args in room (length a.out_offsets.now) (length a.out_rows.now) 
 
 abbrev wrote : tie.After-slice_known-7-1 → tie.After-after_three
 wrote c = c.before.before.before.before.before.before.before.before
+
 abbrev passed : tie.After-slice_known-7-1 → tie.Else-k-ne0
-passed c = (wrote c)
+passed c = (wrote c).before.before.before.before.before.before
 
 abbrev clears : tie.After-list_refusal-k → tie.After-clear_area
 clears f = f.before.before.before
+
 abbrev S : tie.After-list_refusal-k → tie.Start
 S f = f.before.before.before.before.before.before.before.before.before.before
+
 -- ---- needs
 
 clear_area-requires : tie.Need-clear_area-requires
@@ -65,14 +68,14 @@ shape_of-out_elements : tie.Need-shape_of-out_elements
 shape_of-out_elements c = (wrote c).after_three.auto.out_elements
 
 shape_of-area : tie.Need-shape_of-area
-shape_of-area c = (wrote c).after_three.auto.area ∙ (clears (passed c)).clear_area.auto.area
+shape_of-area c = (wrote c).after_three.auto.area ∙ (clears (passed c).before).clear_area.auto.area
 
 returns : tie.Need-returns
 returns c =
     let e = passed c in
-    let s = S e in
+    let s = S e.before in
     let w = (wrote c).after_three in
-    walked (distinct_goes (C s) (length s.args.area.now) (R s) _ e.list_refusal-k.ensures e.if-k-ne0.false ∙ ap (λ (j : ℕ). hash_after Distinct (C s) (C s) j (R s)) (sym (clears e).clear_area.kept.0)) w.ensures.0 w.ensures.1 (w.kept.1.1.1.1.1.1.1.1.1.1.1.1.1.1.1.1.1.0 ∙ (clears e).clear_area.kept.0)
+    walked (distinct_goes (C s) (length s.args.area.now) (R s) _ e.list_refusal-k.ensures e.if-k-ne0.false ∙ ap (λ (j : ℕ). hash_after Distinct (C s) (C s) j (R s)) (sym (clears e.before).clear_area.kept.0)) w.ensures.0 w.ensures.1 (w.kept.1.1.1.1.1.1.1.1.1.1.1.1.1.1.1.1.1.0 ∙ (clears e.before).clear_area.kept.0)
 
 pub general_array_distinct_hashed_spec : {M : Type 1} → statement M
 general_array_distinct_hashed_spec =

@@ -26,13 +26,16 @@ R s = let a = s.args in room (length a.out_offsets.now) (length a.out_rows.now) 
 
 abbrev wrote : tie.After-slice_known-7-1 → tie.After-after_three
 wrote c = c.before.before.before.before.before.before.before.before
+
 abbrev passed : tie.After-slice_known-7-1 → tie.Else-k-ne0
-passed c = (wrote c)
+passed c = (wrote c).before.before.before.before.before.before
 
 abbrev clears : tie.After-early-k → tie.After-clear_area
 clears f = f.before.before.before
+
 abbrev S : tie.After-early-k → tie.Start
 S f = f.before.before.before.before.before.before.before.before.before.before.before.before
+
 -- ---- needs
 
 clear_area-requires : tie.Need-clear_area-requires
@@ -67,15 +70,15 @@ shape_of-out_elements : tie.Need-shape_of-out_elements
 shape_of-out_elements c = (wrote c).after_three.auto.out_elements
 
 shape_of-area : tie.Need-shape_of-area
-shape_of-area c = (wrote c).after_three.auto.area ∙ (clears (passed c)).clear_area.auto.area
+shape_of-area c = (wrote c).after_three.auto.area ∙ (clears (passed c).before).clear_area.auto.area
 
 returns : tie.Need-returns
 returns c =
     let e = passed c in
-    let s = S e in
+    let s = S e.before in
     let o = s.args.set_op in
     let w = (wrote c).after_three in
-    walked (set_goes o (C s) (D s) (length s.args.area.now) (R s) _ (e.early-k.ensures.0 o) e.if-k-ne0.false (e.early-k.ensures.1 e.if-k-ne0.false).equal ∙ ap (λ (j : ℕ). hash_after (Pair o) (C s) (D s) j (R s)) (sym (clears e).clear_area.kept.0)) w.ensures.0 w.ensures.1 (w.kept.1.1.1.1.1.1.1.1.1.1.1.1.1.1.1.1.1.0 ∙ (clears e).clear_area.kept.0)
+    walked (set_goes o (C s) (D s) (length s.args.area.now) (R s) _ (e.early-k.ensures.0 o) e.if-k-ne0.false (e.early-k.ensures.1 e.if-k-ne0.false).equal ∙ ap (λ (j : ℕ). hash_after (Pair o) (C s) (D s) j (R s)) (sym (clears e.before).clear_area.kept.0)) w.ensures.0 w.ensures.1 (w.kept.1.1.1.1.1.1.1.1.1.1.1.1.1.1.1.1.1.0 ∙ (clears e.before).clear_area.kept.0)
 
 pub generic_set_lists_hashed_spec : {M : Type 1} → statement M
 generic_set_lists_hashed_spec =

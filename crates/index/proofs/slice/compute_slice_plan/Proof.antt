@@ -54,6 +54,7 @@ module _ (c : tie.After-fits_i32-2) where
 module _ (c : tie.Else-not-fits_i32-2) where
   abbrev asked : tie.Start
   asked = c.before.before.before.before.before
+
   to-fit : fits narrow asked.args.to ≡ true
   to-fit = sym (to-fits c.before) ∙ not-false _ c.if-not-fits_i32-2.false-raw
 
@@ -65,6 +66,7 @@ module _ (c : tie.Else-not-fits_i32-2) where
 module _ (c : tie.After-adjusted_to_index-last) where
   abbrev fitting : tie.Else-not-fits_i32-2
   fitting = c.before.before
+
   abbrev start : tie.Start
   start = asked fitting
 
@@ -91,6 +93,7 @@ module _ (c : tie.After-adjusted_to_index-last) where
 module _ (c : tie.Else-last-lt0) where
   abbrev places : tie.After-adjusted_to_index-last
   places = c.before.before
+
   first-inside : le_z (pos (start places).args.len) places.adjusted_from_index-first.result ≡ false
   first-inside = rw (read_len (start places), read_first places) at c.if-n-first.false
 

@@ -47,6 +47,7 @@ steps_of-few-requires c κs =
 module _ (c : tie.After-steps_of-few) where
   abbrev s : tie.Start
   s = c.before.before.before
+
   all : laws.Counted narrow w32 within _ _ s.ranges.distance s.ranges.stride s.requires.0 s.requires.1 268435455 most c.if-stride-ltminus268435456.false c.steps_of-many.result c.steps_of-few.result
   all =
       laws.counted narrow w32 within _ _ s.ranges.distance s.ranges.stride s.requires.0 s.requires.1 268435455 most c.if-stride-ltminus268435456.false _ (record { sfits = c.steps_of-many.type_inv }) c.steps_of-many.ensures _

@@ -45,6 +45,7 @@ size c = rw (read_stride c.before.before.before.before) at c.fits_i32.ensures
 module _ (c : tie.Else-not-fits_i32) where
   abbrev start : tie.Start
   start = c.before.before.before.before.before
+
   stride_fits : fits narrow start.args.stride ≡ true
   stride_fits = sym (size c.before) ∙ not-false _ c.if-not-fits_i32.false-raw
 

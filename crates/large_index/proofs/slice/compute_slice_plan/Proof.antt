@@ -28,6 +28,7 @@ some c = omega (arith, c)
 module _ (c : tie.After-adjusted_to_index-last) where
   abbrev start : tie.Start
   start = c.before.before.before
+
   full : 0 < start.args.len
   full = some c.before.before
 
@@ -48,6 +49,7 @@ module _ (c : tie.After-adjusted_to_index-last) where
 module _ (c : tie.Else-last-lt0) where
   abbrev places : tie.After-adjusted_to_index-last
   places = c.before.before
+
   first-inside : le_z (pos (start places).args.len) places.adjusted_from_index-first.result ≡ false
   first-inside = rw (read_len (start places), read_first places) at c.if-n-first.false
 

@@ -47,6 +47,7 @@ steps_of-few-requires c κs =
 module _ (c : tie.After-steps_of-few) where
   abbrev s : tie.Start
   s = c.before.before.before
+
   all : laws.Counted wide w64 within _ _ s.ranges.distance s.ranges.stride s.requires.0 s.requires.1 1152921504606846975 most c.if-stride-ltminus1152921504606846976.false c.steps_of-many.result c.steps_of-few.result
   all =
       laws.counted wide w64 within _ _ s.ranges.distance s.ranges.stride s.requires.0 s.requires.1 1152921504606846975 most c.if-stride-ltminus1152921504606846976.false _ (record { sfits = c.steps_of-many.type_inv }) c.steps_of-many.ensures _

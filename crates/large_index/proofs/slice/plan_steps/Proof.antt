@@ -35,6 +35,7 @@ direction c = rw (read_from c.before.before, read_to c.before.before, read_strid
 
 abbrev start : tie.Else-is_against → tie.Start
 start c = c.before.before.before
+
 suits : (c : tie.Else-is_against) → let s = start c in Suits wide s.args.from s.args.to s.args.stride
 suits c =
     let s = start c in

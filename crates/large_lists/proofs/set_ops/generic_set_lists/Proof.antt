@@ -5,6 +5,7 @@ use Rattle.large_lists.proofs.set_ops.generic_set_lists.Tie as tie
 -- the walk, from where it has returned
 abbrev ran : tie.After-out_offsets-1 → tie.After-run
 ran c = c.before.before.before.before.before.before.before
+
 slice_bounds-run-end : tie.Need-slice_bounds-run-end
 slice_bounds-run-end c = refl
 

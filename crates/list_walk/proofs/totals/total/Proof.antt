@@ -30,6 +30,7 @@ Z s = arguments s.args.zs.now (from s.args.zstart s.args.zbits.now)
 
 abbrev S : tie.After-shared_slice_known-5-1 → tie.Start
 S k = k.before.before.before.before.before
+
 -- ---- needs
 
 enum_known-op : tie.Need-enum_known-op

@@ -16,8 +16,10 @@ use Rattle.match_rows.proofs.remove.put_row.Tie as tie
 
 abbrev start : tie.After-limit_of → tie.Start
 start l = l.before.before.before.before.before.before
+
 abbrev limited : tie.After-slice_known-in-Value-element-1 → tie.After-limit_of
 limited p = p.before.before.before.before.before.before
+
 -- the row that is made
 row_is : (l : tie.After-limit_of) → let a = (start l).args in let es = tab (elem_at a.values.now (from a.estart a.elements.now)) a.a a.len in row_made (op_made (remove_op a.element a.limit) es) ≡ list_row (removed l.limit_of.result (elem_of a.element) es)
 row_is l =

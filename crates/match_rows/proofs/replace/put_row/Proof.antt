@@ -16,8 +16,10 @@ use Rattle.match_rows.proofs.replace.put_row.Tie as tie
 
 abbrev start : tie.After-limit_of → tie.Start
 start l = l.before.before.before.before.before
+
 abbrev limited : tie.After-slice_known-in-Value-1 → tie.After-limit_of
 limited p = p.before.before.before.before.before.before
+
 -- the row that is made
 row_is : (l : tie.After-limit_of) → let a = (start l).args in let es = tab (elem_at a.values.now (from a.estart a.elements.now)) a.a a.len in row_made (op_made (replace_op a.needle a.to a.limit) es) ≡ list_row (replaced l.limit_of.result (elem_of a.needle) (elem_of a.to) es)
 row_is l = replaced-made _ _ _ _ _ _ l.in-Value.is (rw (back64 _ l.in-Value.known_told-1-own.given.0.1) at l.limit_of.ensures)

@@ -24,6 +24,7 @@ decreases-loop-most values elements estart a n element limit p₀ left₀ most�
 module _ (l : tie.At-loop-most invariant-loop-most decreases-loop-most) where
   abbrev s : tie.Start invariant-loop-most decreases-loop-most
   s = l.before.before
+
   abbrev E : ℕ → Elem
   E = elem_at s.args.values.now (from s.args.estart s.args.elements.now)
 
@@ -38,6 +39,7 @@ module _ (l : tie.At-loop-most invariant-loop-most decreases-loop-most) where
 module _ (c : tie.After-before_match-run invariant-loop-most decreases-loop-most) where
   abbrev l₁ : tie.At-loop-most invariant-loop-most decreases-loop-most
   l₁ = c.before.before
+
   abbrev run : ℕ
   run = c.before_match-run.result
 

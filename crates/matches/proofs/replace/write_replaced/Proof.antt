@@ -25,6 +25,7 @@ decreases-loop-most values elements estart a n needle to limit out-values₀ out
 module _ (l : tie.At-loop-most invariant-loop-most decreases-loop-most) where
   abbrev s : tie.Start invariant-loop-most decreases-loop-most
   s = l.before.before.before
+
   abbrev E : ℕ → Elem
   E = elem_at s.args.values.now (from s.args.estart s.args.elements.now)
 
@@ -45,6 +46,7 @@ module _ (l : tie.At-loop-most invariant-loop-most decreases-loop-most) where
 module _ (c : tie.After-before_match-run invariant-loop-most decreases-loop-most) where
   abbrev l₁ : tie.At-loop-most invariant-loop-most decreases-loop-most
   l₁ = c.before.before
+
   abbrev run : ℕ
   run = c.before_match-run.result
 
@@ -66,7 +68,7 @@ module _ (c : tie.After-before_match-run invariant-loop-most decreases-loop-most
 -- the run is written, and it was the last
 last : (c : tie.Then-run-left invariant-loop-most decreases-loop-most)
     → 
-    let l = l₁ c.before.before.before.before.before.before.before in Writesˡ (es l) (s l).args.at (s l).args.out_values.now c.write_forward-k.new.1.1.1.1.1.0 (s l).args.out_elements.now c.write_forward-k.new.1.1.1.1.1.1.0 c.write_forward-k.result
+    let l = l₁ c.before.before.before.before.before.before.before in Writesˡ (es l) (s l).args.at (s l).args.out_values.now c.write_forward-k.new.out_values (s l).args.out_elements.now c.write_forward-k.new.out_elements c.write_forward-k.result
 last c =
     last_written (l₁ c.before.before.before.before.before.before.before).loop-most.invariant.0 _ (all c.before.before.before.before.before.before.before c.if-run-left.true) c.write_forward-k.ensures
 
@@ -74,8 +76,10 @@ last c =
 module _ (c : tie.Else-run-left invariant-loop-most decreases-loop-most) where
   abbrev w₁ : tie.After-write_forward-k invariant-loop-most decreases-loop-most
   w₁ = c.before.before.before.before
+
   abbrev m₁ : tie.After-before_match-run invariant-loop-most decreases-loop-most
   m₁ = w₁.before.before.before
+
   abbrev l₂ : tie.At-loop-most invariant-loop-most decreases-loop-most
   l₂ = l₁ m₁
 
@@ -89,11 +93,12 @@ module _ (c : tie.Else-run-left invariant-loop-most decreases-loop-most) where
 module _ (c : tie.After-loop-most invariant-loop-most decreases-loop-most) where
   abbrev l₃ : tie.At-loop-most invariant-loop-most decreases-loop-most
   l₃ = c.before
+
   spent : rest l₃ ≡ tab (E l₃) l₃.loop-most.p l₃.loop-most.left
   spent = replaced_spent (F l₃) (To l₃) l₃.loop-most.most _ (omega (arith, c.loop-most-test.false))
 
 rest_copied : (c : tie.After-write_forward invariant-loop-most decreases-loop-most)
-    → Writesˡ (es c.before.before.before.before) (s c.before.before.before.before).args.at (s c.before.before.before.before).args.out_values.now c.write_forward.new.1.1.1.1.1.0 (s c.before.before.before.before).args.out_elements.now c.write_forward.new.1.1.1.1.1.1.0 c.write_forward.result
+    → Writesˡ (es c.before.before.before.before) (s c.before.before.before.before).args.at (s c.before.before.before.before).args.out_values.now c.write_forward.new.out_values (s c.before.before.before.before).args.out_elements.now c.write_forward.new.out_elements c.write_forward.result
 rest_copied c =
     last_written (l₃ c.before.before.before).loop-most.invariant.0 _ (spent c.before.before.before) c.write_forward.ensures
 
@@ -139,10 +144,10 @@ overflow_sub-left : tie.Need-overflow_sub-left invariant-loop-most decreases-loo
 overflow_sub-left c = omega (arith, less c.before.before.before.before.before.before)
 
 overflow_sub-most : tie.Need-overflow_sub-most invariant-loop-most decreases-loop-most
-overflow_sub-most c = omega (arith, (m₁ c.before.before.before.before.before.before))
+overflow_sub-most c = omega (arith, (m₁ c.before.before.before.before.before.before).before)
 
 loop-most-smaller : tie.Need-loop-most-smaller invariant-loop-most decreases-loop-most
-loop-most-smaller c = omega (arith, (m₁ c.before.before.before.before.before.before))
+loop-most-smaller c = omega (arith, (m₁ c.before.before.before.before.before.before).before)
 
 loop-most-preserved : tie.Need-loop-most-preserved invariant-loop-most decreases-loop-most
 loop-most-preserved c =

@@ -9,6 +9,7 @@ use Rattle.recipe_limits.proofs.limits.count_at.Tie as tie
 
 abbrev S : tie.After-shared_slice_known-2-1 → tie.Start
 S c = c.before.before
+
 abbrev read : tie.After-is_valid → tie.Start
 read c = S c.before
 

@@ -16,10 +16,12 @@ decreases-loop-left rows rstart n args bits start a most sum₀ r₀ left₀ sum
 
 abbrev S : tie.At-loop-left invariant-loop-left decreases-loop-left → tie.Start invariant-loop-left decreases-loop-left
 S l = l.before.before.before
+
 abbrev turn : tie.After-plus-sum invariant-loop-left decreases-loop-left → tie.In-loop-left invariant-loop-left decreases-loop-left
 turn c = c.before.before
+
 abbrev walk : tie.After-plus-sum invariant-loop-left decreases-loop-left → tie.At-loop-left invariant-loop-left decreases-loop-left
-walk c = (turn c)
+walk c = (turn c).before
 
 -- ---- needs
 

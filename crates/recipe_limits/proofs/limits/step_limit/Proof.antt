@@ -8,8 +8,10 @@ use Rattle.recipe_limits.proofs.limits.step_limit.Tie as tie
 
 abbrev S : tie.Then-code-eq6 → tie.Start
 S c = c.before.before.before
+
 abbrev other : tie.Else-code-eq6 → tie.Start
 other c = c.before.before.before
+
 -- ---- needs
 
 overflow_mul-first : tie.Need-overflow_mul-first

@@ -24,8 +24,9 @@ decreases-loop-r values elements estart a n v r₀ r = n - r
 
 abbrev turn : tie.After-before_value-r invariant-loop-r decreases-loop-r → tie.At-loop-r invariant-loop-r decreases-loop-r
 turn b = b.before.before
+
 abbrev start : tie.After-before_value-r invariant-loop-r decreases-loop-r → tie.Start invariant-loop-r decreases-loop-r
-start b = (turn b)
+start b = (turn b).before.before
 
 -- the values that differ are passed
 passed : (b : tie.After-before_value-r invariant-loop-r decreases-loop-r) → let a = (start b).args in (i : ℕ) → i < (turn b).loop-r.r + b.before_value-r.result → same_elem (elem_at a.values.now (from a.estart a.elements.now) (a.a + i)) (val a.v) ≡ false

@@ -46,16 +46,22 @@ start_from-start-requires c κs = search
 -- the places that are used below
 abbrev start-from-of-slice-known2 : tie.After-slice_known-then-n-m-1 → tie.After-start_from-start
 start-from-of-slice-known2 p = p.before.before.before.before.before.before
+
 abbrev start-from2-of-slice-known3 : tie.After-slice_known-2-1 → tie.After-start_from-start-2
 start-from2-of-slice-known3 p = p.before.before.before.before.before.before
+
 abbrev then1-of-slice-known2 : tie.After-slice_known-then-n-m-1 → tie.Then-n-m
 then1-of-slice-known2 p = p.before.before.before.before.before.before.before.before
+
 abbrev else1-of-slice-known3 : tie.After-slice_known-2-1 → tie.Else-n-m
 else1-of-slice-known3 p = p.before.before.before.before.before.before.before.before
+
 abbrev longer-of-write-kept-arg2 : tie.After-write_kept-arg-then-n-m-1 → tie.After-longer-walked
 longer-of-write-kept-arg2 p = p.before.before.before.before.before
+
 abbrev start-of-longer : tie.After-longer-walked → tie.Start
 start-of-longer p = p.before.before.before.before.before.before
+
 abbrev start-of-write-kept-arg2 : tie.After-write_kept-arg-then-n-m-1 → tie.Start
 start-of-write-kept-arg2 p = start-of-longer (longer-of-write-kept-arg2 p)
 

@@ -13,10 +13,13 @@ use Rattle.set_rows.proofs.set_ops.write_union.Tie as tie
 -- the places that are used below
 abbrev start-of-write-kept-arg2 : tie.After-write_kept-arg-2-1 → tie.Start
 start-of-write-kept-arg2 p = p.before.before.before.before.before
+
 abbrev write-kept-of-write-kept-arg4 : tie.After-write_kept-arg-4-1 → tie.After-write_kept-next
 write-kept-of-write-kept-arg4 p = p.before.before.before.before.before
+
 abbrev write-kept-of-slice-known3 : tie.After-slice_known-3-1 → tie.After-write_kept-next
 write-kept-of-slice-known3 p = p.before.before.before.before.before.before.before.before.before
+
 abbrev start-of-write-kept-arg4 : tie.After-write_kept-arg-4-1 → tie.Start
 start-of-write-kept-arg4 p = start-of-write-kept-arg2 p.before.before.before.before.before.before
 

@@ -22,6 +22,7 @@ Z s = from s.args.zstart s.args.zbits.now
 
 abbrev begun : tie.After-word_at-listed → tie.Start
 begun w = w.before.before.before.before.before
+
 word_at-listed-requires : tie.Need-word_at-listed-requires
 word_at-listed-requires c κs = (c.requires.0.rows, c.requires.1)
 

@@ -25,6 +25,7 @@ decreases-loop-left values a n start stride count out₀ at p₀ left₀ k₀ ou
 
 abbrev S : tie.At-loop-left invariant-loop-left decreases-loop-left → tie.Start invariant-loop-left decreases-loop-left
 S l = l.before.before
+
 abbrev E : tie.Start invariant-loop-left decreases-loop-left → ℕ → Elem
 E s i = val (get_or s.args.values.now i (pos 0))
 

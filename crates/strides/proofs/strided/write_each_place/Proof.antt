@@ -20,6 +20,7 @@ decreases-loop-left values elements estart a n start stride count out-values₀ 
 
 abbrev S : tie.At-loop-left invariant-loop-left decreases-loop-left → tie.Start invariant-loop-left decreases-loop-left
 S l = l.before.before.before
+
 abbrev E : tie.Start invariant-loop-left decreases-loop-left → ℕ → Elem
 E s = elem_at s.args.values.now (from s.args.estart s.args.elements.now)
 

@@ -34,6 +34,7 @@ module _ (s : tie.Start) where
 module _ (e : tie.Else-count-eq0) where
   abbrev S : tie.Start
   S = e.before.before.before.before
+
   one : S.args.stride ≡ pos 1
   one = sym (read_stride S) ∙ ap (to_z w64) e.if-stride-ne1.false
 

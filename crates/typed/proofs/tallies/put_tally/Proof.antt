@@ -32,7 +32,7 @@ slice_bounds-put_counts-end-3 c = search rules
 put_counts-requires-2 : tie.Need-put_counts-requires-2
 put_counts-requires-2 c κs =
     let r : length c.args.tally.refused ≡ 16 = search rules in
-    part_room c.put_counts.new.1.0 (length c.args.tally.refused) r (rw c.put_counts.auto.s c.requires)
+    part_room c.put_counts.new.s (length c.args.tally.refused) r (rw c.put_counts.auto.s c.requires)
 
 shape_of-s : tie.Need-shape_of-s
 shape_of-s c = search rules
@@ -42,7 +42,7 @@ returns c =
     let a = c.args in
     let f : length a.tally.finished ≡ 16 = search rules in
     let k = c.put_counts.auto.s in
-    behind a.tally.finished a.tally.refused a.s.now c.put_counts.new.1.0 c.put_counts-2.new.1.0 16
+    behind a.tally.finished a.tally.refused a.s.now c.put_counts.new.s c.put_counts-2.new.s 16
     f (omega (arith, k, c.requires)) c.put_counts.ensures c.put_counts-2.ensures
 
 pub put_tally_spec : {M : Type 1} → statement M

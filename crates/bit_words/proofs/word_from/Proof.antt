@@ -44,7 +44,7 @@ returns c =
     let a = (start (word c)).args in
     let e : a.s + (64 - a.s) ≡ 64 = omega arith in
     rw c.wide.ensures
-    (rw e at (read_joined a.bitmap.now 8 a.k (64 - a.s) a.s w.result (rw e w.ensures) (rw e w.ok) (omega arith) e))
+    (rw e at (read_joined a.bitmap.now 8 a.k (64 - a.s) a.s w.result (rw e w.ensures) (rw e w.type_inv) (omega arith) e))
 
 pub word_from_spec : {M : Type 1} → statement M
 word_from_spec =

@@ -10,6 +10,7 @@ use Prim.Native.Nat.{◌+◌}
 use native.Mathlib.Omega.{arith}
 use borrow.Author.Tests.{not-true, not-false}
 use Rattle.kept_elements.proofs.distinct.write_distinct.Statement.{statement}
+use Rattle.kept_elements.proofs.distinct.write_distinct.Lts.{then-not-is_among, else-not-is_among}
 use Rattle.kept_elements.proofs.distinct.write_distinct.Tie as tie
 
 abbrev invariant-loop-left : tie.invariant-loop-left
@@ -60,10 +61,10 @@ loop-left-preserved c =
     let l = c.loop-left in
     let E = elem_at c.args.values.now (from c.args.estart c.args.elements.now) in
     let among = sym c.is_among.ensures in (
-      ⊎_elim
-          (λ w. rw w.9 (written l.invariant.0 _ _ (later_new E c.args.a l.k l.left c.loop-left-test.true (among ∙ not-true _ w.0.taken)) (w.7 ∙ w.3.ensures.0) (w.8 ∙ w.3.ensures.1)))
-          (λ w. rw (w.1, w.2, w.3) (skipped l.invariant.0 _ (later_old E c.args.a l.k l.left c.loop-left-test.true (among ∙ not-false _ w.0.left))))
-          c.if-not-is_among.branch,
+      elim c.if-not-is_among.branch [
+        then-not-is_among w ↦ rw w.p-is (written l.invariant.0 _ _ (later_new E c.args.a l.k l.left c.loop-left-test.true (among ∙ w.if-not-is_among.true)) (w.out_values-is ∙ w.write_elem.ensures.0) (w.out_elements-is ∙ w.write_elem.ensures.1))
+      | else-not-is_among w ↦ rw (w.out_values-is, w.out_elements-is, w.p-is) (skipped l.invariant.0 _ (later_old E c.args.a l.k l.left c.loop-left-test.true (among ∙ w.if-not-is_among.false)))
+      ],
       omega (arith, c),
     )
 

@@ -18,7 +18,7 @@ PLACE = r"tie\.((?:After|Else|Then|At|In|Joined|Start)[^\s(){}\[\];,.@\"`«»:|]
 
 
 def norm(n):
-    return n.replace("_", "-")
+    return n.replace("_", "-").lower()
 
 
 class Function:

@@ -10,7 +10,7 @@ use lib.Dec.{ltb}
 use lib.IntN.{ℤ}
 use lib.ListN.{length, length-append}
 use lib.Seq.{sets, length-sets}
-use Rattle.bitmap.specs.Push.{bits_from, push_bits}
+use Rattle.bitmap.specs.Push.{push_bit, bits_from, push_bits}
 use Rattle.bitmap.proofs.BitLaws.{bit_le, length-push_bits}
 use Rattle.model.specs.Basics.{pick, tab}
 use Rattle.model.specs.Bitmap.{Bits, from, bit}
@@ -273,7 +273,7 @@ sets_append d k (x ∷ xs) ys = let e : k + suc (length xs) ≡ suc k + length x
 pushes_append : (d : List ℕ) (k : ℕ) (xs ys : List Bool) → push_bits d k (xs ++ ys) ≡ push_bits (push_bits d k xs) (k + length xs) ys
 unfolding push_bits
 pushes_append d k [] ys = let e : k + 0 ≡ k = omega arith in rw e
-pushes_append d k (x ∷ xs) ys = let e : k + suc (length xs) ≡ suc k + length xs = omega arith in rw e (pushes_append _ (suc k) xs ys)
+pushes_append d k (x ∷ xs) ys = let e : k + suc (length xs) ≡ suc k + length xs = omega arith in rw e (pushes_append (push_bit d k x) (suc k) xs ys)
 
 module _ (es fs : List Elem) where
   pub place-first : {at lv le : ℕ} → RoomForElemsˡ (es ++ fs) at lv le → RoomForElemsˡ es at lv le

@@ -15,8 +15,8 @@ write_kept-end-requires c κs =
 clear_tables-requires : tie.Need-clear_tables-requires
 clear_tables-requires c κs =
     let f = c.measure_new in
-    let g = c.before.before.before.before.before.before.write-Kept in
-    (omega (arith, c.requires.1.1.1.1.1.0, f.auto.area, g.auto.1.1.1.1.1.1.1.1.1.1.1.1.1.1.0), λ i p. g.ensures.1.above i (omega arith) ∙ f.ensures.1.1.above i (omega arith) ∙ c.requires.1.1.1.1.1.1 i (omega arith))
+    let g = c.write_kept-end in
+    (omega (arith, c.requires.1.1.1.1.1.0, f.auto.area, g.auto.area), λ i p. g.ensures.1.above i (omega arith) ∙ f.ensures.1.1.above i (omega arith) ∙ c.requires.1.1.1.1.1.1 i (omega arith))
 
 shape_of-out_values : tie.Need-shape_of-out_values
 shape_of-out_values c = search rules

@@ -28,8 +28,8 @@ write_kept-end-requires c κs =
 clear_tables-requires : tie.Need-clear_tables-requires
 clear_tables-requires c κs =
     let f = c.write_new-next in
-    let g = c.before.before.before.before.before.before.write-Kept in
-    (omega (arith, c.requires.1.1.1.1.1.0, f.auto.area, g.auto.1.1.1.1.1.1.1.1.1.1.1.1.1.1.0), λ i p. g.ensures.1.above i (omega arith) ∙ f.ensures.1.1.above i (omega arith) ∙ c.requires.1.1.1.1.1.1 i (omega arith))
+    let g = c.write_kept-end in
+    (omega (arith, c.requires.1.1.1.1.1.0, f.auto.area, g.auto.area), λ i p. g.ensures.1.above i (omega arith) ∙ f.ensures.1.1.above i (omega arith) ∙ c.requires.1.1.1.1.1.1 i (omega arith))
 
 shape_of-out_values : tie.Need-shape_of-out_values
 shape_of-out_values c = search rules
@@ -44,7 +44,7 @@ returns : tie.Need-returns
 returns c =
     let l = tab (elem_at c.args.lvalues.now (from c.args.lstart c.args.lelements.now)) c.args.a c.args.n in
     let r = tab (elem_at c.args.rvalues.now (from c.args.rstart c.args.relements.now)) c.args.b c.args.m in
-    (rw (union_distinct l r) (written_then (distinct l) (kept false l [] r) c.write_new-next.ensures.0 c.before.before.before.before.before.before.before.before.before.write-Kept.ensures.0), c.clear_tables.ensures)
+    (rw (union_distinct l r) (written_then (distinct l) (kept false l [] r) c.write_new-next.ensures.0 c.write_kept-end.ensures.0), c.clear_tables.ensures)
 
 pub write_union_spec : {M : Type 1} → statement M
 write_union_spec =

@@ -5,7 +5,6 @@ use Rattle.model.specs.Elements.{distinct}
 use Rattle.set_elements.proofs.ElementLaws.{later, later_all, later-none, later_new, later_old}
 use Rattle.column.proofs.WriteLaws.{Writing, begun, skipped, written, room, done}
 use mathlib.Core.Path.{◌≡◌, sym, ◌∙◌}
-use mathlib.Core.Logic.{⊎_elim}
 use Prim.Native.Nat.{◌+◌}
 use native.Mathlib.Omega.{arith}
 use borrow.Author.Tests.{not-true, not-false}

@@ -94,7 +94,7 @@ returns-then-n-m c =
     let t = then1-of-slice-known2 c in
     let r = start-from-of-slice-known2 c in
     let e = right_walked a.lvalues.now (from a.lstart a.lelements.now) a.a a.n a.rvalues.now (from a.rstart a.relements.now) a.b a.m s.requires.0 s.requires.1.0 t.longer-walked.ensures t.if-n-m.true r.start_from-start.ensures r.bits_from-bits.ensures in
-    rw e c.before.before.before.write-Kept.ensures
+    rw e c.write_kept.ensures
 
 bits_from-bits-requires-2 : tie.Need-bits_from-bits-requires-2
 bits_from-bits-requires-2 c κs = search rules

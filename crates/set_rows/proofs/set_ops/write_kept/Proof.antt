@@ -1,5 +1,4 @@
 use mathlib.Core.List.{[]}
-use mathlib.Core.Logic.{⊎_elim}
 use mathlib.Core.Path.{◌≡◌, ◌∙◌}
 use Prim.Native.Nat.{◌+◌}
 use native.Mathlib.Omega.{arith}
@@ -10,6 +9,7 @@ use Rattle.model.specs.Column.{elem_at}
 use Rattle.set_elements.specs.Pairs.{kept}
 use Rattle.set_rows.proofs.SetLaws.{kept_later, kept_all, kept-none, kept-taken, kept_passed}
 use Rattle.set_rows.proofs.set_ops.write_kept.Statement.{statement}
+use Rattle.set_rows.proofs.set_ops.write_kept.Lts.{then-is_kept, else-is_kept}
 use Rattle.set_rows.proofs.set_ops.write_kept.Tie as tie
 
 abbrev invariant-loop-left : tie.invariant-loop-left
@@ -66,10 +66,10 @@ loop-left-preserved c =
     let O = tab (elem_at c.args.others.now (from c.args.ostart c.args.oelements.now)) c.args.b c.args.m in
     let E = elem_at c.args.values.now (from c.args.estart c.args.elements.now) in
     let keeps = c.is_kept.ensures in (
-      ⊎_elim
-          (λ w. rw w.9 (written l.invariant.0 _ _ (kept-taken c.args.shared O E c.args.a l.k l.left c.loop-left-test.true keeps w.0.taken) (w.7 ∙ w.3.ensures.0) (w.8 ∙ w.3.ensures.1)))
-          (λ w. rw (w.1, w.2, w.3) (skipped l.invariant.0 _ (kept_passed c.args.shared O E c.args.a l.k l.left c.loop-left-test.true keeps w.0.left)))
-          c.if-is_kept.branch,
+      elim c.if-is_kept.branch [
+        then-is_kept w ↦ rw w.p-is (written l.invariant.0 _ _ (kept-taken c.args.shared O E c.args.a l.k l.left c.loop-left-test.true keeps w.if-is_kept.true) (w.out_values-is ∙ w.write_elem.ensures.0) (w.out_elements-is ∙ w.write_elem.ensures.1))
+      | else-is_kept w ↦ rw (w.out_values-is, w.out_elements-is, w.p-is) (skipped l.invariant.0 _ (kept_passed c.args.shared O E c.args.a l.k l.left c.loop-left-test.true keeps w.if-is_kept.false))
+      ],
       omega (arith, c),
     )
 

@@ -41,13 +41,13 @@ write_kept-requires c κs =
     let s = start-of-write-kept-arg4 c in
     let l = tab (elem_at s.args.lvalues.now (from s.args.lstart s.args.lelements.now)) s.args.a s.args.n in
     let r = tab (elem_at s.args.rvalues.now (from s.args.rstart s.args.relements.now)) s.args.b s.args.m in
-    (s.requires.1.0, (s.requires.0, place_then (kept false [] [] l) (kept false l [] r) (write-kept-of-write-kept-arg4 c).write-Kept.ensures (rw (union_kept l r) at s.requires.1.1)))
+    (s.requires.1.0, (s.requires.0, place_then (kept false [] [] l) (kept false l [] r) (write-kept-of-write-kept-arg4 c).write_kept-next.ensures (rw (union_kept l r) at s.requires.1.1)))
 
 shape_of-out_values : tie.Need-shape_of-out_values
-shape_of-out_values c = c.write_kept.auto.out_values ∙ (write-kept-of-slice-known3 c).write-Kept.auto.1.1.1.1.1.1.1.1.1.1.1.0
+shape_of-out_values c = c.write_kept.auto.out_values ∙ (write-kept-of-slice-known3 c).write_kept-next.auto.out_values
 
 shape_of-out_elements : tie.Need-shape_of-out_elements
-shape_of-out_elements c = c.write_kept.auto.out_elements ∙ (write-kept-of-slice-known3 c).write-Kept.auto.1.1.1.1.1.1.1.1.1.1.1.1.0
+shape_of-out_elements c = c.write_kept.auto.out_elements ∙ (write-kept-of-slice-known3 c).write_kept-next.auto.out_elements
 
 returns : tie.Need-returns
 unfolding tab
@@ -55,7 +55,7 @@ returns c =
     let s = start-of-slice-known3 c in
     let l = tab (elem_at s.args.lvalues.now (from s.args.lstart s.args.lelements.now)) s.args.a s.args.n in
     let r = tab (elem_at s.args.rvalues.now (from s.args.rstart s.args.relements.now)) s.args.b s.args.m in
-    rw (union_kept l r) (written_then (kept false [] [] l) (kept false l [] r) (write-kept-of-slice-known3 c).write-Kept.ensures c.write_kept.ensures)
+    rw (union_kept l r) (written_then (kept false [] [] l) (kept false l [] r) (write-kept-of-slice-known3 c).write_kept-next.ensures c.write_kept.ensures)
 
 pub write_union_spec : {M : Type 1} → statement M
 write_union_spec =

@@ -129,6 +129,10 @@ def turn_step(fn, head, step, rest):
     if not rest:
         return head, ("step", step, None)
     c, more = rest[0], rest[1:]
+    if c == "kept":
+        c = "auto"
+    elif c == "ok":
+        c = "type_inv"
     loop = fn.loops.get(step)
     if loop and norm(c) in [norm(x) for x in loop[1]]:
         c = next(x for x in loop[1] if norm(x) == norm(c))

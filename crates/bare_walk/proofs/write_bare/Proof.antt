@@ -133,13 +133,13 @@ loop-left-preserved c =
     (bare_more s.args.op (I s) s.args.values.now (count q.before.before) q.loop-left.invariant.0 q.loop-left-test.true q.offset_at-b.result q.offset_at-b.ensures.0 w.put_values-at.ensures p.ensures, p.auto.narrow ∙ q.loop-left.invariant.1, p.auto.wide ∙ q.loop-left.invariant.2)
 
 shape_of-out_offsets : tie.Need-shape_of-out_offsets invariant-loop-left decreases-loop-left
-shape_of-out_offsets c = c.loop-left.invariant.1 ∙ (put c.before).put_offset.kept.1.0
+shape_of-out_offsets c = c.loop-left.invariant.1 ∙ (put c.before).put_offset.auto.narrow
 
 shape_of-out_values : tie.Need-shape_of-out_values invariant-loop-left decreases-loop-left
 shape_of-out_values c = c.loop-left.invariant.0.walk.lv
 
 shape_of-out_large : tie.Need-shape_of-out_large invariant-loop-left decreases-loop-left
-shape_of-out_large c = c.loop-left.invariant.2 ∙ (put c.before).put_offset.kept.1.1.0
+shape_of-out_large c = c.loop-left.invariant.2 ∙ (put c.before).put_offset.auto.wide
 
 returns : tie.Need-returns invariant-loop-left decreases-loop-left
 returns c =

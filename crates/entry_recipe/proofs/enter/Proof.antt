@@ -355,7 +355,7 @@ put_list-requires c κs =
     let a = (S e).args in
     let f = all_fit (length a.numbers.now) (length a.arguments.now) (length a.offsets.now) (length a.values.now) (length a.second_offsets.now) (length a.second_values.now) (length a.one_offsets.now) (length a.one_values.now) (length a.two_offsets.now) (length a.two_values.now) (length a.out_offsets.now) (length a.out_values.now) (passed e).1.fit in
     let r = (run-of-put-list-arg3 c).run-done in
-    ready r.ensures.0 (rw r.kept.1.1.1.1.1.1.1.1.1.1.1.1.1.1.1.1.1.1.1.1.1.1.1.1.1.1.1.1.1.0 f.2.offsets) (rw r.kept.1.1.1.1.1.1.1.1.1.1.1.1.1.1.1.1.1.1.1.1.1.1.1.1.1.1.1.1.1.1.1.0 f.2.values) refl refl (passed e).1.counts
+    ready r.ensures.0 (rw r.auto.o f.2.offsets) (rw r.auto.v f.2.values) refl refl (passed e).1.counts
 
 shape_of-one_offsets : tie.Need-shape_of-one_offsets
 shape_of-one_offsets c = (clear-four-of-slice-known32 c).clear_four.auto.a

@@ -114,7 +114,7 @@ write_pairs-requires : tie.Need-write_pairs-requires
 write_pairs-requires c κs =
     let s = U c.before.before.before.before.before.before.before.before.before in
     let m = (measured c.before.before.before.before.before.before.before.before.before).measure_pairs-m in
-    (s.requires.0, (s.requires.1.0, (s.requires.1.1.0, (held s.args.op m.result (length (flat (W s))) m.ensures.0 m.ensures.1.0 (sym (eight c.before.before.before.before.before.before.before.before.before) ∙ c.if-long-ne0.false), (rw (length_hashes s.args.op (C s) (D s)) at (roomy c.before.before.before.before.before), (rw m.kept.1.1.1.1.1.1.1.1.1.1.1.1.1.0 (fits (enough c.before.before.before.before.before.before.before.before.before)), m.ensures.1.1))))))
+    (s.requires.0, (s.requires.1.0, (s.requires.1.1.0, (held s.args.op m.result (length (flat (W s))) m.ensures.0 m.ensures.1.0 (sym (eight c.before.before.before.before.before.before.before.before.before) ∙ c.if-long-ne0.false), (rw (length_hashes s.args.op (C s) (D s)) at (roomy c.before.before.before.before.before), (rw m.auto.area (fits (enough c.before.before.before.before.before.before.before.before.before)), m.ensures.1.1))))))
 
 list_answer-requires : tie.Need-list_answer-requires
 list_answer-requires c κs =

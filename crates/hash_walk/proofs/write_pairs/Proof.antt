@@ -137,10 +137,10 @@ loop-left-preserved c =
     let w = pair c.before.before in
     let q = read w in
     let l = L q in
-    (walk_more (W l) (count l) (made q) q.loop-left-test.true (same_row q) l.loop-left.invariant.0 w.put_pair-at.ensures.0 c.put_offset-in-loop-left.ensures, w.put_pair-at.ensures.1, w.put_pair-at.kept.1.1.1.1.1.1.1.1.1.1.1.1.1.1.1.1.1.1.1.1.1.0 ∙ l.loop-left.invariant.2)
+    (walk_more (W l) (count l) (made q) q.loop-left-test.true (same_row q) l.loop-left.invariant.0 w.put_pair-at.ensures.0 c.put_offset-in-loop-left.ensures, w.put_pair-at.ensures.1, w.put_pair-at.auto.area ∙ l.loop-left.invariant.2)
 
 shape_of-out_offsets : tie.Need-shape_of-out_offsets invariant-loop-left decreases-loop-left
-shape_of-out_offsets c = c.loop-left.invariant.0.lo ∙ (put c.before).put_offset.kept.0
+shape_of-out_offsets c = c.loop-left.invariant.0.lo ∙ (put c.before).put_offset.auto.out
 
 shape_of-out_rows : tie.Need-shape_of-out_rows invariant-loop-left decreases-loop-left
 shape_of-out_rows c = c.loop-left.invariant.0.lr

@@ -331,7 +331,7 @@ shape_of-o : tie.Need-shape_of-o
 shape_of-o c =
     let k = (run-recipe-of-slice-known12 c).run_recipe in
     let s = start-of-slice-known12 c in
-    whole k.last.1.1.1.1.1.1.1.1.1.1.1.1.1.1.1.1.1.1.1.1.1.1.1.1.1.1.1.0 s.args.o.now s.args.mo s.requires.1.1.0 k.kept.1.1.1.1.1.1.1.1.1.1.1.1.1.1.1.1.1.1.1.1.1.1.1.1.1.1.1.0
+    whole k.last.1.1.1.1.1.1.1.1.1.1.1.1.1.1.1.1.1.1.1.1.1.1.1.1.1.1.1.0 s.args.o.now s.args.mo s.requires.1.1.0 k.auto.out_offsets
 
 shape_of-out_rows : tie.Need-shape_of-out_rows
 shape_of-out_rows c = (run-recipe-of-slice-known12 c).run_recipe.auto.out_rows
@@ -340,7 +340,7 @@ shape_of-v : tie.Need-shape_of-v
 shape_of-v c =
     let k = (run-recipe-of-slice-known12 c).run_recipe in
     let s = start-of-slice-known12 c in
-    whole k.last.1.1.1.1.1.1.1.1.1.1.1.1.1.1.1.1.1.1.1.1.1.1.1.1.1.1.1.1.1.0 s.args.v.now s.args.mv s.requires.1.1.1 k.kept.1.1.1.1.1.1.1.1.1.1.1.1.1.1.1.1.1.1.1.1.1.1.1.1.1.1.1.1.1.0
+    whole k.last.1.1.1.1.1.1.1.1.1.1.1.1.1.1.1.1.1.1.1.1.1.1.1.1.1.1.1.1.1.0 s.args.v.now s.args.mv s.requires.1.1.1 k.auto.out_values
 
 shape_of-out_elements : tie.Need-shape_of-out_elements
 shape_of-out_elements c = (run-recipe-of-slice-known12 c).run_recipe.auto.out_elements
@@ -359,7 +359,7 @@ returns c =
     let out = same_room _ _ (length-take-le _ _ q.0) (length-take-le _ _ q.1) in
     let numbers = cut_at (get-numbers-of-slice-known12 c).get_numbers.new.ns (numbers-taken-of-slice-known12 c).numbers_taken-nn.ensures (get-numbers-of-slice-known12 c).get_numbers.ensures in
     let e = recipe_read s.args.station s.args.columns s.args.numbers.now _ _ _ _ _ numbers d.offsets d.values b.offsets b.values (get-values-of-slice-known12 c).get_values.ensures one two out in (
-      list_ran s.args.mo s.args.mv s.args.o.now s.args.v.now m.0 k.kept.1.1.1.1.1.1.1.1.1.1.1.1.1.1.1.1.1.1.1.1.1.1.1.1.1.1.1.0 k.kept.1.1.1.1.1.1.1.1.1.1.1.1.1.1.1.1.1.1.1.1.1.1.1.1.1.1.1.1.1.0 q.0 q.1 e,
+      list_ran s.args.mo s.args.mv s.args.o.now s.args.v.now m.0 k.auto.out_offsets k.auto.out_values q.0 q.1 e,
       ((m.1.0.rows, m.1.0.elements, m.1.1.0.rows, m.1.1.0.elements), tallied_as _ _ e m.1.1.1),
     )
 

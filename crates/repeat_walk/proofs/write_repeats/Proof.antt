@@ -163,8 +163,8 @@ loop-left-preserved c =
     let p = copied-before u in
     let q = read p in
     let l = L q in
-    let k = p.put_copies-at.kept.1.1.1.1.1.1.1.1.1.1 in
-    let h = u.put_outer.kept.1.1.1.1.1 in (
+    let k = p.put_copies-at.auto.1.1.1.1.1.1.1.1.1.1 in
+    let h = u.put_outer.auto.1.1.1.1.1 in (
       outer-more (M (S l)) (O l) (count l) (copies q) q.loop-left-test.true (same q) l.loop-left.invariant.0 _ _ (sym (length-replicate _ (row q))) p.put_copies-at.ensures _ (outer_valid (row_at (C (S l)) l.loop-left.r) (A (S l)).values (A (S l)).bits l.loop-left.r) u.put_outer.ensures.1 u.put_outer.ensures.0 (used-kept (S l).args.width _ _ _ _ k.0 k.1.1.1.1.1.1.1.0) k.1.0 k.1.1.0 k.1.1.1.0,
       h.0 ∙ l.loop-left.invariant.1,
       h.1.1.1.0 ∙ l.loop-left.invariant.2,
@@ -173,13 +173,13 @@ loop-left-preserved c =
     )
 
 shape_of-out_offsets : tie.Need-shape_of-out_offsets invariant-loop-left decreases-loop-left
-shape_of-out_offsets c = c.loop-left.invariant.1 ∙ (outer₀ c.before).put_offset.kept.1.0
+shape_of-out_offsets c = c.loop-left.invariant.1 ∙ (outer₀ c.before).put_offset.auto.narrow
 
 shape_of-out_rows : tie.Need-shape_of-out_rows invariant-loop-left decreases-loop-left
 shape_of-out_rows c = c.loop-left.invariant.0.lr
 
 shape_of-inner_offsets : tie.Need-shape_of-inner_offsets invariant-loop-left decreases-loop-left
-shape_of-inner_offsets c = c.loop-left.invariant.3 ∙ (inner₀ c.before).put_offset-2.kept.1.0
+shape_of-inner_offsets c = c.loop-left.invariant.3 ∙ (inner₀ c.before).put_offset-2.auto.narrow
 
 shape_of-inner_rows : tie.Need-shape_of-inner_rows invariant-loop-left decreases-loop-left
 shape_of-inner_rows c = c.loop-left.invariant.0.lj
@@ -191,10 +191,10 @@ shape_of-out_elements : tie.Need-shape_of-out_elements invariant-loop-left decre
 shape_of-out_elements c = c.loop-left.invariant.0.le
 
 shape_of-out_large : tie.Need-shape_of-out_large invariant-loop-left decreases-loop-left
-shape_of-out_large c = c.loop-left.invariant.2 ∙ (outer₀ c.before).put_offset.kept.1.1.0
+shape_of-out_large c = c.loop-left.invariant.2 ∙ (outer₀ c.before).put_offset.auto.wide
 
 shape_of-inner_large : tie.Need-shape_of-inner_large invariant-loop-left decreases-loop-left
-shape_of-inner_large c = c.loop-left.invariant.4 ∙ (inner₀ c.before).put_offset-2.kept.1.1.0
+shape_of-inner_large c = c.loop-left.invariant.4 ∙ (inner₀ c.before).put_offset-2.auto.wide
 
 returns : tie.Need-returns invariant-loop-left decreases-loop-left
 returns c =

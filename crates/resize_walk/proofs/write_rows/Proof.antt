@@ -178,7 +178,7 @@ loop-left-preserved c =
     (walk_more (W l) (count l) (made f) (inside f).loop-left-test.true (same_row f) l.loop-left.invariant.0 w.put_row-at.ensures c.put_offset-in-loop-left.ensures, c.put_offset-in-loop-left.auto.narrow ∙ l.loop-left.invariant.1, c.put_offset-in-loop-left.auto.wide ∙ l.loop-left.invariant.2)
 
 shape_of-out_offsets : tie.Need-shape_of-out_offsets invariant-loop-left decreases-loop-left
-shape_of-out_offsets c = c.loop-left.invariant.1 ∙ (put c.before).put_offset.kept.1.0
+shape_of-out_offsets c = c.loop-left.invariant.1 ∙ (put c.before).put_offset.auto.narrow
 
 shape_of-out_rows : tie.Need-shape_of-out_rows invariant-loop-left decreases-loop-left
 shape_of-out_rows c = c.loop-left.invariant.0.lr
@@ -190,7 +190,7 @@ shape_of-out_elements : tie.Need-shape_of-out_elements invariant-loop-left decre
 shape_of-out_elements c = c.loop-left.invariant.0.le
 
 shape_of-out_large : tie.Need-shape_of-out_large invariant-loop-left decreases-loop-left
-shape_of-out_large c = c.loop-left.invariant.2 ∙ (put c.before).put_offset.kept.1.1.0
+shape_of-out_large c = c.loop-left.invariant.2 ∙ (put c.before).put_offset.auto.wide
 
 returns : tie.Need-returns invariant-loop-left decreases-loop-left
 returns c =

@@ -98,7 +98,7 @@ loop-left-preserved c =
     walk_more (W q.before.before.before) (count q.before.before.before) (made q) q.loop-left-test.true (same_row q) q.loop-left.invariant c.put_row-at.ensures c.put_offset-in-loop-left.ensures
 
 shape_of-out_offsets : tie.Need-shape_of-out_offsets invariant-loop-left decreases-loop-left
-shape_of-out_offsets c = c.loop-left.invariant.lo ∙ (put c.before).put_offset.kept.0
+shape_of-out_offsets c = c.loop-left.invariant.lo ∙ (put c.before).put_offset.auto.out
 
 shape_of-out_rows : tie.Need-shape_of-out_rows invariant-loop-left decreases-loop-left
 shape_of-out_rows c = c.loop-left.invariant.lr

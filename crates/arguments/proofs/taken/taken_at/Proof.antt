@@ -17,7 +17,7 @@ cell_at-requires c κs = let s = c.requires.0 (not-false c.args.on c.if-not-on.f
 
 returns : tie.Need-returns
 unfolding taken_at
-returns c = rw (not-false c.args.on c.if-not-on.false-raw, ← c.before.IsPlace-in.ensures) c.Cell-at.ensures
+returns c = rw (not-false c.args.on c.if-not-on.false-raw, ← c.before.IsPlace-in.ensures) c.cell_at.ensures
 
 pub taken_at_spec : {M : Type 1} → statement M
 taken_at_spec =

@@ -142,7 +142,7 @@ shape_of-o : tie.Need-shape_of-o
 shape_of-o c =
     let k = (generic-set-lists-of-slice-known4 c).generic_set_lists in
     let s = start-of-slice-known4 c in
-    whole k.last.1.1.1.1.1.1.1.1.1.1.1.1.1.0 s.args.o.now s.args.mo s.requires.1.1.0 k.kept.1.1.1.1.1.1.1.1.1.1.1.1.1.0
+    whole k.last.1.1.1.1.1.1.1.1.1.1.1.1.1.0 s.args.o.now s.args.mo s.requires.1.1.0 k.auto.out_offsets
 
 shape_of-out_rows : tie.Need-shape_of-out_rows
 shape_of-out_rows c = (generic-set-lists-of-slice-known4 c).generic_set_lists.auto.out_rows
@@ -151,7 +151,7 @@ shape_of-v : tie.Need-shape_of-v
 shape_of-v c =
     let k = (generic-set-lists-of-slice-known4 c).generic_set_lists in
     let s = start-of-slice-known4 c in
-    whole k.last.1.1.1.1.1.1.1.1.1.1.1.1.1.1.1.0 s.args.v.now s.args.mv s.requires.1.1.1 k.kept.1.1.1.1.1.1.1.1.1.1.1.1.1.1.1.0
+    whole k.last.1.1.1.1.1.1.1.1.1.1.1.1.1.1.1.0 s.args.v.now s.args.mv s.requires.1.1.1 k.auto.out_values
 
 shape_of-out_elements : tie.Need-shape_of-out_elements
 shape_of-out_elements c = (generic-set-lists-of-slice-known4 c).generic_set_lists.auto.out_elements
@@ -162,7 +162,7 @@ returns c =
     let s = start-of-slice-known4 c in
     let d = (get-list-of-slice-known4 c).get_list.ensures in
     let e = (get-list2-of-slice-known4 c).get_list-2.ensures in
-    list_ran s.args.mo s.args.mv s.args.o.now s.args.v.now k.ensures k.kept.1.1.1.1.1.1.1.1.1.1.1.1.1.0 k.kept.1.1.1.1.1.1.1.1.1.1.1.1.1.1.1.0 s.requires.1.1.0 s.requires.1.1.1
+    list_ran s.args.mo s.args.mv s.args.o.now s.args.v.now k.ensures k.auto.out_offsets k.auto.out_values s.requires.1.1.0 s.requires.1.1.1
     (set_decoded _ _ _ d.offsets d.values (length-take-le _ _ s.requires.1.1.1) s.args.op _ _ _ e.offsets e.values (length-take-le _ _ s.requires.1.1.0))
 
 pub run_spec : {M : Type 1} → statement M

@@ -3,7 +3,6 @@ use Prim.Native.Nat.{◌+◌, ◌≤◌}
 use lib.ListN.{length}
 use mathlib.Core.Bool.{not}
 use mathlib.Core.List.{[]}
-use mathlib.Core.Logic.{⊎_elim}
 use mathlib.Core.Path.{◌≡◌, refl, sym, ap, ◌∙◌}
 use Rattle.column.proofs.WriteLaws.{Writing, begun, skipped, written, room, done}
 use Rattle.model.specs.Column.{elem_at}
@@ -14,6 +13,7 @@ use Rattle.set_elements.proofs.ElementLaws.{later, later_all, later-none, later_
 use Rattle.model.specs.Elements.{distinct}
 use Rattle.hash_tables.proofs.TableLaws.{table_none, table_all, within_none, within_more, turned_back}
 use Rattle.hash_rows.proofs.distinct.write_new.Statement.{statement}
+use Rattle.hash_rows.proofs.distinct.write_new.Lts.{then-enter, else-enter}
 use Rattle.hash_rows.proofs.distinct.write_new.Tie as tie
 
 abbrev invariant-loop-left : tie.invariant-loop-left
@@ -69,10 +69,10 @@ loop-left-preserved c =
     let E = elem_at c.args.values.now (from c.args.estart c.args.elements.now) in
     let n = c.enter in
     let among = sym (turned_back n.ensures.0) in (
-      ⊎_elim
-          (λ w. rw w.9 (written l.invariant.0 _ _ (later_new E c.args.a l.k l.left c.loop-left-test.true (among ∙ ap not w.0.taken)) (w.7 ∙ w.3.ensures.0) (w.8 ∙ w.3.ensures.1)))
-          (λ w. rw (w.1, w.2, w.3) (skipped l.invariant.0 _ (later_old E c.args.a l.k l.left c.loop-left-test.true (among ∙ ap not w.0.left))))
-          c.if-enter.branch,
+      elim c.if-enter.branch [
+        then-enter w ↦ rw w.p-is (written l.invariant.0 _ _ (later_new E c.args.a l.k l.left c.loop-left-test.true (among ∙ ap not w.if-enter.true)) (w.out_values-is ∙ w.write_elem.ensures.0) (w.out_elements-is ∙ w.write_elem.ensures.1))
+      | else-enter w ↦ rw (w.out_values-is, w.out_elements-is, w.p-is) (skipped l.invariant.0 _ (later_old E c.args.a l.k l.left c.loop-left-test.true (among ∙ ap not w.if-enter.false)))
+      ],
       omega (arith, c),
       n.ensures.1.0,
       within_more l.invariant.3 n.ensures.1.1,

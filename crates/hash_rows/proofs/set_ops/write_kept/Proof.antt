@@ -3,7 +3,6 @@ use Prim.Native.Nat.{◌+◌, ◌≤◌}
 use lib.ListN.{length}
 use mathlib.Core.Bool.{not}
 use mathlib.Core.List.{[]}
-use mathlib.Core.Logic.{⊎_elim}
 use mathlib.Core.Path.{◌≡◌, refl, sym, ap, ◌∙◌}
 use Rattle.column.proofs.WriteLaws.{Writing, begun, skipped, written, room, done}
 use Rattle.model.specs.Column.{elem_at}
@@ -14,6 +13,7 @@ use Rattle.set_elements.specs.Pairs.{kept}
 use Rattle.set_rows.proofs.SetLaws.{kept_later, kept_all, kept-none, kept-taken, kept_passed}
 use Rattle.hash_tables.proofs.TableLaws.{table_none, table_before, within_none, within_more}
 use Rattle.hash_rows.proofs.set_ops.write_kept.Statement.{statement}
+use Rattle.hash_rows.proofs.set_ops.write_kept.Lts.{then-is_kept, else-is_kept}
 use Rattle.hash_rows.proofs.set_ops.write_kept.Tie as tie
 
 abbrev invariant-loop-left : tie.invariant-loop-left
@@ -74,10 +74,10 @@ loop-left-preserved c =
     let E = elem_at c.args.values.now (from c.args.estart c.args.elements.now) in
     let n = c.is_kept in
     let keeps = n.ensures.0 in (
-      ⊎_elim
-          (λ w. rw w.9 (written l.invariant.0 _ _ (kept-taken c.args.shared O E c.args.a l.k l.left c.loop-left-test.true keeps w.0.taken) (w.7 ∙ w.3.ensures.0) (w.8 ∙ w.3.ensures.1)))
-          (λ w. rw (w.1, w.2, w.3) (skipped l.invariant.0 _ (kept_passed c.args.shared O E c.args.a l.k l.left c.loop-left-test.true keeps w.0.left)))
-          c.if-is_kept.branch,
+      elim c.if-is_kept.branch [
+        then-is_kept w ↦ rw w.p-is (written l.invariant.0 _ _ (kept-taken c.args.shared O E c.args.a l.k l.left c.loop-left-test.true keeps w.if-is_kept.true) (w.out_values-is ∙ w.write_elem.ensures.0) (w.out_elements-is ∙ w.write_elem.ensures.1))
+      | else-is_kept w ↦ rw (w.out_values-is, w.out_elements-is, w.p-is) (skipped l.invariant.0 _ (kept_passed c.args.shared O E c.args.a l.k l.left c.loop-left-test.true keeps w.if-is_kept.false))
+      ],
       omega (arith, c),
       n.ensures.1.0,
       within_more l.invariant.3 n.ensures.1.1,

@@ -75,7 +75,7 @@ returns c =
     let e = passed c in
     let s = S e.before in
     let w = (wrote c).after_three in
-    walked (distinct_goes (C s) (length s.args.area.now) (R s) _ e.list_refusal-k.ensures e.if-k-ne0.false ∙ ap (λ (j : ℕ). hash_after Distinct (C s) (C s) j (R s)) (sym (clears e.before).clear_area.kept.0)) w.ensures.0 w.ensures.1 (w.kept.1.1.1.1.1.1.1.1.1.1.1.1.1.1.1.1.1.0 ∙ (clears e.before).clear_area.kept.0)
+    walked (distinct_goes (C s) (length s.args.area.now) (R s) _ e.list_refusal-k.ensures e.if-k-ne0.false ∙ ap (λ (j : ℕ). hash_after Distinct (C s) (C s) j (R s)) (sym (clears e.before).clear_area.auto.area)) w.ensures.0 w.ensures.1 (w.auto.area ∙ (clears e.before).clear_area.auto.area)
 
 pub general_array_distinct_hashed_spec : {M : Type 1} → statement M
 general_array_distinct_hashed_spec =

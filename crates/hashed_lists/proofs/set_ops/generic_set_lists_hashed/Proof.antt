@@ -78,7 +78,7 @@ returns c =
     let s = S e.before in
     let o = s.args.set_op in
     let w = (wrote c).after_three in
-    walked (set_goes o (C s) (D s) (length s.args.area.now) (R s) _ (e.early-k.ensures.0 o) e.if-k-ne0.false (e.early-k.ensures.1 e.if-k-ne0.false).equal ∙ ap (λ (j : ℕ). hash_after (Pair o) (C s) (D s) j (R s)) (sym (clears e.before).clear_area.kept.0)) w.ensures.0 w.ensures.1 (w.kept.1.1.1.1.1.1.1.1.1.1.1.1.1.1.1.1.1.0 ∙ (clears e.before).clear_area.kept.0)
+    walked (set_goes o (C s) (D s) (length s.args.area.now) (R s) _ (e.early-k.ensures.0 o) e.if-k-ne0.false (e.early-k.ensures.1 e.if-k-ne0.false).equal ∙ ap (λ (j : ℕ). hash_after (Pair o) (C s) (D s) j (R s)) (sym (clears e.before).clear_area.auto.area)) w.ensures.0 w.ensures.1 (w.auto.area ∙ (clears e.before).clear_area.auto.area)
 
 pub generic_set_lists_hashed_spec : {M : Type 1} → statement M
 generic_set_lists_hashed_spec =

@@ -9,16 +9,16 @@ use Rattle.nullable_runs.proofs.put_bits.Tie as tie
 -- ---- places: the start, and what stands before a short run
 
 abbrev start : tie.Then-n-gt8 → tie.Start
-start t = t
+start t = t.before.before.before
 
 abbrev nulls : tie.After-push_copied → tie.After-put_nulls
 nulls p = p.before.before.before
 
 put_nulls-requires : tie.Need-put_nulls-requires
-put_nulls-requires c κs = let p = (start c).requires in (p.0, (p.1.0, p.1.1.0))
+put_nulls-requires c κs = let p = (start c.before).requires in (p.0, (p.1.0, p.1.1.0))
 
 push_copied-requires : tie.Need-push_copied-requires
-push_copied-requires c κs = let p = (start c).requires in (p.0, (p.1.0, (p.1.1.1.0, p.1.1.1.1)))
+push_copied-requires c κs = let p = (start c.before.before.before.before).requires in (p.0, (p.1.0, (p.1.1.1.0, p.1.1.1.1)))
 
 shape_of-out_values-then-n-gt8 : tie.Need-shape_of-out_values-then-n-gt8
 shape_of-out_values-then-n-gt8 c = (nulls c.before.before).put_nulls.auto.out

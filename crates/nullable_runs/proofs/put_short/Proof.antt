@@ -10,10 +10,10 @@ use Rattle.nullable_runs.proofs.put_short.Tie as tie
 -- ---- places: the start and the bits read, from what comes after
 
 abbrev start : tie.After-few_at-few → tie.Start
-start p = p
+start p = p.before.before.before
 
 abbrev few-of-nulls : tie.After-put_few → tie.After-few_at-few
-few-of-nulls p = p
+few-of-nulls p = p.before.before
 
 abbrev nulls-of-pushed : tie.After-push_few → tie.After-put_few
 nulls-of-pushed p = p.before.before.before
@@ -25,7 +25,7 @@ overflow_cast-few : tie.Need-overflow_cast-few
 overflow_cast-few c = omega (arith, c.few_at-few.type_inv)
 
 put_few-requires : tie.Need-put_few-requires
-put_few-requires c κs = let p = (start c).requires in (omega (arith, p.1.1.0), p.1.1.1.1.0)
+put_few-requires c κs = let p = (start c.before).requires in (omega (arith, p.1.1.0), p.1.1.1.1.0)
 
 push_few-requires : tie.Need-push_few-requires
 push_few-requires c κs = let f = few-of-nulls c.before.before in let p = (start f).requires in (p.1.0, (p.1.1.0, (f.few_at-few.ensures.1, p.1.1.1.1.1)))

@@ -17,10 +17,10 @@ use Rattle.nullable_runs.proofs.write_backward.Tie as tie
 -- ---- places: the start, the byte and the first bit of the run, and its values, from what comes after
 
 abbrev start-of-bits : tie.After-start_from-first → tie.Start
-start-of-bits p = p
+start-of-bits p = p.before.before.before.before
 
 abbrev bits-of-nulls : tie.After-put_nulls_back → tie.After-start_from-first
-bits-of-nulls p = p
+bits-of-nulls p = p.before.before.before.before.before
 
 abbrev nulls-of-pushed : tie.After-push_turned → tie.After-put_nulls_back
 nulls-of-pushed p = p.before.before.before
@@ -50,11 +50,11 @@ start_from-first-requires : tie.Need-start_from-first-requires
 start_from-first-requires c κs = c.requires.0.bits.small
 
 copy_backward-requires : tie.Need-copy_backward-requires
-copy_backward-requires c κs = let s = start-of-bits c in (s.requires.0.inside, (many s).0)
+copy_backward-requires c κs = let s = start-of-bits c.before in (s.requires.0.inside, (many s).0)
 
 put_nulls_back-requires : tie.Need-put_nulls_back-requires
 put_nulls_back-requires c κs =
-    (omega (arith, c.start_from-first.ensures), (covered c, omega (arith, (many (start-of-bits c)).0, c.copy_backward.auto.out)))
+    (omega (arith, c.start_from-first.ensures), (covered c.before.before.before.before, omega (arith, (many (start-of-bits c.before.before.before.before)).0, c.copy_backward.auto.out)))
 
 push_turned-requires : tie.Need-push_turned-requires
 push_turned-requires c κs =

@@ -17,13 +17,13 @@ use Rattle.nullable_runs.proofs.write_forward.Tie as tie
 -- ---- places: the start, the byte and the first bit of the run, and its values, from what comes after
 
 abbrev start-of-bits : tie.After-start_from-first → tie.Start
-start-of-bits p = p
+start-of-bits p = p.before.before.before.before
 
 abbrev values-of-bits : tie.After-put_bits → tie.After-copy_values
 values-of-bits p = p.before.before.before.before
 
 abbrev bits-of-values : tie.After-copy_values → tie.After-start_from-first
-bits-of-values p = p
+bits-of-values p = p.before.before
 
 module _ (s : tie.Start) where
   -- room for the values and the bits
@@ -50,7 +50,7 @@ start_from-first-requires : tie.Need-start_from-first-requires
 start_from-first-requires c κs = c.requires.0.bits.small
 
 copy_values-requires : tie.Need-copy_values-requires
-copy_values-requires c κs = let s = start-of-bits c in (s.requires.0.inside, (many s).0)
+copy_values-requires c κs = let s = start-of-bits c.before in (s.requires.0.inside, (many s).0)
 
 put_bits-requires : tie.Need-put_bits-requires
 put_bits-requires c κs =

@@ -1,4 +1,6 @@
 // The answers, their nulls counted in the bitmaps written. An inner crate: its callers meet what it asks.
+#![tactic(auto)]
+
 ghost use Rattle.std.specs.Prelude.{◌≤◌, length, ◌≡◌};
 ghost use Rattle.column.specs.Answers.{list_answer_from, value_answer_from};
 ghost use Rattle.model.specs.Bitmap.{bytes_for};

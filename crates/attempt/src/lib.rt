@@ -1,4 +1,6 @@
 // The call of a recipe, but for its trays and its tally. An inner crate: it asks nothing of its callers, who clear the trays.
+#![tactic(auto)]
+
 ghost use Rattle.model.specs.Inner.{lent_arguments_from, lent_at};
 ghost use Rattle.model.specs.Recipe.{stationed};
 ghost use Rattle.model.specs.Widths.{ListAnswersAt, limits_at, room_at};

@@ -1,5 +1,7 @@
 // Reverse and the pops of a list for which no bitmap is lent: no row and no element is null, so that the walk writes offsets and values alone,
 // and all bits are set after it. An inner crate: its callers meet what it asks.
+#![tactic(auto)]
+
 ghost use Rattle.std.specs.Prelude.{◌+◌, ◌≤◌, length, false, true, ◌≡◌};
 ghost use Rattle.bare_walk.specs.Bare.{WritesBare, WritesForm, bare_elems, bare_rows, copies, is_bare};
 ghost use Rattle.column.specs.Outputs.{FillsAt, RoomAt};

@@ -1,4 +1,6 @@
 // Runs of bits copied from any bit to any bit, and turned round, eight and sixty-four at a time. An inner crate: its callers meet what it asks.
+#![tactic(auto)]
+
 ghost use Rattle.std.specs.Prelude.{◌%◌, ◌*◌, ◌+◌, ◌/◌, ◌<◌, ◌^◌, ◌≤◌, length, reverse, ◌≡◌};
 ghost use Rattle.bit_words.specs.Words.{low_bits};
 ghost use Rattle.bitmap.specs.Push.{push_bits};

@@ -1,4 +1,6 @@
 // Words of 64 bits of a bitmap, read and written at any bit, and ones counted by them. An inner crate: its callers meet what it asks.
+#![tactic(auto)]
+
 ghost use Rattle.std.specs.Prelude.{◌%◌, ◌*◌, ◌+◌, ◌/◌, ◌<◌, ◌^◌, ◌≤◌, length, ◌≡◌};
 ghost use Rattle.bit_words.specs.Words.{low_bits};
 ghost use Rattle.bitmap.specs.Push.{push_bits, trues};

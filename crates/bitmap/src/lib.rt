@@ -1,4 +1,6 @@
 // Bits of a bitmap: bit i is bit i mod 8 of byte i div 8, bit 0 lowest. An inner crate: its callers meet what it asks.
+#![tactic(auto)]
+
 ghost use Rattle.std.specs.Prelude.{◌%◌, ◌+◌, ◌/◌, ◌<◌, ◌≤◌, length, ◌≡◌};
 ghost use Rattle.bitmap.specs.Push.{Covers, bits_from, push_bit};
 ghost use Rattle.model.specs.Bitmap.{bit_at, bytes_for, short_bits, valid_at};

@@ -1,5 +1,7 @@
 // The cases A to P of the scope document, run and compared: a line each.
 // Outputs hold 77 in every slot and 0xaa in every byte before a call, are one slot or more too long for the result, and are compared whole.
+#![tactic(auto)]
+
 mod remove;
 mod repeat;
 mod replace;

@@ -1,4 +1,6 @@
 // The refusals that every operation starts with, and the last one. An inner crate: its callers meet what it asks.
+#![tactic(auto)]
+
 ghost use Rattle.std.specs.Prelude.{◌<◌, ltb, ◌||◌, [], ◌∷◌, ◌≡◌};
 ghost use Rattle.model.specs.Asked.{asked_list, asked_values};
 ghost use Rattle.model.specs.Contract.{room, value_room};

@@ -3,3 +3,4 @@
 // returns and writes, where its number is below 100, are the bytes of what such a call ends in. proofs/Typed.antt says of each typed entry
 // that they are its numbers, proofs/Lending.antt has how much to lend, proofs/Views.antt ListView columns, proofs/Hashes.antt the operations
 // with a work area, and proofs/Large.antt says all of this of large lists.
+#![tactic(auto)]

@@ -1,4 +1,6 @@
 // Operation codes: the table of what each names, and what makes a recipe's numbers malformed. An inner crate.
+#![tactic(auto)]
+
 pub mod check;
 
 ghost use Rattle.codes.specs.Codes.{is_none, operation_of};

@@ -1,4 +1,6 @@
 // Reading, checking and writing list columns, slot by slot. An inner crate: its callers meet what it asks.
+#![tactic(auto)]
+
 pub mod elements;
 pub mod large;
 pub mod offsets;

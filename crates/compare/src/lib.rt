@@ -1,4 +1,6 @@
 // Whether an answer, or an output, is the one wanted: true exactly when the two are equal. Slices are compared whole.
+#![tactic(auto)]
+
 ghost use Rattle.compare.specs.Same.{Same};
 
 use model::{ListAnswer, RepeatAnswer, ValueAnswer};

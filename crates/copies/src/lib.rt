@@ -1,4 +1,6 @@
 // A column copied into result form, and trays cleared. An inner crate: its callers meet what it asks.
+#![tactic(auto)]
+
 ghost use Rattle.column.specs.Put.{Readable};
 ghost use Rattle.model.specs.Column.{rows_of};
 ghost use Rattle.model.specs.Inner.{lent_at, now_column_at};

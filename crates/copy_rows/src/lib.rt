@@ -1,4 +1,6 @@
 // The rows of a column, measured and written in result form. An inner crate: its callers meet what it asks.
+#![tactic(auto)]
+
 ghost use Rattle.std.specs.Prelude.{◌≤◌, length, ◌≡◌};
 ghost use Rattle.column.specs.Outputs.{FillsAt, ReadableRow, RoomAt, RoomForRow, WritesRow};
 ghost use Rattle.column.specs.Put.{Readable};

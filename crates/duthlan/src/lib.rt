@@ -4,6 +4,8 @@
 // with too few places. Whatever is refused changes no place of the outputs and the counts. Each bitmap is followed by its starting bit.
 // Beside each stands how much to lend for it (`.._lengths`, and `.._limits` of a recipe): the refusal that the call would give before 9, or
 // the lengths of its output slices, in their order, at the front of `lengths`; nothing else is written.
+#![tactic(auto)]
+
 pub mod grade;
 pub mod hash;
 pub mod lengths;

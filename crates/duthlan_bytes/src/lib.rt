@@ -3,6 +3,8 @@
 // call is accepted, with its counts, eight bytes each, at the front of `counts`; 1 to 10, 13 and 15 for its refusals; and
 // the entry's own, in this order: 102 for no such operation, 100 for a slice of numbers that ends within one or a short `counts`, 101 for
 // more numbers than the entries' arrays hold. Whatever is refused changes no byte of the outputs and the counts.
+#![tactic(auto)]
+
 ghost use Rattle.entry.specs.Entry.{ListEntry, ValueEntry, decoded_arguments_from, decoded_from, list_sizes, size, value_sizes};
 ghost use Rattle.entry_codes.specs.Calls.{set_call, unary_call, with_call};
 ghost use Rattle.entry_recipe.specs.Recipe.{RecipeEntry, pair_sizes, recipe_sizes};

@@ -5,6 +5,8 @@
 // followed by its starting bit.
 // Beside each stands how much to lend for it (`.._lengths`, and `.._limits` of a recipe): the refusal that the call would give before 9, or
 // the lengths of its output slices, in their order, at the front of `lengths`; nothing else is written.
+#![tactic(auto)]
+
 pub mod lengths;
 
 ghost use Rattle.entry_codes.specs.Calls.{one_call, set_call};

@@ -1,4 +1,6 @@
 // The operations of each C entry, by the table of codes. An inner crate.
+#![tactic(auto)]
+
 ghost use Rattle.entry_codes.specs.Calls.{one_of, plain_lent, plain_of, taking_lent, taking_of, unary_of, with_of};
 ghost use Rattle.std.specs.Prelude.{◌≡◌};
 

@@ -1,5 +1,7 @@
 // The C entry of recipes: the sizes are tested, the trays' numbers cleared, the recipe run, its tally and its answer encoded. An
 // inner crate.
+#![tactic(auto)]
+
 ghost use Rattle.entry.specs.Entry.{list_sizes, outsize, ragged, size};
 ghost use Rattle.entry_recipe.specs.Recipe.{RecipeEntry, pair_sizes, recipe_size_refusal, recipe_sizes};
 ghost use Rattle.model.specs.Basics.{any};

@@ -1,4 +1,6 @@
 // List-repeat, over bytes: its C entry. An inner crate: its callers meet what it asks.
+#![tactic(auto)]
+
 ghost use Rattle.std.specs.Prelude.{◌/◌, ◌≤◌, length, ◌++◌, ◌≡◌};
 ghost use Rattle.entry.specs.Entry.{decoded_arguments_from, decoded_from, list_sizes, most_offsets, most_rows, most_values, outsize, ragged, size, size_refusal, value_sizes};
 ghost use Rattle.entry.specs.Inner.{ListFits};

@@ -1,5 +1,7 @@
 // The C entry of the operations on one list that take argument columns: the code and the sizes are tested, slices decoded, the
 // operation run, its answer encoded. An inner crate: its callers meet what it asks.
+#![tactic(auto)]
+
 ghost use Rattle.std.specs.Prelude.{◌/◌, ◌≤◌, length, ◌++◌, ◌≡◌};
 ghost use Rattle.entry.specs.Entry.{ListEntry, decoded_arguments_from, decoded_from, list_sizes, most_offsets, most_rows, most_values, outsize, ragged, size, size_refusal, value_sizes};
 ghost use Rattle.entry.specs.Inner.{ListFits, ListRuns};

@@ -1,4 +1,6 @@
 // Grades: the grade of one row, those of a column's rows, and those of the rows at the front of an output. An inner crate: its callers meet what it asks.
+#![tactic(auto)]
+
 pub mod calls;
 
 ghost use Rattle.std.specs.Prelude.{◌-◌, ◌<◌, ◌≤◌, pos, get_or, length, ◌≡◌};

@@ -1,5 +1,7 @@
 // Grading units, above the library: one grade byte a row, of a list column or of what a recipe makes. Grade 0 is a null row, 1 a row without a
 // valid element, 2 one with a run of at least k adjacent valid equal elements, 3 any other.
+#![tactic(auto)]
+
 ghost use Rattle.grades.specs.Graded.{graded_lent, graded_tally};
 ghost use Rattle.model.specs.Contract.{Clears, GradeAnswers, GradesLent, ListAnswers, room_of};
 ghost use Rattle.model.specs.Grade.{grade_outcome};

@@ -1,5 +1,7 @@
 // What distinct, union and intersect with a work area test: how much of it the longest row or pair of rows needs, refusal 14, and 8. An inner
 // crate: its callers meet what it asks.
+#![tactic(auto)]
+
 ghost use Rattle.std.specs.Prelude.{◌+◌, ◌≤◌, max, ltb, ◌≡◌};
 ghost use Rattle.column.specs.Put.{Readable};
 ghost use Rattle.hash_checks.specs.Area.{most_needed, op_refusal, row_need};

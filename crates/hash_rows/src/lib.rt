@@ -1,5 +1,7 @@
 // What distinct, union and intersect make of one row or one pair of rows, by tables in a work area whose slots are 0 before and after; short
 // rows are compared element by element. An inner crate: its callers meet what it asks.
+#![tactic(auto)]
+
 mod distinct;
 mod set_ops;
 

@@ -1,5 +1,7 @@
 // The slots of a table of a row's elements in a lent work area: from slot o on n heads, then n links. A head or a link is one more than
 // the place of an element in its row, or 0. An inner crate: its callers meet what it asks.
+#![tactic(auto)]
+
 ghost use Rattle.std.specs.Prelude.{◌+◌, ◌<◌, ◌≤◌, length, replicate, ◌≡◌};
 ghost use Rattle.bitmap.specs.Push.{Covers};
 ghost use Rattle.hash_slots.specs.Slots.{CleanFrom, entered, head_of};

@@ -1,5 +1,7 @@
 // A table of the first occurrences of a row's elements, in the slots of a work area: each head begins a chain of elements, by their links.
 // Chains go strictly down, so that a walk along one ends. An inner crate: its callers meet what it asks.
+#![tactic(auto)]
+
 ghost use Rattle.std.specs.Prelude.{◌+◌, ◌<◌, ◌≤◌, length, not, ◌≡◌};
 ghost use Rattle.bitmap.specs.Push.{Covers};
 ghost use Rattle.column.specs.Outputs.{ReadableElems};

@@ -1,5 +1,7 @@
 // Distinct, union and intersect with a work area: one walk measures the pairs of rows, a second writes; distinct is lent its list on both
 // sides. The area is zero before and after each row. An inner crate: its callers meet what it asks.
+#![tactic(auto)]
+
 ghost use Rattle.std.specs.Prelude.{◌+◌, ◌≤◌, length, ◌≡◌};
 ghost use Rattle.column.specs.Outputs.{Fills, ReadableRow, RoomForRow, RoomIn, WritesRow};
 ghost use Rattle.column.specs.Put.{Readable};

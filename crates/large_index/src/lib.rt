@@ -1,5 +1,7 @@
 // Where an index points in a row, by signed 64-bit arithmetic: every index fits. An inner crate, for the operations above it; it asks nothing of them.
 // After extract.rs of datafusion-functions-nested 55.2.0, Apache License 2.0, Apache Software Foundation; changed, see NOTICE.
+#![tactic(auto)]
+
 pub mod slice;
 
 ghost use Rattle.std.specs.Prelude.{◌≤◌, T, ◌≡◌};

@@ -2,6 +2,8 @@
 // of its caller.
 // Beside each, under its name with _lengths, is what tells the lengths of the slices to lend for it: it refuses as the operation does
 // before 9, and writes nothing.
+#![tactic(auto)]
+
 pub mod extract;
 mod plain;
 pub mod remove;

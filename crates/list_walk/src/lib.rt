@@ -1,5 +1,7 @@
 // The operations on one list with up to three argument columns: the kind of operation is chosen once a call, and its walks measure the
 // rows and write them. An inner crate: its callers meet what it asks.
+#![tactic(auto)]
+
 pub mod large;
 mod totals;
 

@@ -1,5 +1,7 @@
 // What replace and remove make of row r of a list: its arguments, its length, and the row written. An inner crate: its callers meet what
 // it asks.
+#![tactic(auto)]
+
 pub mod remove;
 pub mod replace;
 

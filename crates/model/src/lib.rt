@@ -1,4 +1,5 @@
 // The answers of the operations and the names of those that a walk goes by. The definitions of document 01 stand in specs/.
+#![tactic(auto)]
 
 // The operations on one list without arguments.
 #[derive(Clone, Copy)]

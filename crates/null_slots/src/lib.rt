@@ -1,4 +1,6 @@
 // What null slots hold, written at the places of nulls after the values, bits read sixty-four and eight at a time. An inner crate: its callers meet what it asks.
+#![tactic(auto)]
+
 ghost use Rattle.std.specs.Prelude.{◌*◌, ◌+◌, ◌<◌, ◌^◌, ◌≤◌, length, not, map, reverse, ◌≡◌};
 ghost use Rattle.bit_words.specs.Words.{low_bits};
 ghost use Rattle.model.specs.Basics.{tab};

@@ -1,4 +1,6 @@
 // Runs of elements that may be null: values at once, what null slots hold, and bits by words. An inner crate: its callers meet what it asks.
+#![tactic(auto)]
+
 ghost use Rattle.std.specs.Prelude.{◌*◌, ◌+◌, ◌/◌, ◌<◌, ◌≤◌, length, reverse, ◌≡◌};
 ghost use Rattle.bitmap.specs.Push.{push_bits};
 ghost use Rattle.column.specs.Outputs.{ReadableElems, RoomForElems, Writes};

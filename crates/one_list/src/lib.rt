@@ -1,4 +1,6 @@
 // An operation on the carried list, its argument columns cut out of one slice. An inner crate: its callers meet what it asks.
+#![tactic(auto)]
+
 ghost use Rattle.std.specs.Prelude.{◌+◌, ◌≤◌, drop, length, take, ◌≡◌};
 ghost use Rattle.bitmap.specs.Push.{Covers};
 ghost use Rattle.column.specs.Put.{Readable};

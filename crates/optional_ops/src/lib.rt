@@ -1,4 +1,6 @@
 // Which operation slice and resize are, by whether the column that they may do without is lent. An inner crate.
+#![tactic(auto)]
+
 ghost use Rattle.optional_ops.specs.Made.{resize_by, slice_by};
 ghost use Rattle.std.specs.Prelude.{◌≡◌};
 

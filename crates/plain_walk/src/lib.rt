@@ -1,5 +1,7 @@
 // Reverse, distinct and the pops of a list, which take no arguments: one walk measures the rows, a second writes. An inner crate: its
 // callers meet what it asks.
+#![tactic(auto)]
+
 ghost use Rattle.std.specs.Prelude.{◌≤◌, length, ◌≡◌};
 ghost use Rattle.column.specs.Outputs.{FillsAt, ReadableElems, RoomAt, RoomForRow, WritesRow};
 ghost use Rattle.column.specs.Put.{Readable};

@@ -1,4 +1,6 @@
 // A recipe over bytes whose sizes are right: its inputs decoded, and the recipe run. An inner crate: its callers meet what it asks.
+#![tactic(auto)]
+
 ghost use Rattle.std.specs.Prelude.{◌≤◌, length, take, ◌≡◌};
 ghost use Rattle.entry.specs.Inner.{ListRuns};
 ghost use Rattle.model.specs.Contract.{room};

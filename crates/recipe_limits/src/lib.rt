@@ -1,4 +1,6 @@
 // How many elements a recipe brings at most into its trays and its output.
+#![tactic(auto)]
+
 pub mod large;
 mod limits;
 

@@ -1,4 +1,6 @@
 // What refuses a recipe before its steps. An inner crate: its callers meet what it asks.
+#![tactic(auto)]
+
 ghost use Rattle.std.specs.Prelude.{◌*◌, ◌≤◌, eqb, length, not, ◌≡◌};
 ghost use Rattle.model.specs.Column.{row_count};
 ghost use Rattle.model.specs.Inner.{lent_arguments_from, lent_at};

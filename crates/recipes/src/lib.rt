@@ -1,4 +1,6 @@
 // Recipes: chains of list operations through two lent trays, with a tally. A recipe, a tray and a tally are document 01's own terms.
+#![tactic(auto)]
+
 ghost use Rattle.model.specs.Contract.{Clears, ListAnswers, room_of};
 ghost use Rattle.model.specs.Tally.{tallied};
 ghost use Rattle.recipes.specs.Recipes.{recipe_lent};

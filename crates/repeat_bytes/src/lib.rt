@@ -1,4 +1,6 @@
 // List-repeat's answer as bytes. An inner crate: its callers meet what it asks.
+#![tactic(auto)]
+
 ghost use Rattle.std.specs.Prelude.{◌≤◌, length, [], ◌∷◌, ◌≡◌};
 ghost use Rattle.model.specs.Form.{over};
 ghost use Rattle.repeat_bytes.specs.Inner.{RepeatReady, RepeatSent};

@@ -1,5 +1,7 @@
 // List-repeat's counts, the walk that sums, and the outer rows that are written. An inner crate: its callers meet what it asks.
 // After repeat.rs of datafusion-functions-nested 55.2.0, Apache License 2.0, Apache Software Foundation; changed, see NOTICE.
+#![tactic(auto)]
+
 ghost use Rattle.std.specs.Prelude.{◌*◌, ◌+◌, ◌/◌, ◌<◌, ◌≤◌, ltb, pos, length, set, ◌≡◌};
 ghost use Rattle.bitmap.specs.Push.{Covers, push_bit};
 ghost use Rattle.model.specs.Bitmap.{valid_at};

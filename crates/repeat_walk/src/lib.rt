@@ -1,5 +1,7 @@
 // List-repeat: the walk that writes, after the sums are taken. An inner crate: its callers meet what it asks.
 // After repeat.rs of datafusion-functions-nested 55.2.0, Apache License 2.0, Apache Software Foundation; changed, see NOTICE.
+#![tactic(auto)]
+
 ghost use Rattle.std.specs.Prelude.{◌+◌, ◌<◌, ◌≤◌, length, replicate, ◌≡◌};
 ghost use Rattle.bitmap.specs.Push.{Covers};
 ghost use Rattle.column.specs.Outputs.{ReadableRow};

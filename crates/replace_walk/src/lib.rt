@@ -1,5 +1,7 @@
 // Replace, row by row: one walk measures the rows that are made, a second writes them. An inner crate: its callers meet
 // what it asks.
+#![tactic(auto)]
+
 ghost use Rattle.std.specs.Prelude.{◌≤◌, length, ◌≡◌};
 ghost use Rattle.arguments.specs.Taken.{Served};
 ghost use Rattle.column.specs.Outputs.{FillsAt, RoomAt};

@@ -1,5 +1,7 @@
 // Resize of a list, row by row: the walk that writes. What it makes is measured by the sum of the counts. An inner crate: its callers
 // meet what it asks.
+#![tactic(auto)]
+
 ghost use Rattle.std.specs.Prelude.{◌<◌, ◌≤◌, ltb, length, false, true, ◌≡◌};
 ghost use Rattle.arguments.specs.Taken.{Served, Serves};
 ghost use Rattle.bitmap.specs.Push.{Covers};

@@ -1,4 +1,6 @@
 // What reverse, distinct and the pops make of one row. An inner crate: its callers meet what it asks.
+#![tactic(auto)]
+
 mod reverse;
 
 ghost use Rattle.column.specs.Outputs.{ReadableElems, RoomForElems, Writes};

@@ -1,4 +1,6 @@
 // The arguments of a row, elements compared with them, and runs of elements copied. An inner crate: its callers meet what it asks.
+#![tactic(auto)]
+
 pub mod utils;
 
 // An argument of a row: a null or a value.

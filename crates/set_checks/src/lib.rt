@@ -1,6 +1,8 @@
 // What the operations on two lists check: refusals 13, 1, 2, 3 and 8, and which rows are valid in both. An inner crate: its callers meet
 // what it asks.
 // After set_ops.rs of datafusion-functions-nested 55.2.0, Apache License 2.0, Apache Software Foundation; changed, see NOTICE.
+#![tactic(auto)]
+
 ghost use Rattle.std.specs.Prelude.{◌<◌, eqb, ◌&&◌, [], ◌∷◌, ◌≡◌};
 ghost use Rattle.bitmap.specs.Push.{Covers};
 ghost use Rattle.model.specs.Bitmap.{valid_at};

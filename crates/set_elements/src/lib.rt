@@ -1,5 +1,7 @@
 // Two elements compared, of one column or of two: validity before value, and null equals null. An inner crate: its callers meet what it
 // asks.
+#![tactic(auto)]
+
 ghost use Rattle.std.specs.Prelude.{◌+◌, ◌<◌, ◌≤◌, length, false, ◌≡◌};
 ghost use Rattle.bitmap.specs.Push.{Covers};
 ghost use Rattle.model.specs.Column.{nul, val};

@@ -1,2 +1,4 @@
 // What union and intersect make of one pair of rows. An inner crate: its callers meet what it asks.
+#![tactic(auto)]
+
 pub mod set_ops;

@@ -1,4 +1,6 @@
 // Cases F to K and P of the scope document, slice and element, each run and compared: a part of the program `cases`, which is
 // checked in half the time beside it.
+#![tactic(auto)]
+
 pub mod extract;
 pub mod slice;

@@ -1,5 +1,7 @@
 // What a slice makes of row r of a list: which rows are null, the plan of a row, and the row written. An inner crate: its callers meet
 // what it asks.
+#![tactic(auto)]
+
 pub mod plans;
 pub mod validity;
 

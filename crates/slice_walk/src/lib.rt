@@ -1,5 +1,7 @@
 // Slices of the rows of one list, with and without strides: one walk measures the rows, a second writes. An inner crate: its callers
 // meet what it asks.
+#![tactic(auto)]
+
 ghost use Rattle.std.specs.Prelude.{◌≤◌, length, true, ◌≡◌};
 ghost use Rattle.arguments.specs.Taken.{Served};
 ghost use Rattle.column.specs.Outputs.{FillsAt, RoomAt};

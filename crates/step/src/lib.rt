@@ -1,4 +1,6 @@
 // One step of a recipe. An inner crate: its callers meet what it asks.
+#![tactic(auto)]
+
 ghost use Rattle.std.specs.Prelude.{◌+◌, ◌*◌, ◌≤◌, length, ◌≡◌};
 ghost use Rattle.codes.specs.Codes.{step};
 ghost use Rattle.column.specs.Put.{Readable};

@@ -1,4 +1,6 @@
 // A recipe's steps. An inner crate: its callers meet what it asks.
+#![tactic(auto)]
+
 ghost use Rattle.std.specs.Prelude.{◌+◌, ◌-◌, length};
 ghost use Rattle.model.specs.Basics.{tab};
 ghost use Rattle.model.specs.Column.{rows_of, shown_by};

@@ -1,4 +1,6 @@
 // A list stored place after place: values copied or filled in, and bytes. An inner crate: its callers meet what it asks.
+#![tactic(auto)]
+
 ghost use Rattle.std.specs.Prelude.{◌+◌, ◌<◌, ◌≤◌, pos, get_or, length, replicate, reverse, ◌≡◌};
 ghost use Rattle.model.specs.Basics.{pick, tab};
 ghost use Rattle.std.proofs.lemmas.List.Edits.{sets};

@@ -1,4 +1,6 @@
 // The sum of resize's counts, and what it comes to. An inner crate: its callers meet what it asks.
+#![tactic(auto)]
+
 ghost use Rattle.std.specs.Prelude.{◌≤◌, false, ◌≡◌};
 ghost use Rattle.sums.specs.Sums.{count_if, let_through, resize_measure, summed};
 ghost use Rattle.arguments.specs.Taken.{Serves};

@@ -1,4 +1,6 @@
 // The tally of recipes finished and recipes refused, station by station, which goes in with a call and comes back with its answer.
+#![tactic(auto)]
+
 ghost use Rattle.model.specs.Contract.{told};
 ghost use Rattle.model.specs.Tally.{finished_at, moved, named, one_more, refused_at};
 ghost use Rattle.tally.specs.Tallies.{tallied_by, tally_of};

@@ -1,5 +1,7 @@
 // The tally in bytes: the finished counts of stations 0 to 15, then their refused counts, eight bytes each. An inner crate: its callers
 // meet what it asks.
+#![tactic(auto)]
+
 ghost use Rattle.std.specs.Prelude.{◌+◌, ◌≤◌, length, ◌≡◌};
 ghost use Rattle.tally.specs.Tallies.{tally_of};
 ghost use Rattle.tally_bytes.specs.Bytes.{counts_from, tally_in, with_tally};

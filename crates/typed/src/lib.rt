@@ -1,5 +1,7 @@
 // What the typed C entries share: answers as the number that an entry returns, with the counts of an accepted call in a lent slice. A
 // refusal writes nothing. An inner crate: its callers meet what it asks.
+#![tactic(auto)]
+
 pub mod lengths;
 pub mod tallies;
 pub mod windows;

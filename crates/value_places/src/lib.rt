@@ -1,6 +1,8 @@
 // The operations that make one value a row, any-value and element: where the value of a row stands, and what refuses element before its
 // values are written. An inner crate: its callers meet what it asks.
 // After extract.rs of datafusion-functions-nested 55.2.0, Apache License 2.0, Apache Software Foundation; changed, see NOTICE.
+#![tactic(auto)]
+
 mod extract;
 
 ghost use Rattle.std.specs.Prelude.{◌+◌, ◌<◌, ◌≤◌, length, ◌≡◌};

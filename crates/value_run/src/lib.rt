@@ -1,5 +1,7 @@
 // Any-value and element, at either width. An inner crate: it asks nothing of its callers.
 // After extract.rs of datafusion-functions-nested 55.2.0, Apache License 2.0, Apache Software Foundation; changed, see NOTICE.
+#![tactic(auto)]
+
 ghost use Rattle.model.specs.Asked.{asked_values};
 ghost use Rattle.model.specs.Contract.{ValueAnswers};
 ghost use Rattle.model.specs.Inner.{lent_arguments_from, lent_at};

@@ -1,4 +1,6 @@
 // What refuses a ListView column, how many elements it copies, and what an export needs. An inner crate: its callers meet what it asks.
+#![tactic(auto)]
+
 ghost use Rattle.std.specs.Prelude.{◌<◌, length, ◌||◌, ◌≡◌};
 ghost use Rattle.model.specs.Basics.{pick};
 ghost use Rattle.model.specs.Bitmap.{short_bits};

@@ -1,5 +1,7 @@
 // Arrow ListView columns, one signed 32-bit offset and one size a row: read into list columns, and written from them. No public function asks
 // anything of its caller.
+#![tactic(auto)]
+
 ghost use Rattle.std.specs.Prelude.{◌≤◌, length};
 ghost use Rattle.column.specs.Outputs.{Fills, RoomIn};
 ghost use Rattle.column.specs.Put.{Readable};

@@ -1,4 +1,6 @@
 // The rows that a recipe is looked at for: 16, and what is cut out of each slice. An inner crate: its callers meet what it asks.
+#![tactic(auto)]
+
 ghost use Rattle.std.specs.Prelude.{◌+◌, ◌-◌, ◌≤◌, ltb, drop, length, take, ◌≡◌};
 ghost use Rattle.model.specs.Basics.{pick};
 ghost use Rattle.model.specs.Refusals.{or_else};

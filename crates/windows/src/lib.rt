@@ -1,4 +1,6 @@
 // A recipe looked at for a few rows, in the supervisor's words of document 02: no station is named, and no tally moves.
+#![tactic(auto)]
+
 ghost use Rattle.model.specs.Contract.{Clears, ListAnswers, room_of};
 ghost use Rattle.windows.specs.Windows.{window_lent};
 

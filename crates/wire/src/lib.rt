@@ -1,4 +1,6 @@
 // Numbers in bytes, little-endian, signed ones by two's complement: what the C entries take and give.
+#![tactic(auto)]
+
 ghost use Rattle.std.specs.Prelude.{◌≡◌, ◌+◌, ◌*◌, ◌/◌, ◌≤◌, ◌<◌, length};
 ghost use Rattle.std.proofs.lemmas.List.Edits.{sets};
 ghost use Rattle.std.proofs.Common.{to_z, of_z};

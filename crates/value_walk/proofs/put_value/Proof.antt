@@ -21,11 +21,10 @@ row_len-k-requires : tie.Need-row_len-k-requires
 row_len-k-requires c κs = search
 
 place_of-i-requires : tie.Need-place_of-i-requires
-place_of-i-requires c κs =
-    (
-      record { inside = omega (arith, c.requires.0.inside, c.row_len-k.ensures, ends c.before.before.before.before.before); bits = c.requires.0.elements },
-      (c.requires.1.0, (c.requires.0.there, omega (arith, c.requires.1.1.0, c.row_len-k.ensures, ends c.before.before.before.before.before))),
-    )
+place_of-i-requires c κs = (
+  record { inside = omega (arith, c.requires.0.inside, c.row_len-k.ensures, ends c.before.before.before.before.before); bits = c.requires.0.elements },
+  (c.requires.1.0, (c.requires.0.there, omega (arith, c.requires.1.1.0, c.row_len-k.ensures, ends c.before.before.before.before.before))),
+)
 
 overflow_add-a : tie.Need-overflow_add-a
 overflow_add-a c = omega (arith, c.requires.1.1.0, c.row_len-k.ensures, ends c.before.before.before.before.before.before, (limits-fit c.args.width).offset)

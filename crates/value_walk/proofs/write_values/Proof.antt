@@ -49,7 +49,7 @@ next : (i : tie.In-loop-left invariant-loop-left decreases-loop-left) → tab (W
 next i = tab-step (W i.before) i.loop-left.r i.loop-left.left i.loop-left-test.true
 
 -- the value that a turn makes is row r's
-same_row : (q : tie.After-offset_at-b invariant-loop-left decreases-loop-left) → 
+same_row : (q : tie.After-offset_at-b invariant-loop-left decreases-loop-left) →
     value_made (S q.before.before.before).args.op (row_from (C (S q.before.before.before)).rows (elem_at (C (S q.before.before.before)).values (C (S q.before.before.before)).elements) q.loop-left.r q.offset_at-a.result q.offset_at-b.result) (elem_at (S q.before.before.before).args.indexes.now (from (S q.before.before.before).args.istart (S q.before.before.before).args.index_bits.now) q.loop-left.r) ≡ W q.before.before.before q.loop-left.r
 same_row q =
     ap (λ (w : Row). value_made (S q.before.before.before).args.op w (elem_at (S q.before.before.before).args.indexes.now (from (S q.before.before.before).args.istart (S q.before.before.before).args.index_bits.now) q.loop-left.r)) (row_from_lem (C (S q.before.before.before)) q.loop-left.r q.offset_at-a.result q.offset_at-b.result q.offset_at-a.ensures.0 q.offset_at-b.ensures.0)

@@ -70,8 +70,8 @@ loop-left-preserved c =
     let n = c.enter in
     let among = sym (turned_back n.ensures.0) in (
       elim c.if-enter.branch [
-        then-enter w ↦ rw w.p-is (written l.invariant.0 _ _ (later_new E c.args.a l.k l.left c.loop-left-test.true (among ∙ ap not w.if-enter.true)) (w.out_values-is ∙ w.write_elem.ensures.0) (w.out_elements-is ∙ w.write_elem.ensures.1))
-      | else-enter w ↦ rw (w.out_values-is, w.out_elements-is, w.p-is) (skipped l.invariant.0 _ (later_old E c.args.a l.k l.left c.loop-left-test.true (among ∙ ap not w.if-enter.false)))
+        | then-enter w ↦ rw w.p-is (written l.invariant.0 _ _ (later_new E c.args.a l.k l.left c.loop-left-test.true (among ∙ ap not w.if-enter.true)) (w.out_values-is ∙ w.write_elem.ensures.0) (w.out_elements-is ∙ w.write_elem.ensures.1))
+        | else-enter w ↦ rw (w.out_values-is, w.out_elements-is, w.p-is) (skipped l.invariant.0 _ (later_old E c.args.a l.k l.left c.loop-left-test.true (among ∙ ap not w.if-enter.false)))
       ],
       omega (arith, c),
       n.ensures.1.0,

@@ -75,8 +75,8 @@ loop-left-preserved c =
     let n = c.is_kept in
     let keeps = n.ensures.0 in (
       elim c.if-is_kept.branch [
-        then-is_kept w ↦ rw w.p-is (written l.invariant.0 _ _ (kept-taken c.args.shared O E c.args.a l.k l.left c.loop-left-test.true keeps w.if-is_kept.true) (w.out_values-is ∙ w.write_elem.ensures.0) (w.out_elements-is ∙ w.write_elem.ensures.1))
-      | else-is_kept w ↦ rw (w.out_values-is, w.out_elements-is, w.p-is) (skipped l.invariant.0 _ (kept_passed c.args.shared O E c.args.a l.k l.left c.loop-left-test.true keeps w.if-is_kept.false))
+        | then-is_kept w ↦ rw w.p-is (written l.invariant.0 _ _ (kept-taken c.args.shared O E c.args.a l.k l.left c.loop-left-test.true keeps w.if-is_kept.true) (w.out_values-is ∙ w.write_elem.ensures.0) (w.out_elements-is ∙ w.write_elem.ensures.1))
+        | else-is_kept w ↦ rw (w.out_values-is, w.out_elements-is, w.p-is) (skipped l.invariant.0 _ (kept_passed c.args.shared O E c.args.a l.k l.left c.loop-left-test.true keeps w.if-is_kept.false))
       ],
       omega (arith, c),
       n.ensures.1.0,

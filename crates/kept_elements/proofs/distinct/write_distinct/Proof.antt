@@ -61,8 +61,8 @@ loop-left-preserved c =
     let E = elem_at c.args.values.now (from c.args.estart c.args.elements.now) in
     let among = sym c.is_among.ensures in (
       elim c.if-not-is_among.branch [
-        then-not-is_among w ↦ rw w.p-is (written l.invariant.0 _ _ (later_new E c.args.a l.k l.left c.loop-left-test.true (among ∙ w.if-not-is_among.true)) (w.out_values-is ∙ w.write_elem.ensures.0) (w.out_elements-is ∙ w.write_elem.ensures.1))
-      | else-not-is_among w ↦ rw (w.out_values-is, w.out_elements-is, w.p-is) (skipped l.invariant.0 _ (later_old E c.args.a l.k l.left c.loop-left-test.true (among ∙ w.if-not-is_among.false)))
+        | then-not-is_among w ↦ rw w.p-is (written l.invariant.0 _ _ (later_new E c.args.a l.k l.left c.loop-left-test.true (among ∙ w.if-not-is_among.true)) (w.out_values-is ∙ w.write_elem.ensures.0) (w.out_elements-is ∙ w.write_elem.ensures.1))
+        | else-not-is_among w ↦ rw (w.out_values-is, w.out_elements-is, w.p-is) (skipped l.invariant.0 _ (later_old E c.args.a l.k l.left c.loop-left-test.true (among ∙ w.if-not-is_among.false)))
       ],
       omega (arith, c),
     )

@@ -64,7 +64,7 @@ module _ (c : tie.After-before_match-run invariant-loop-most decreases-loop-most
 
 -- the run is written, and it was the last
 last : (c : tie.Then-run-left invariant-loop-most decreases-loop-most)
-    → 
+    →
     let l = l₁ c.before.before.before.before.before.before.before in Writesˡ (es l) (s l).args.at (s l).args.out_values.now c.write_forward-k.new.out_values (s l).args.out_elements.now c.write_forward-k.new.out_elements c.write_forward-k.result
 last c =
     last_written (l₁ c.before.before.before.before.before.before.before).loop-most.invariant.0 _ (all c.before.before.before.before.before.before.before c.if-run-left.true) c.write_forward-k.ensures

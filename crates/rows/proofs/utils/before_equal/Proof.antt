@@ -76,11 +76,10 @@ loop-r-smaller c = omega (arith, c.loop-r-test.true, c.before_value-r.ensures.in
 
 loop-r-preserved : tie.Need-loop-r-preserved invariant-loop-r decreases-loop-r
 unfolding elem_of
-loop-r-preserved c =
-    (
-      omega (arith, c.before_value-r.ensures.inside, c.if-r-n.false),
-      rw (back64 _ (start c.before.before.before).ranges.v.sfits) (below_more _ _ (passed c.before.before.before) (sym (rw (back64 _ (start c.before.before.before).ranges.v.sfits) at c.compare_element_to_list.ensures) ∙ c.if-compare_element_to_list.false)),
-    )
+loop-r-preserved c = (
+  omega (arith, c.before_value-r.ensures.inside, c.if-r-n.false),
+  rw (back64 _ (start c.before.before.before).ranges.v.sfits) (below_more _ _ (passed c.before.before.before) (sym (rw (back64 _ (start c.before.before.before).ranges.v.sfits) at c.compare_element_to_list.ensures) ∙ c.if-compare_element_to_list.false)),
+)
 
 returns : tie.Need-returns invariant-loop-r decreases-loop-r
 unfolding elem_of

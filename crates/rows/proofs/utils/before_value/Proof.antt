@@ -49,12 +49,11 @@ loop-r-smaller : tie.Need-loop-r-smaller invariant-loop-r decreases-loop-r
 loop-r-smaller c = search rules
 
 loop-r-preserved : tie.Need-loop-r-preserved invariant-loop-r decreases-loop-r
-loop-r-preserved c =
-    (
-      omega (arith, c),
-      below_more _ _ c.loop-r.invariant.1
-          (rw (back64 _ c.ranges.v.sfits) (sym (eq_bits _ _ (record { sfits = c.t10-1.given }) c.ranges.v) ∙ ne_eqb _ _ c.if-values-a.false)),
-    )
+loop-r-preserved c = (
+  omega (arith, c),
+  below_more _ _ c.loop-r.invariant.1
+      (rw (back64 _ c.ranges.v.sfits) (sym (eq_bits _ _ (record { sfits = c.t10-1.given }) c.ranges.v) ∙ ne_eqb _ _ c.if-values-a.false)),
+)
 
 returns : tie.Need-returns invariant-loop-r decreases-loop-r
 returns c =

@@ -33,7 +33,7 @@ shape_of-out_elements-in-Value c = search
 
 returns-in-Value : tie.Need-returns-in-Value
 unfolding elem_of
-returns-in-Value c = 
+returns-in-Value c =
     rw c.in-Value.is (rw (back64 _ c.in-Value.known_told-1-own.given.0.1) at c.write_value.ensures)
 
 pub write_cell_spec : {M : Type 1} → statement M

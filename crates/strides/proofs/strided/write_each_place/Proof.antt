@@ -56,7 +56,7 @@ overflow_sub-left c = omega (arith, c)
 
 place_after-p-requires : tie.Need-place_after-p-requires invariant-loop-left decreases-loop-left
 place_after-p-requires c κs =
-    λ h. 
+    λ h.
     let s = S c.before.before.before.before.before.before.before in
     rw (read_stride s) (follows (going c.before.before.before.before.before.before.before) _ s.requires.1.0.reach h s.requires.1.0.small)
 

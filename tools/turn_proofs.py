@@ -133,6 +133,8 @@ def turn_step(fn, head, step, rest):
         c = "auto"
     elif c == "ok":
         c = "type_inv"
+    elif c == "last" and step in fn.callee:
+        c = "new"
     loop = fn.loops.get(step)
     if loop and norm(c) in [norm(x) for x in loop[1]]:
         c = next(x for x in loop[1] if norm(x) == norm(c))

@@ -150,7 +150,7 @@ shape_of-o : tie.Need-shape_of-o
 shape_of-o c =
     let k = (general-list-repeat-of-slice-known6 c).general_list_repeat in
     let s = start-of-slice-known6 c in
-    whole k.last.1.1.1.1.1.1.1.1.1.0 s.args.o.now s.args.mo s.requires.1.1.0 k.auto.out_offsets
+    whole k.new.out_offsets s.args.o.now s.args.mo s.requires.1.1.0 k.auto.out_offsets
 
 shape_of-out_rows : tie.Need-shape_of-out_rows
 shape_of-out_rows c = (general-list-repeat-of-slice-known6 c).general_list_repeat.auto.out_rows
@@ -159,7 +159,7 @@ shape_of-io : tie.Need-shape_of-io
 shape_of-io c =
     let k = (general-list-repeat-of-slice-known6 c).general_list_repeat in
     let s = start-of-slice-known6 c in
-    whole k.last.1.1.1.1.1.1.1.1.1.1.1.0 s.args.io.now s.args.mi s.requires.1.1.1.0 k.auto.inner_offsets
+    whole k.new.inner_offsets s.args.io.now s.args.mi s.requires.1.1.1.0 k.auto.inner_offsets
 
 shape_of-inner_rows : tie.Need-shape_of-inner_rows
 shape_of-inner_rows c = (general-list-repeat-of-slice-known6 c).general_list_repeat.auto.inner_rows
@@ -168,7 +168,7 @@ shape_of-v : tie.Need-shape_of-v
 shape_of-v c =
     let k = (general-list-repeat-of-slice-known6 c).general_list_repeat in
     let s = start-of-slice-known6 c in
-    whole k.last.1.1.1.1.1.1.1.1.1.1.1.1.1.0 s.args.v.now s.args.mv s.requires.1.1.1.1 k.auto.out_values
+    whole k.new.out_values s.args.v.now s.args.mv s.requires.1.1.1.1 k.auto.out_values
 
 shape_of-out_elements : tie.Need-shape_of-out_elements
 shape_of-out_elements c = (general-list-repeat-of-slice-known6 c).general_list_repeat.auto.out_elements

@@ -208,7 +208,7 @@ shape_of-o : tie.Need-shape_of-o
 shape_of-o c =
     let k = (run-of-slice-known4 c).run in
     let s = start-of-slice-known4 c in
-    whole k.last.1.1.1.1.1.1.1.1.1.1.1.1.1.1.1.1.0 s.args.o.now s.args.mo s.requires.1.1.1.1.0 k.auto.out_offsets
+    whole k.new.out_offsets s.args.o.now s.args.mo s.requires.1.1.1.1.0 k.auto.out_offsets
 
 shape_of-out_rows : tie.Need-shape_of-out_rows
 shape_of-out_rows c = (run-of-slice-known4 c).run.auto.out_rows
@@ -217,7 +217,7 @@ shape_of-v : tie.Need-shape_of-v
 shape_of-v c =
     let k = (run-of-slice-known4 c).run in
     let s = start-of-slice-known4 c in
-    whole k.last.1.1.1.1.1.1.1.1.1.1.1.1.1.1.1.1.1.1.0 s.args.v.now s.args.mv s.requires.1.1.1.1.1 k.auto.out_values
+    whole k.new.out_values s.args.v.now s.args.mv s.requires.1.1.1.1.1 k.auto.out_values
 
 shape_of-out_elements : tie.Need-shape_of-out_elements
 shape_of-out_elements c = (run-of-slice-known4 c).run.auto.out_elements

@@ -86,7 +86,7 @@ module _ (c : tie.Else-run-left invariant-loop-most decreases-loop-most) where
   less : run m₁ < l₂.loop-most.left
   less = let f = few m₁ in let e = c.if-run-left.false in omega arith
 
-  copied : Writing (es l₂) (s l₂).args.at (s l₂).args.out_values.now (s l₂).args.out_elements.now (To l₂ ∷ replaced (l₂.loop-most.most - 1) (F l₂) (To l₂) (tab (E l₂) (l₂.loop-most.p + (run m₁ + 1)) (l₂.loop-most.left - (run m₁ + 1)))) w₁.write_forward-k.result w₁.write_forward-k.last.1.1.1.1.1.0 w₁.write_forward-k.last.1.1.1.1.1.1.0
+  copied : Writing (es l₂) (s l₂).args.at (s l₂).args.out_values.now (s l₂).args.out_elements.now (To l₂ ∷ replaced (l₂.loop-most.most - 1) (F l₂) (To l₂) (tab (E l₂) (l₂.loop-most.p + (run m₁ + 1)) (l₂.loop-most.left - (run m₁ + 1)))) w₁.write_forward-k.result w₁.write_forward-k.new.out_values w₁.write_forward-k.new.out_elements
   copied = run_written l₂.loop-most.invariant.0 (tab (E l₂) l₂.loop-most.p (run m₁)) _ (next m₁ c.if-run-left.false) w₁.write_forward-k.ensures
 
 -- the limit is spent: the rest is copied

@@ -112,21 +112,29 @@ module _ (ps : List Row) (w : Row) (qs : List Row) where
       let p : a ≤ 0 + length (flat ps) = pick_within (is_row w) (0 + length (flat ps)) in
       rw (begin_seam 0 ps w qs, size_seam ps w qs, le-ltb a 0 (omega arith), le-ltb s 0 (omega arith), le-ltb n a (omega (arith, total)), le-ltb n s (omega (arith, total)), le-ltb n (a + s) (omega (arith, total)))
 
+-- what is said of the rows from the next one on, said of those after the rows before with this one among them
+module _ (q : Row) (qs ps : List Row) where
+  longer : suc (length ps) ≡ length (ps ++ (q ∷ []))
+  longer = omega (arith, length-append ps (q ∷ []))
+
+  joined : (ps ++ (q ∷ [])) ++ qs ≡ ps ++ (q ∷ qs)
+  joined = append_assoc ps (q ∷ []) qs
+
+  next_rows : tab (view_at (viewed ((ps ++ (q ∷ [])) ++ qs))) (length (ps ++ (q ∷ []))) (length qs) ≡ qs → tab (view_at (viewed (ps ++ (q ∷ qs)))) (suc (length ps)) (length qs) ≡ qs
+  next_rows h = rw (longer, ← joined) h
+
+  next_none : any (view_outside (viewed ((ps ++ (q ∷ [])) ++ qs))) (tab (λ r. r) (length (ps ++ (q ∷ []))) (length qs)) ≡ false → any (view_outside (viewed (ps ++ (q ∷ qs)))) (tab (λ r. r) (suc (length ps)) (length qs)) ≡ false
+  next_none h = rw (longer, ← joined) h
+
 rows_seam : (qs ps : List Row) → tab (view_at (viewed (ps ++ qs))) (length ps) (length qs) ≡ qs
 unfolding tab
 rows_seam [] ps = refl
-rows_seam (q ∷ qs) ps =
-    let e : suc (length ps) ≡ length (ps ++ (q ∷ [])) = omega (arith, length-append ps (q ∷ [])) in
-    let j : (ps ++ (q ∷ [])) ++ qs ≡ ps ++ (q ∷ qs) = append_assoc ps (q ∷ []) qs in
-    rw (view_seam ps q qs) (ap (λ (r : List Row). q ∷ r) (rw (e, ← j) (rows_seam qs (ps ++ (q ∷ [])))))
+rows_seam (q ∷ qs) ps = rw (view_seam ps q qs) (ap (λ (r : List Row). q ∷ r) (next_rows q qs ps (rows_seam qs (ps ++ (q ∷ [])))))
 
 none_seam : (qs ps : List Row) → any (view_outside (viewed (ps ++ qs))) (tab (λ r. r) (length ps) (length qs)) ≡ false
 unfolding any tab
 none_seam [] ps = refl
-none_seam (q ∷ qs) ps =
-    let e : suc (length ps) ≡ length (ps ++ (q ∷ [])) = omega (arith, length-append ps (q ∷ [])) in
-    let j : (ps ++ (q ∷ [])) ++ qs ≡ ps ++ (q ∷ qs) = append_assoc ps (q ∷ []) qs in
-    rw (inside_seam ps q qs, e, ← j) (none_seam qs (ps ++ (q ∷ [])))
+none_seam (q ∷ qs) ps = rw (inside_seam ps q qs) (next_none q qs ps (none_seam qs (ps ++ (q ∷ []))))
 
 -- it shows them
 pub viewed_shows : (ws : List Row) → view_rows (viewed ws) ≡ ws

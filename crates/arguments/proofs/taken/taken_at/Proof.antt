@@ -13,11 +13,11 @@ place_in-i-requires : tie.Need-place_in-i-requires
 place_in-i-requires c κs = search
 
 cell_at-requires : tie.Need-cell_at-requires
-cell_at-requires c κs = let s = c.requires.0 (not-false c.args.on c.if-not-on.false-raw) in (s.bits, rw (← c.IsPlace-in.ensures) at (s.there c.args.r c.requires.1))
+cell_at-requires c κs = let s = c.requires.0 (not-false c.args.on c.if-not-on.false-raw) in (s.bits, rw (← c.place_in-i.ensures) at (s.there c.args.r c.requires.1))
 
 returns : tie.Need-returns
 unfolding taken_at
-returns c = rw (not-false c.args.on c.if-not-on.false-raw, ← c.before.IsPlace-in.ensures) c.cell_at.ensures
+returns c = rw (not-false c.args.on c.if-not-on.false-raw, ← c.before.place_in-i.ensures) c.cell_at.ensures
 
 pub taken_at_spec : {M : Type 1} → statement M
 taken_at_spec =

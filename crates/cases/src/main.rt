@@ -10,31 +10,31 @@ mod reverse;
 mod set_ops;
 
 use slice_cases::{extract, slice};
+use std::io;
 
-fn show(letter: &[u8], ok: bool) {
-    io::write_all(libc::STDOUT_FILENO, letter);
+fn show(rt: &impl Print, letter: &str, ok: bool) -> io::Result<()> {
     if ok {
-        io::write_all(libc::STDOUT_FILENO, b" ok\n");
+        println!(rt; "{letter} ok")
     } else {
-        io::write_all(libc::STDOUT_FILENO, b" differs\n");
+        println!(rt; "{letter} differs")
     }
 }
 
-fn main() {
-    show(b"A", reverse::case_a());
-    show(b"B", set_ops::case_b());
-    show(b"C", set_ops::case_c());
-    show(b"D", set_ops::case_d());
-    show(b"E", set_ops::case_e());
-    show(b"F", slice::case_f());
-    show(b"G", slice::case_g());
-    show(b"H", slice::case_h());
-    show(b"I", slice::case_i());
-    show(b"J", slice::case_j());
-    show(b"K", extract::case_k());
-    show(b"L", resize::case_l());
-    show(b"M", replace::case_m());
-    show(b"N", remove::case_n());
-    show(b"O", repeat::case_o());
-    show(b"P", slice::case_p());
+fn main(rt: HostRuntime) -> io::Result<()> {
+    show(&rt, "A", reverse::case_a())?;
+    show(&rt, "B", set_ops::case_b())?;
+    show(&rt, "C", set_ops::case_c())?;
+    show(&rt, "D", set_ops::case_d())?;
+    show(&rt, "E", set_ops::case_e())?;
+    show(&rt, "F", slice::case_f())?;
+    show(&rt, "G", slice::case_g())?;
+    show(&rt, "H", slice::case_h())?;
+    show(&rt, "I", slice::case_i())?;
+    show(&rt, "J", slice::case_j())?;
+    show(&rt, "K", extract::case_k())?;
+    show(&rt, "L", resize::case_l())?;
+    show(&rt, "M", replace::case_m())?;
+    show(&rt, "N", remove::case_n())?;
+    show(&rt, "O", repeat::case_o())?;
+    show(&rt, "P", slice::case_p())
 }

@@ -106,12 +106,19 @@ def turn_chain(fn, env, root, comps):
         if c in ("args", "ranges", "fits"):
             return turn_args(name + "." + ("args" if c == "args" else "ranges"), rest)
         if n in fn.steps:
+            if rest == ["given"] and fn.arm_field(at, n, ["given", "1"]):
+                # all that an arm binds, of which parts are named later
+                return name + "." + fn.steps[n] + ".given", ("given", (at, n), name)
             hit = fn.arm_field(at, n, rest)
             if hit:
                 arm, field, used = hit
                 return name + "." + arm + "." + field + "".join("." + x for x in rest[used:]), ("value", None, None)
             return turn_step(fn, name + "." + fn.steps[n], n, rest)
         return name + ".before" * i + "." + c + "".join("." + x for x in rest), ("value", None, None)
+    if kind == "given":
+        hit = fn.arm_field(at[0], at[1], ["given"] + comps)
+        if hit:
+            return name + "." + hit[0] + "." + hit[1] + "".join("." + x for x in (["given"] + comps)[hit[2] :]), ("value", None, None)
     if kind == "args":
         return turn_args(root, comps)
     if kind == "step":
@@ -365,7 +372,9 @@ def turn(fn, text, spec, landed):
                         env[bound] = ("place", results[root], bound)
                     continue
                 if not comps:
-                    if root in env and env[root][0] == "place" and env[root][2] != root and not re.match(r"\s*=", text[pos:]):
+                    if root in env and env[root][0] == "given" and not re.match(r"\s*=", text[pos:]):
+                        done += env[root][2] + "." + fn.steps[env[root][1][1]] + ".given"
+                    elif root in env and env[root][0] == "place" and env[root][2] != root and not re.match(r"\s*=", text[pos:]):
                         done += env[root][2]
                     else:
                         done += root
@@ -374,7 +383,7 @@ def turn(fn, text, spec, landed):
                 m = re.search(r"(?:let |^\s*)([\w'₀-₉]+) = $", done)
                 if m and re.match(r"\s+in\b", text[pos:]):
                     env[m.group(1)] = got
-                    if got[0] == "place":
+                    if got[0] in ("place", "given"):
                         # another name of a place that shows the same
                         done = done[: m.start()]
                         pos += re.match(r"\s+in\b[ ]?", text[pos:]).end()

@@ -31,8 +31,7 @@ push_bit-requires-in-Steps c κs = omega (arith, c.requires.1.1.1.rows)
 
 write_strided-requires : tie.Need-write_strided-requires
 write_strided-requires c κs =
-    let p = c.plan-1.given in
-    (c.requires.0, rw (back64 _ c.in-Steps.known_told-1-own.given.1.0.1) (steps_walk c.args.valid c.args.plan (E c.before.before.before.before.before.before.before.before.before.before) _ _ _ c.requires.1.0 p.1 _ c.requires.1.1.0, steps_room c.args.valid c.args.plan (E c.before.before.before.before.before.before.before.before.before.before) _ _ _ c.requires.1.0 p.1 c.requires.1.1.1))
+    (c.requires.0, rw (back64 _ c.in-Steps.known_told-1-own.given.1.0.1) (steps_walk c.args.valid c.args.plan (E c.before.before.before.before.before.before.before.before.before.before) _ _ _ c.requires.1.0 c.in-Steps.is _ c.requires.1.1.0, steps_room c.args.valid c.args.plan (E c.before.before.before.before.before.before.before.before.before.before) _ _ _ c.requires.1.0 c.in-Steps.is c.requires.1.1.1))
 
 enum_told-in-Refused : tie.Need-enum_told-in-Refused
 enum_told-in-Refused c = search
@@ -60,9 +59,8 @@ shape_of-out_elements c = search
 returns-in-Steps : tie.Need-returns-in-Steps
 unfolding is_row elems_of
 returns-in-Steps c =
-    let p = c.plan-1.given in
-    let q = steps_row c.args.valid c.args.plan (E c.before.before.before.before.before.before.before.before.before.before.before.before.before.before) _ _ _ c.requires.1.0 p.1 in
-    row_put _ true (sliced p.0.0 p.0.1.0 p.0.1.1.0 (E c.before.before.before.before.before.before.before.before.before.before.before.before.before.before)) (ap is_row q) (ap elems_of q) c.push_bit-in-Steps.ensures (rw (back64 _ c.in-Steps.known_told-1-own.given.1.0.1) at c.write_strided.ensures)
+    let q = steps_row c.args.valid c.args.plan (E c.before.before.before.before.before.before.before.before.before.before.before.before.before.before) _ _ _ c.requires.1.0 c.in-Steps.is in
+    row_put _ true (sliced c.in-Steps.start c.in-Steps.stride c.in-Steps.count (E c.before.before.before.before.before.before.before.before.before.before.before.before.before.before)) (ap is_row q) (ap elems_of q) c.push_bit-in-Steps.ensures (rw (back64 _ c.in-Steps.known_told-1-own.given.1.0.1) at c.write_strided.ensures)
 
 shape_of-out_rows-in-Refused : tie.Need-shape_of-out_rows-in-Refused
 shape_of-out_rows-in-Refused c = search

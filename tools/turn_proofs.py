@@ -28,6 +28,16 @@ class Function:
         old = [p[0] for p in v["places"]]
         self.parent = [old.index(p[1]) if p[1] else None for p in v["places"]]
         self.arms = v["arms"]
+        # a place inside of an arm stands for the arm's
+        for key, i in list(self.index.items()):
+            deeper = True
+            while deeper:
+                deeper = False
+                for j, a in enumerate(self.arms):
+                    if a and self.parent[j] == i and self.arms[i] and a[0] == self.arms[i][0] and a[1] == self.arms[i][1] + 1:
+                        i, deeper = j, True
+            self.index[key] = i
+        # a place that today's walk has no more: the one before the call
         self.steps, self.callee, self.facts = {}, {}, {}
         self.step_at = {}
         for i, p in enumerate(v["places"]):
@@ -43,6 +53,19 @@ class Function:
         self.needs = [tuple(x) for x in v["needs"]]
         self.asked_at = [self.index.get(norm(a[0])) for a in v["asked_at"]]
         self.params = v.get("params") or {}
+
+    def place(self, said):
+        n = norm(said)
+        if n in self.index:
+            return self.index[n]
+        m = re.match(r"(after-.*)-arg\d*$", n)
+        if m and m.group(1) in self.index:
+            return self.parent[self.index[m.group(1)]]
+        return None
+
+    def place_name(self, said):
+        i = self.place(said)
+        return self.names[i] if i is not None else said
 
     def need(self, said):
         n = norm(said)
@@ -115,6 +138,14 @@ def turn_chain(fn, env, root, comps):
                 return name + "." + arm + "." + field + "".join("." + x for x in rest[used:]), ("value", None, None)
             return turn_step(fn, name + "." + fn.steps[n], n, rest)
         return name + ".before" * i + "." + c + "".join("." + x for x in rest), ("value", None, None)
+    if kind == "auto":
+        step, member, first = at
+        k = 0
+        while k < len(comps) and comps[k] == "1":
+            k += 1
+        ps = fn.params.get(fn.callee[step])
+        if k < len(comps) and comps[k] == "0" and first + k < len(ps):
+            return name + "." + member + "." + ps[first + k] + "".join("." + x for x in comps[k + 1 :]), ("value", None, None)
     if kind == "given":
         hit = fn.arm_field(at[0], at[1], ["given"] + comps)
         if hit:
@@ -158,6 +189,9 @@ def turn_step(fn, head, step, rest):
         while k < len(more) and more[k] == "1":
             k += 1
         ps = fn.params.get(fn.callee[step])
+        if ps and k == len(more):
+            # several at once, of which one is named later
+            return head + "." + c + "".join("." + x for x in more), ("auto", (step, c, k), head)
         if ps and k < len(more) and more[k] == "0" and k < len(ps):
             return head + "." + c + "." + ps[k] + "".join("." + x for x in more[k + 1 :]), ("value", None, None)
     c = fn.facts.get(step, {}).get(c, c)
@@ -236,7 +270,7 @@ def turn(fn, text, spec, landed):
             args, res = binders(m.group(2))
             signatures[m.group(1)] = args
             if res:
-                results[m.group(1)] = fn.index.get(res)
+                results[m.group(1)] = fn.place(res)
     out = []
     module, inside = {}, None
     # what stands in a module takes the module's places first, seen from outside
@@ -245,7 +279,7 @@ def turn(fn, text, spec, landed):
         if b and not b[0].isspace():
             m = re.match(r"module _ (.*?) ?where", b)
             count += 1
-            at_module = [fn.index.get(norm(t)) for names, t in re.findall(r"\(([^():]+) : " + PLACE, m.group(1)) for _ in names.split()] if m else []
+            at_module = [fn.place(t) for names, t in re.findall(r"\(([^():]+) : " + PLACE, m.group(1)) for _ in names.split()] if m else []
         m = re.match(r"\s*(?:abbrev )?(?:pub )?([^\s(){}]+) :", b)
         if m and b[:1].isspace():
             taken[m.group(1)] = (count, at_module)
@@ -258,7 +292,7 @@ def turn(fn, text, spec, landed):
             if m:
                 for names, t in re.findall(r"\(([^():]+) : " + PLACE, m.group(1)):
                     for n in names.split():
-                        module[n] = ("place", fn.index.get(norm(t)), n)
+                        module[n] = ("place", fn.place(t), n)
         if b.startswith("use ") or b.startswith("--"):
             out.append(b)
             continue
@@ -274,13 +308,13 @@ def turn(fn, text, spec, landed):
             elif e.group(1) in signatures:
                 for v, at in zip(e.group(2).split(), signatures[e.group(1)]):
                     if at:
-                        env[v] = ("place", fn.index.get(at), v)
+                        env[v] = ("place", fn.place(at), v)
         for v, t in re.findall(r"\(([\w'₀-₉]+) : " + PLACE, b):
-            env[v] = ("place", fn.index.get(norm(t)), v)
+            env[v] = ("place", fn.place(t), v)
 
         def wants(name):
             """The places that a helper takes, seen from this block."""
-            own = [fn.index.get(x) if x else None for x in signatures.get(name, [])]
+            own = [fn.place(x) if x else None for x in signatures.get(name, [])]
             if name in taken:
                 where, ats = taken[name]
                 return own if where == count else list(ats) + own
@@ -383,7 +417,7 @@ def turn(fn, text, spec, landed):
                 m = re.search(r"(?:let |^\s*)([\w'₀-₉]+) = $", done)
                 if m and re.match(r"\s+in\b", text[pos:]):
                     env[m.group(1)] = got
-                    if got[0] in ("place", "given"):
+                    if got[0] in ("place", "given", "auto"):
                         # another name of a place that shows the same
                         done = done[: m.start()]
                         pos += re.match(r"\s+in\b[ ]?", text[pos:]).end()
@@ -410,7 +444,7 @@ def turn(fn, text, spec, landed):
         return "tie.Need-" + (fn.needs[hit][1] if hit is not None else m.group(1))
 
     text = re.sub(r"tie\.Need-(" + NAME + ")", need, text)
-    text = re.sub(PLACE, lambda m: "tie." + (fn.names[fn.index[norm(m.group(1))]] if norm(m.group(1)) in fn.index else m.group(1)), text)
+    text = re.sub(PLACE, lambda m: "tie." + fn.place_name(m.group(1)), text)
     for old, (new, _) in fn.loops.items():
         text = re.sub(r"\b(invariant|decreases)-" + re.escape(old) + r"(?![\w-])", lambda m: m.group(1) + "-@" + new, text)
     text = text.replace("-@", "-")

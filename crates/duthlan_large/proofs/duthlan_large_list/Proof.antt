@@ -17,11 +17,11 @@ ran c = c.before.before.before.before.before.before.before.before.before.before
 abbrev long : tie.After-slice_known-in-Of-3-1 → tie.Else-counts-lt4
 long c = (ran c).before.before.before.before.before
 
-abbrev named : tie.After-slice_known-in-Of-3-1 → tie.In-Of-2
+abbrev named : tie.After-slice_known-in-Of-3-1 → tie.In-Of
 named c = (long c).before
 
 abbrev looked : tie.After-slice_known-in-Of-3-1 → tie.After-one_of-named
-looked c = (named c).before
+looked c = (named c)
 
 -- ---- needs
 

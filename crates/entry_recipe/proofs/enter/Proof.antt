@@ -91,11 +91,11 @@ run-of-slice-known26 p = p.before.before.before.before.before.before.before.befo
 abbrev run-of-put-list-arg3 : tie.After-put_list-arg-3-1 → tie.After-run-done
 run-of-put-list-arg3 p = run-of-slice-known26 (slice-known26-of-put-tally-arg (put-tally-arg-of-put-list-arg3 p))
 
-abbrev get-tally-arg-of-run-arg6 : tie.After-run-arg-6-1 → tie.After-get-tally-arg
-get-tally-arg-of-run-arg6 p = p
+abbrev get-tally-arg-of-run-arg6 : tie.After-run-arg-6-1 → tie.Else-k-ne0
+get-tally-arg-of-run-arg6 p = p.before.before.before.before.before.before.before.before.before
 
-abbrev slice-known15-of-get-tally-arg : tie.After-get-tally-arg → tie.After-slice_known-15-1
-slice-known15-of-get-tally-arg p = p
+abbrev slice-known15-of-get-tally-arg : tie.Else-k-ne0 → tie.After-slice_known-15-1
+slice-known15-of-get-tally-arg p = p.before.before.before.before.before.before.before
 
 abbrev offsets-in2-of-slice-known15 : tie.After-slice_known-15-1 → tie.After-offsets_in-io
 offsets-in2-of-slice-known15 p = p.before.before.before.before.before.before.before.before
@@ -103,8 +103,8 @@ offsets-in2-of-slice-known15 p = p.before.before.before.before.before.before.bef
 abbrev offsets-in2-of-run-arg6 : tie.After-run-arg-6-1 → tie.After-offsets_in-io
 offsets-in2-of-run-arg6 p = offsets-in2-of-slice-known15 (slice-known15-of-get-tally-arg (get-tally-arg-of-run-arg6 p))
 
-abbrev one-offsets-of-get-tally-arg : tie.After-get-tally-arg → tie.After-one_offsets-1
-one-offsets-of-get-tally-arg p = p
+abbrev one-offsets-of-get-tally-arg : tie.Else-k-ne0 → tie.After-one_offsets-1
+one-offsets-of-get-tally-arg p = p.before.before.before.before.before.before.before.before
 
 abbrev values-in-of-one-offsets : tie.After-one_offsets-1 → tie.After-values_in-hv
 values-in-of-one-offsets p = p.before.before.before.before.before.before.before.before
@@ -211,8 +211,8 @@ slice-known25-of-slice-known28 p = p.before.before.before.before.before.before.b
 abbrev v-of-slice-known25 : tie.After-slice_known-21-1 → tie.After-v-1
 v-of-slice-known25 p = p.before.before.before.before.before.before.before.before
 
-abbrev get-tally-arg-of-v : tie.After-v-1 → tie.After-get-tally-arg
-get-tally-arg-of-v p = p
+abbrev get-tally-arg-of-v : tie.After-v-1 → tie.Else-k-ne0
+get-tally-arg-of-v p = p.before.before.before.before.before.before.before.before
 
 abbrev offsets-in2-of-slice-known32 : tie.After-slice_known-28-1 → tie.After-offsets_in-io
 offsets-in2-of-slice-known32 p = offsets-in2-of-slice-known15 (slice-known15-of-get-tally-arg (get-tally-arg-of-v (v-of-slice-known25 (slice-known25-of-slice-known28 (slice-known28-of-put-list-arg (put-list-arg-of-slice-known32 p))))))

@@ -69,10 +69,10 @@ put-list-arg-of-slice-known10 p = p.before.before.before.before.before.before.be
 abbrev run-of-put-list-arg : tie.After-put_list-arg-1 → tie.After-run-answer
 run-of-put-list-arg p = p.before.before.before.before.before.before.before.before.before
 
-abbrev named-of-run : tie.After-run-answer → tie.In-Of-2
+abbrev named-of-run : tie.After-run-answer → tie.In-Of
 named-of-run p = p.before.before.before.before.before.before.before
 
-abbrev named-of-slice-known10 : tie.After-slice_known-in-Of-5-1 → tie.In-Of-2
+abbrev named-of-slice-known10 : tie.After-slice_known-in-Of-5-1 → tie.In-Of
 named-of-slice-known10 p = named-of-run (run-of-put-list-arg (put-list-arg-of-slice-known10 p))
 
 abbrev put-list-arg3-of-slice-known10 : tie.After-slice_known-in-Of-5-1 → tie.After-put_list-arg-in-Of-2-1

@@ -54,7 +54,7 @@ R s = rows_refusal (N s) (call_of s.args.op (rows_of (C s)) (shown_by (X s)) (sh
 abbrev S : tie.After-total-total → tie.Start
 S t = t.before.before.before.before.before.before.before.before
 
-abbrev sum : tie.After-write_fitting-arg-in-Sum-4-1 → tie.In-Sum-2
+abbrev sum : tie.After-write_fitting-arg-in-Sum-4-1 → tie.In-Sum
 sum p = p.before.before.before.before.before
 
 abbrev written : tie.After-out_large-1 → tie.After-write_fitting
@@ -76,9 +76,9 @@ enum_known-total-in-Sum-1 c = search
 write_fitting-requires : tie.Need-write_fitting-requires
 unfolding let_through
 write_fitting-requires c κs =
-    let t = (sum c).before in
-    let s = S t in
-    let m = measure_sum (R s) (length (flat (W s))) _ (fitted (W s) (L s)) (sym (total_is t) ∙ (sum c).in-Sum.is) in
+    let t = (sum c) in
+    let s = S t.before in
+    let m = measure_sum (R s) (length (flat (W s))) _ (fitted (W s) (L s)) (sym (total_is t.before) ∙ (sum c).in-Sum.is) in
     (s.requires.0, (s.requires.1, (m.1, subst (λ x. let_through x ≤ (N s).offset) (sum c).in-Sum.is t.total-total.ensures.1)))
 
 returns-in-Refused : tie.Need-returns-in-Refused
@@ -103,9 +103,9 @@ shape_of-out_large c = search
 
 returns-in-Sum : tie.Need-returns-in-Sum
 returns-in-Sum c =
-    let t = (sum (written c).before).before in
-    let s = S t in
-    let m = measure_sum (R s) (length (flat (W s))) _ (fitted (W s) (L s)) (sym (total_is t) ∙ (sum (written c).before).in-Sum.is) in
+    let t = (sum (written c).before) in
+    let s = S t.before in
+    let m = measure_sum (R s) (length (flat (W s))) _ (fitted (W s) (L s)) (sym (total_is t.before) ∙ (sum (written c).before).in-Sum.is) in
     rw (laws.after_three_lem (N s) s.args.op (C s) (X s) (Y s) (Z s) (L s) s.requires.1, m.0) (written c).write_fitting.ensures
 
 pub after_three_spec : {M : Type 1} → statement M

@@ -47,8 +47,8 @@ W s = call_rows (N s) s.args.op (C s) (X s) (Y s) (Z s)
 abbrev has-room-of-write-rows-arg5 : tie.After-write_rows-arg-5-1 → tie.After-has_room
 has-room-of-write-rows-arg5 p = p.before.before.before.before.before.before
 
-abbrev write-rows-of-list-answer-arg2 : tie.After-list-answer-arg2 → tie.After-write_rows
-write-rows-of-list-answer-arg2 p = p
+abbrev write-rows-of-list-answer-arg2 : tie.After-out_large-1 → tie.After-write_rows
+write-rows-of-list-answer-arg2 p = p.before.before.before.before.before.before.before
 
 abbrev start-of-has-room : tie.After-has_room → tie.Start
 start-of-has-room p = p.before.before.before.before.before.before.before.before.before.before
@@ -56,17 +56,17 @@ start-of-has-room p = p.before.before.before.before.before.before.before.before.
 abbrev write-rows-of-list-answer : tie.After-list_answer → tie.After-write_rows
 write-rows-of-list-answer p = p.before.before.before.before.before.before.before.before
 
-abbrev out-rows-of-list-answer-arg2 : tie.After-list-answer-arg2 → tie.After-out_rows-1
-out-rows-of-list-answer-arg2 p = p
+abbrev out-rows-of-list-answer-arg2 : tie.After-out_large-1 → tie.After-out_rows-1
+out-rows-of-list-answer-arg2 p = p.before.before.before.before.before
 
 abbrev else1-of-out-rows : tie.After-out_rows-1 → tie.Else-not-has_room
 else1-of-out-rows p = p.before.before.before.before.before.before.before.before
 
-abbrev else1-of-list-answer-arg2 : tie.After-list-answer-arg2 → tie.Else-not-has_room
+abbrev else1-of-list-answer-arg2 : tie.After-out_large-1 → tie.Else-not-has_room
 else1-of-list-answer-arg2 p = else1-of-out-rows (out-rows-of-list-answer-arg2 p)
 
 abbrev else1-of-list-answer : tie.After-list_answer → tie.Else-not-has_room
-else1-of-list-answer p = else1-of-list-answer-arg2 p
+else1-of-list-answer p = else1-of-list-answer-arg2 p.before
 
 abbrev S : tie.After-has_room → tie.Start
 S h = start-of-has-room h
@@ -104,9 +104,9 @@ write_rows-requires c κs =
 list_answer-requires : tie.Need-list_answer-requires
 list_answer-requires c κs =
     let e = else1-of-list-answer-arg2 c in
-    let s = S e in
+    let s = S e.before in
     let r = roomy e in
-    (omega (arith, r.rows, rows_are e, (write-rows-of-list-answer-arg2 c).write_rows.auto.out_rows), omega (arith, r.elements, s.requires.1.1.0, (write-rows-of-list-answer-arg2 c).write_rows.auto.out_elements))
+    (omega (arith, r.rows, rows_are e.before, (write-rows-of-list-answer-arg2 c).write_rows.auto.out_rows), omega (arith, r.elements, s.requires.1.1.0, (write-rows-of-list-answer-arg2 c).write_rows.auto.out_elements))
 
 shape_of-out_offsets : tie.Need-shape_of-out_offsets
 shape_of-out_offsets c = search

@@ -27,7 +27,7 @@ Z s = arguments s.args.zs.now (from s.args.zstart s.args.zbits.now)
 abbrev S : tie.After-slice_known-2-1 → tie.Start
 S k = k.before.before.before.before.before.before.before
 
-abbrev plain_of : tie.After-write_rows-arg-in-Plain-4-1 → tie.In-Plain-2
+abbrev plain_of : tie.After-write_rows-arg-in-Plain-4-1 → tie.In-Plain
 plain_of c = c.before.before.before.before.before
 
 abbrev told2 : tie.After-write_rows-arg-in-Slice-5-1 → tie.In-Slice

@@ -27,8 +27,8 @@ R s = let a = s.args in repeat_room (length (used a.width a.out_offsets.now a.ou
 abbrev S : tie.After-has_room → tie.Start
 S h = h.before.before.before.before.before.before.before.before.before.before
 
-abbrev wrote : tie.After-repeat-answer-arg3 → tie.After-write_repeats
-wrote c = c
+abbrev wrote : tie.After-inner_large-1 → tie.After-write_repeats
+wrote c = c.before.before.before.before.before.before.before.before.before.before.before
 
 abbrev tested : tie.After-write_repeats-arg-8-1 → tie.Else-not-has_room
 tested p = p.before.before.before.before.before.before.before.before
@@ -75,37 +75,37 @@ repeat_answer-requires c κs =
     let e = tested (wrote c).before in
     let r = roomy e in
     let s = S e.before in
-    (omega (arith, r.rows, rows_are e.before, w.1.1.1.1.1.1.1.1.1.1.0), (omega (arith, r.lists.room.rows, s.requires.1.1.1.0, w.1.1.1.1.1.1.1.1.1.1.1.1.0), omega (arith, r.lists.room.elements, s.requires.1.1.1.1.0, w.1.1.1.1.1.1.1.1.1.1.1.1.1.1.0)))
+    (omega (arith, r.rows, rows_are e.before, @.write_repeats.auto.out_rows), (omega (arith, r.lists.room.rows, s.requires.1.1.1.0, @.write_repeats.auto.inner_rows), omega (arith, r.lists.room.elements, s.requires.1.1.1.1.0, @.write_repeats.auto.out_elements)))
 
 shape_of-out_offsets : tie.Need-shape_of-out_offsets
-shape_of-out_offsets c = (wrote c).write_repeats.auto.out_offsets
+shape_of-out_offsets c = (wrote c.before).write_repeats.auto.out_offsets
 
 shape_of-out_rows : tie.Need-shape_of-out_rows
-shape_of-out_rows c = (wrote c).write_repeats.auto.out_rows
+shape_of-out_rows c = (wrote c.before).write_repeats.auto.out_rows
 
 shape_of-inner_offsets : tie.Need-shape_of-inner_offsets
-shape_of-inner_offsets c = (wrote c).write_repeats.auto.inner_offsets
+shape_of-inner_offsets c = (wrote c.before).write_repeats.auto.inner_offsets
 
 shape_of-inner_rows : tie.Need-shape_of-inner_rows
-shape_of-inner_rows c = (wrote c).write_repeats.auto.inner_rows
+shape_of-inner_rows c = (wrote c.before).write_repeats.auto.inner_rows
 
 shape_of-out_values : tie.Need-shape_of-out_values
-shape_of-out_values c = (wrote c).write_repeats.auto.out_values
+shape_of-out_values c = (wrote c.before).write_repeats.auto.out_values
 
 shape_of-out_elements : tie.Need-shape_of-out_elements
-shape_of-out_elements c = (wrote c).write_repeats.auto.out_elements
+shape_of-out_elements c = (wrote c.before).write_repeats.auto.out_elements
 
 shape_of-out_large : tie.Need-shape_of-out_large
-shape_of-out_large c = (wrote c).write_repeats.auto.out_large
+shape_of-out_large c = (wrote c.before).write_repeats.auto.out_large
 
 shape_of-inner_large : tie.Need-shape_of-inner_large
-shape_of-inner_large c = (wrote c).write_repeats.auto.inner_large
+shape_of-inner_large c = (wrote c.before).write_repeats.auto.inner_large
 
 returns : tie.Need-returns
 returns c =
-    let e = tested (wrote c).before in
+    let e = tested (wrote c.before).before in
     let s = S e.before in
-    repeat_made (O s) _ _ _ (fitted-made (O s) (R s) (sym (room_is e.before) ∙ not-false _ e.if-not-has_room.false-raw)) (rows_are e.before) s.requires.1.1.1.0 s.requires.1.1.1.1.0 (wrote c).write_repeats.ensures c.repeat_answer.ensures
+    repeat_made (O s) _ _ _ (fitted-made (O s) (R s) (sym (room_is e.before) ∙ not-false _ e.if-not-has_room.false-raw)) (rows_are e.before) s.requires.1.1.1.0 s.requires.1.1.1.1.0 (wrote c.before).write_repeats.ensures c.repeat_answer.ensures
 
 pub fill_spec : {M : Type 1} → statement M
 fill_spec =

@@ -31,10 +31,10 @@ R s = let a = s.args in repeat_room (length (used a.width a.out_offsets.now a.ou
 abbrev filled : tie.After-inner_large-1 → tie.After-fill
 filled c = c.before.before.before.before.before.before.before.before.before.before.before
 
-abbrev told : tie.After-fill-arg-in-Of-7-1 → tie.In-Of-2
+abbrev told : tie.After-fill-arg-in-Of-7-1 → tie.In-Of
 told c = c.before.before.before.before.before.before.before.before
 
-abbrev summed : tie.In-Of-2 → tie.After-sum_repeats
+abbrev summed : tie.In-Of → tie.After-sum_repeats
 summed f = f.before
 
 abbrev S : tie.After-early-k → tie.Start

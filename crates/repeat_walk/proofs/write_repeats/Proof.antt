@@ -162,14 +162,12 @@ loop-left-preserved c =
     let u = put c in
     let p = copied-before u in
     let q = read p in
-    let l = L q in
-    let k = p.put_copies-at.auto.1.1.1.1.1.1.1.1.1.1 in
-    let h = u.put_outer.auto.1.1.1.1.1 in (
-      outer-more (M (S l)) (O l) (count l) (copies q) q.loop-left-test.true (same q) l.loop-left.invariant.0 _ _ (sym (length-replicate _ (row q))) p.put_copies-at.ensures _ (outer_valid (row_at (C (S l)) l.loop-left.r) (A (S l)).values (A (S l)).bits l.loop-left.r) u.put_outer.ensures.1 u.put_outer.ensures.0 (used-kept (S l).args.width _ _ _ _ k.0 k.1.1.1.1.1.1.1.0) k.1.0 k.1.1.0 k.1.1.1.0,
-      h.0 ∙ l.loop-left.invariant.1,
-      h.1.1.1.0 ∙ l.loop-left.invariant.2,
-      k.0 ∙ l.loop-left.invariant.3,
-      k.1.1.1.1.1.1.1.0 ∙ l.loop-left.invariant.4,
+    let l = L q in (
+      outer-more (M (S l)) (O l) (count l) (copies q) q.loop-left-test.true (same q) l.loop-left.invariant.0 _ _ (sym (length-replicate _ (row q))) p.put_copies-at.ensures _ (outer_valid (row_at (C (S l)) l.loop-left.r) (A (S l)).values (A (S l)).bits l.loop-left.r) u.put_outer.ensures.1 u.put_outer.ensures.0 (used-kept (S l).args.width _ _ _ _ p.put_copies-at.auto.inner_offsets p.put_copies-at.auto.inner_large) p.put_copies-at.auto.inner_rows p.put_copies-at.auto.out_values p.put_copies-at.auto.out_elements,
+      u.put_outer.auto.out_offsets ∙ l.loop-left.invariant.1,
+      u.put_outer.auto.out_large ∙ l.loop-left.invariant.2,
+      p.put_copies-at.auto.inner_offsets ∙ l.loop-left.invariant.3,
+      p.put_copies-at.auto.inner_large ∙ l.loop-left.invariant.4,
     )
 
 shape_of-out_offsets : tie.Need-shape_of-out_offsets invariant-loop-left decreases-loop-left

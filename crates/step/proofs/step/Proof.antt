@@ -18,10 +18,10 @@ use Rattle.step.proofs.step.Tie as tie
 abbrev S : tie.After-operation_of → tie.Start
 S c = c.before.before.before.before.before.before.before.before
 
-abbrev one : tie.After-one_list-arg-in-One-4-1 → tie.In-One-2
+abbrev one : tie.After-one_list-arg-in-One-4-1 → tie.In-One
 one c = c.before.before.before.before.before
 
-abbrev two : tie.After-after_three-arg-in-Two-4-1 → tie.In-Two-2
+abbrev two : tie.After-after_three-arg-in-Two-4-1 → tie.In-Two
 two c = c.before.before.before.before.before
 
 abbrev one-made : tie.After-out_large-1 → tie.After-one_list
@@ -54,8 +54,8 @@ enum_known-op c = search
 
 one_list-requires : tie.Need-one_list-requires
 one_list-requires c κs =
-    let m = (one c).before in
-    let s = S m in
+    let m = (one c) in
+    let s = S m.before in
     let a = s.args in
     (s.requires.0, (s.requires.1.0, (s.requires.1.1.0.bits, uses-one (T s) a.pitch a.n (length a.args.now) _ _ m.operation_of.ensures (one c).in-One.is s.requires.1.1.1.uses)))
 
@@ -63,7 +63,7 @@ enum_known-op-in-Two-1 : tie.Need-enum_known-op-in-Two-1
 enum_known-op-in-Two-1 c = search
 
 after_three-requires : tie.Need-after_three-requires
-after_three-requires c κs = let s = S (two c).before in (s.requires.0, (s.requires.1.1.0.second, s.requires.1.1.0.rows ∙ sym s.requires.1.0))
+after_three-requires c κs = let s = S (two c) in (s.requires.0, (s.requires.1.1.0.second, s.requires.1.1.0.rows ∙ sym s.requires.1.0))
 
 enum_told-1 : tie.Need-enum_told-1
 enum_told-1 c = search

@@ -20,8 +20,8 @@ use Rattle.step.proofs.step_from.Tie as tie
 abbrev S : tie.After-bytes_for-ne → tie.Start
 S c = c.before.before.before.before.before.before.before.before.before.before.before
 
-abbrev sized : tie.After-step-arg10 → tie.After-bytes_for-ne
-sized c = c
+abbrev sized : tie.After-step-arg-5-1 → tie.After-bytes_for-ne
+sized c = c.before.before.before.before.before
 
 abbrev called : tie.After-out_large-1 → tie.After-step
 called c = c.before.before.before.before.before.before.before
@@ -102,7 +102,7 @@ shape_of-out_large : tie.Need-shape_of-out_large
 shape_of-out_large c = search
 
 returns : tie.Need-returns
-returns c = let w = called c in rw (← taken (sized w)) w.step.ensures
+returns c = let w = called c in rw (← taken (sized w.before)) w.step.ensures
 
 pub step_from_spec : {M : Type 1} → statement M
 step_from_spec =

@@ -18,11 +18,11 @@ asked c = (told c).before.before
 abbrev long : tie.After-slice_known-in-Two-1 → tie.Else-lengths-lt4
 long c = (asked c).before
 
-abbrev named : tie.After-slice_known-in-Two-1 → tie.In-Two-2
+abbrev named : tie.After-slice_known-in-Two-1 → tie.In-Two
 named c = (long c).before
 
 abbrev looked : tie.After-slice_known-in-Two-1 → tie.After-operation_of-named
-looked c = (named c).before
+looked c = (named c)
 
 -- ---- needs
 

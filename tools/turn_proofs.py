@@ -357,7 +357,11 @@ def turn(fn, text, spec, landed):
                         new, got = turn_chain(fn, {"@": ("place" if place else "value", r, "@")}, "@", comps)
                     m = re.search(r"let ([\w'₀-₉]+) = $", src[:k])
                     if m and re.match(r"\s+in\b", text[pos:]):
-                        env[m.group(1)] = got if got[0] != "place" else ("place", got[1], m.group(1))
+                        if got[0] == "place":
+                            got = ("place", got[1], m.group(1))
+                        elif got[0] in ("auto", "given"):
+                            got = (got[0], got[1], src[k:] + got[2][1:])
+                        env[m.group(1)] = got
                     done += ")" + new[1:]
                     continue
                 want = wants(root) if not comps else []

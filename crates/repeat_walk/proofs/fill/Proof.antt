@@ -71,11 +71,10 @@ write_repeats-requires c κs = let e = tested c in let s = S e.before in (s.requ
 
 repeat_answer-requires : tie.Need-repeat_answer-requires
 repeat_answer-requires c κs =
-    let w = (wrote c).write_repeats.auto in
     let e = tested (wrote c).before in
     let r = roomy e in
     let s = S e.before in
-    (omega (arith, r.rows, rows_are e.before, @.write_repeats.auto.out_rows), (omega (arith, r.lists.room.rows, s.requires.1.1.1.0, @.write_repeats.auto.inner_rows), omega (arith, r.lists.room.elements, s.requires.1.1.1.1.0, @.write_repeats.auto.out_elements)))
+    (omega (arith, r.rows, rows_are e.before, (wrote c).write_repeats.auto.out_rows), (omega (arith, r.lists.room.rows, s.requires.1.1.1.0, (wrote c).write_repeats.auto.inner_rows), omega (arith, r.lists.room.elements, s.requires.1.1.1.1.0, (wrote c).write_repeats.auto.out_elements)))
 
 shape_of-out_offsets : tie.Need-shape_of-out_offsets
 shape_of-out_offsets c = (wrote c.before).write_repeats.auto.out_offsets

@@ -1,6 +1,5 @@
 use mathlib.Core.Path.{◌≡◌, refl, sym, ap, ◌∙◌}
 use mathlib.Core.Bool.{Bool}
-use mathlib.Core.Logic.{⊎_elim}
 use mathlib.Core.List.{List}
 use Prim.Native.Nat.{ℕ, ◌+◌, ◌-◌, ◌%◌}
 use native.Mathlib.Omega.{arith}
@@ -26,6 +25,7 @@ use Rattle.bit_words.specs.Words.{low_bits}
 use Rattle.slice_rows.specs.Sliced.{op_by, all_valid, op_if, NullEmpty}
 use Rattle.slice_walk.proofs.SliceLaws.{op_by_lem, no_resize, served_as, there, first-served, second-served, third-served, known, Held, held_none, held_anew, held_still, held_first, held_rest, op_chosen, null_empty, refusal-planned, count-planned}
 use Rattle.slice_walk.proofs.measure_rows.Statement.{statement}
+use Rattle.slice_walk.proofs.measure_rows.Lts.{then-known-eq0, else-known-eq0}
 use Rattle.slice_walk.proofs.measure_rows.Tie as tie
 
 abbrev invariant-loop-left : tie.invariant-loop-left
@@ -105,10 +105,10 @@ reads q =
 -- the bits that a turn holds
 holds : (j : tie.Joined-known-eq0 invariant-loop-left decreases-loop-left) → Held (G j.before.before.before) j.loop-left.r j.if-known-eq0.word j.if-known-eq0.known
 holds j =
-    ⊎_elim
-    (λ w. held_anew (G j.before.before.before) j.loop-left.r j.loop-left.left w.3 w.4 w.2.ensures w.1.ensures)
-    (λ w. held_still (G j.before.before.before) j.loop-left.r w.1 w.2 (omega (arith, w.0.left)) j.loop-left.invariant.2)
-    j.if-known-eq0.branch
+    elim j.if-known-eq0.branch [
+      | then-known-eq0 w ↦ held_anew (G j.before.before.before) j.loop-left.r j.loop-left.left w.word-is w.known-is w.batch-known.ensures w.valid_bits-word.ensures
+      | else-known-eq0 w ↦ held_still (G j.before.before.before) j.loop-left.r w.word-is w.known-is (omega (arith, w.if-known-eq0.false)) j.loop-left.invariant.2
+    ]
 
 -- ---- what is done to it
 

@@ -19,7 +19,7 @@ use Rattle.recipe_limits.proofs.limits_at.Tie as tie
 -- ---- places: the start; what the refusal, the first list's rows and the number of rows came after
 
 abbrev S : tie.After-refusal-k → tie.Start
-S c = c
+S c = c.before.before.before.before.before.before.before
 
 abbrev counted : tie.After-largest_offset-most → tie.After-row_count-n
 counted c = c.before

@@ -311,6 +311,9 @@ def turn(fn, text, spec, landed):
                         env[v] = ("place", fn.place(at), v)
         for v, t in re.findall(r"\(([\w'₀-₉]+) : " + PLACE, b):
             env[v] = ("place", fn.place(t), v)
+        # what 'let' binds is a value until it is seen to be a place
+        for v in re.findall(r"let ([\w'₀-₉]+)(?: :[^=\n]*)? = ", b):
+            env.setdefault(v, ("value", None, v))
 
         def wants(name):
             """The places that a helper takes, seen from this block."""

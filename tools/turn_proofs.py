@@ -398,6 +398,12 @@ def turn(fn, text, spec, landed):
                         arg = text[k:e]
                         done += text[pos:k]
                         pos = e
+                        call = re.match(r"(?s)(\(([^\s()]+) .*\))((?:\.before)*)$", arg)
+                        if w is not None and call and results.get(call.group(2)) is not None:
+                            many = fn.many_up(results[call.group(2)], w)
+                            if many is not None:
+                                done += go(call.group(1), env) + ".before" * many
+                                continue
                         bare = arg.strip("()")
                         r, *cs = bare.split(".")
                         got = env.get(r)

@@ -63,7 +63,7 @@ enum_known-op-in-Two-1 : tie.Need-enum_known-op-in-Two-1
 enum_known-op-in-Two-1 c = search
 
 after_three-requires : tie.Need-after_three-requires
-after_three-requires c κs = let s = S (two c) in (s.requires.0, (s.requires.1.1.0.second, s.requires.1.1.0.rows ∙ sym s.requires.1.0))
+after_three-requires c κs = let s = S (two c).before in (s.requires.0, (s.requires.1.1.0.second, s.requires.1.1.0.rows ∙ sym s.requires.1.0))
 
 enum_told-1 : tie.Need-enum_told-1
 enum_told-1 c = search

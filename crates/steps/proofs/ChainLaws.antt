@@ -2,15 +2,15 @@
 use Prim.Native.Nat.{ℕ, ◌+◌, ◌-◌, ◌*◌, ◌≤◌, ◌<◌}
 use mathlib.Core.Path.{◌≡◌, refl, sym, ap, ◌∙◌}
 use mathlib.Core.Bool.{Bool, true, false}
-use mathlib.Core.List.{List, [], ◌∷◌, map}
+use mathlib.Core.List.{List, [], ◌∷◌}
 use native.Mathlib.Omega.{arith}
 use borrow.Author.Tests.{eqb-true, eqb-false}
 use lib.Dec.{eqb}
 use lib.IntN.{ℤ}
-use lib.ListN.{length, take}
+use lib.ListN.{length}
 use lib.Seq.{length-take-le}
 use Rattle.model.specs.Basics.{pick, tab}
-use Rattle.model.specs.Column.{Elem, Row, Column, Arguments, rows_of, row_count}
+use Rattle.model.specs.Column.{Elem, Row, Column, rows_of}
 use Rattle.model.specs.Contract.{ListMeets, told, room}
 use Rattle.model.specs.Call.{answer_of, written, list_counts}
 use Rattle.model.specs.Form.{Room, flat, fits_in}
@@ -24,7 +24,6 @@ use Rattle.model.specs.declared.ListAnswer.TheVariants as A
 use Rattle.model.proofs.ColumnLaws.{length-rows}
 use Rattle.model.proofs.TabLaws.{length-map, length-tab, tab-step, tab-none}
 use Rattle.ops.specs.Ops.{call_of}
-use Rattle.ops.specs.declared.ListOp.{ListOp}
 use Rattle.ops.specs.declared.ListOp.TheVariants as L
 use Rattle.codes.specs.Codes.{operation_of}
 use Rattle.column.specs.Front.{front, AtFront}

@@ -114,7 +114,7 @@ put_repeat-requires c κs =
     let r = all_right (lists e ++ arguments e) (outer e ++ inner e) (passed e).fit in
     let o = list-fits _ _ (all_left (outer e) (inner e) r) in
     let k = (run-of-put-repeat-arg4 c).run-answer in
-    ready k.ensures (rw k.auto.o o.offsets) (rw k.auto.io (inner-fits _ (all_right (outer e) (inner e) r))) (rw k.auto.v o.values) refl refl refl (passed e).counts-1
+    ready k.ensures (rw k.auto.o o.offsets) (rw k.auto.io (inner-fits _ (all_right (outer e) (inner e) r))) (rw k.auto.v o.values) refl refl refl (passed e).counts
 
 shape_of-out_offsets : tie.Need-shape_of-out_offsets
 shape_of-out_offsets c = (put-repeat-of-slice-known14 c).put_repeat.auto.out_offsets

@@ -68,7 +68,7 @@ put_values-requires : tie.Need-put_values-requires
 put_values-requires c κs =
     let e = else1-of-put-values-arg2 c in
     let r = run-of-put-values-arg2 c in
-    values_ready r.run-answer.ensures (rw r.run-answer.auto.v (value_fits _ (all_right (ins e) (outs e) (passed e).fit))) refl (passed e).counts-1
+    values_ready r.run-answer.ensures (rw r.run-answer.auto.v (value_fits _ (all_right (ins e) (outs e) (passed e).fit))) refl (passed e).counts
 
 shape_of-out_values : tie.Need-shape_of-out_values
 shape_of-out_values c = c.put_values.auto.out_values

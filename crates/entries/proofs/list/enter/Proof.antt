@@ -137,7 +137,7 @@ put_list-requires c κs =
     let e = else1-of-put-list-arg3 c in
     let o = list-fits _ _ (all_right (ins e) (outs e) (passed e).fit) in
     let r = (run-of-put-list-arg3 c).run-answer in
-    ready r.ensures (rw r.auto.o o.offsets) (rw r.auto.v o.values) refl refl (passed e).counts-1
+    ready r.ensures (rw r.auto.o o.offsets) (rw r.auto.v o.values) refl refl (passed e).counts
 
 returns-in-None : tie.Need-returns-in-None
 returns-in-None c = list-refused 102 (no_operation _ _ (no_code _ _ c.unary_of-named.ensures c.in-None.is))

@@ -23,12 +23,12 @@ steps-requires t c =
     let a = c.args in
     let r = c.requires in
     let k = carries _ _ a.n _ _ _ _ c.step_at-answer.ensures c.in-Counts.is
-      (λ ws e. rows-kept (limits_at a.width) (step_at a.recipe.now a.k)
-        (rows_taken a.k (now_column_at a.width a.offsets a.large a.rows a.rstart a.values a.elements a.estart) (front (used a.width a.from_offsets.now a.from_large.now) a.from_rows.now a.from_values.now a.from_elements.now a.n a.m))
-        (rows_of (now_column_at a.width a.roffsets a.rlarge a.rrows a.r_rstart a.rvalues a.relements a.r_estart))
-        (column_at (shown_by (now_arguments a.args a.bits a.start)) a.pitch a.n)
-        (room (length (used a.width a.to_offsets.now a.to_large.now)) (length a.to_rows.now) (length a.to_values.now) (length a.to_elements.now))
-        ws e ∙ taken-rows r.taken) in
+    (λ ws e. rows-kept (limits_at a.width) (step_at a.recipe.now a.k)
+    (rows_taken a.k (now_column_at a.width a.offsets a.large a.rows a.rstart a.values a.elements a.estart) (front (used a.width a.from_offsets.now a.from_large.now) a.from_rows.now a.from_values.now a.from_elements.now a.n a.m))
+    (rows_of (now_column_at a.width a.roffsets a.rlarge a.rrows a.r_rstart a.rvalues a.relements a.r_estart))
+    (column_at (shown_by (now_arguments a.args a.bits a.start)) a.pitch a.n)
+    (room (length (used a.width a.to_offsets.now a.to_large.now)) (length a.to_rows.now) (length a.to_values.now) (length a.to_elements.now))
+    ws e ∙ taken-rows r.taken) in
     (omega (arith, c.decreases, r.steps.some), (next_steps r.steps c.if-left-eq1.false, (taken_next a.k (now_column_at a.width a.offsets a.large a.rows a.rstart a.values a.elements a.estart) k.at_front, r.beside)))
 
 pub returns-in-Refused : goal.returns-in-Refused
@@ -41,12 +41,12 @@ returns-in-Counts t c =
     let r = c.requires in
     let s = c.step_at-answer.auto in
     let k = carries _ _ a.n _ _ _ _ c.step_at-answer.ensures c.in-Counts.is
-      (λ ws e. rows-kept (limits_at a.width) (step_at a.recipe.now a.k)
-        (rows_taken a.k (now_column_at a.width a.offsets a.large a.rows a.rstart a.values a.elements a.estart) (front (used a.width a.from_offsets.now a.from_large.now) a.from_rows.now a.from_values.now a.from_elements.now a.n a.m))
-        (rows_of (now_column_at a.width a.roffsets a.rlarge a.rrows a.r_rstart a.rvalues a.relements a.r_estart))
-        (column_at (shown_by (now_arguments a.args a.bits a.start)) a.pitch a.n)
-        (room (length (used a.width a.to_offsets.now a.to_large.now)) (length a.to_rows.now) (length a.to_values.now) (length a.to_elements.now))
-        ws e ∙ taken-rows r.taken) in
+    (λ ws e. rows-kept (limits_at a.width) (step_at a.recipe.now a.k)
+    (rows_taken a.k (now_column_at a.width a.offsets a.large a.rows a.rstart a.values a.elements a.estart) (front (used a.width a.from_offsets.now a.from_large.now) a.from_rows.now a.from_values.now a.from_elements.now a.n a.m))
+    (rows_of (now_column_at a.width a.roffsets a.rlarge a.rrows a.r_rstart a.rvalues a.relements a.r_estart))
+    (column_at (shown_by (now_arguments a.args a.bits a.start)) a.pitch a.n)
+    (room (length (used a.width a.to_offsets.now a.to_large.now)) (length a.to_rows.now) (length a.to_values.now) (length a.to_elements.now))
+    ws e ∙ taken-rows r.taken) in
     chain_on _ _ _ _ _ _ _ _ _ _ _ (more_left r.steps c.if-left-eq1.false) k.is
-      (next-rows a.k (now_column_at a.width a.offsets a.large a.rows a.rstart a.values a.elements a.estart) _ ∙ k.shown)
-      (same_room (used-kept a.width _ _ _ _ s.out_offsets s.out_large) s.out_rows s.out_values s.out_elements) c.steps.ensures
+    (next-rows a.k (now_column_at a.width a.offsets a.large a.rows a.rstart a.values a.elements a.estart) _ ∙ k.shown)
+    (same_room (used-kept a.width _ _ _ _ s.out_offsets s.out_large) s.out_rows s.out_values s.out_elements) c.steps.ensures

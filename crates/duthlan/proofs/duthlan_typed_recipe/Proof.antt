@@ -11,7 +11,7 @@ abbrev told : tie.After-slice_known-16-1 → tie.After-settle
 told c = c.before.before.before.before
 
 abbrev ran : tie.After-slice_known-16-1 → tie.After-run_recipe-done
-ran c = let p = (told c).before.before.before.before.before.before.before.before.before.before in p
+ran c = let p = (told c).before.before.before.before.before.before.before.before.before.before in p.before.before.before.before.before.before.before.before.before.before.before
 
 abbrev chosen : tie.After-slice_known-16-1 → tie.After-station_for-named
 chosen c = (ran c).before.before.before.before.before.before.before.before.before.before.before.before.before

@@ -22,7 +22,7 @@ abbrev got : tie.After-slice_known-18-1 → tie.After-get_tally-before
 got c = (chosen c).before
 
 abbrev start : tie.After-slice_known-18-1 → tie.Start
-start c = (got c).before.before.before.before.before.before.before.before.before.before.before.before.before.before.before.before.before
+start c = (got c).before.before.before.before.before.before.before.before.before.before.before.before.before.before.before.before
 
 -- ---- needs
 

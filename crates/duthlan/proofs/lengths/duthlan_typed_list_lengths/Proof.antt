@@ -22,7 +22,7 @@ abbrev named : tie.After-slice_known-in-Of-1 → tie.In-Of
 named c = (long c).before
 
 abbrev looked : tie.After-slice_known-in-Of-1 → tie.After-one_of-named
-looked c = (named c)
+looked c = (named c).before
 
 -- ---- needs
 

@@ -22,7 +22,7 @@ abbrev named : tie.After-slice_known-in-Two-1 → tie.In-Two
 named c = (long c).before
 
 abbrev looked : tie.After-slice_known-in-Two-1 → tie.After-operation_of-named
-looked c = (named c)
+looked c = (named c).before
 
 -- ---- needs
 

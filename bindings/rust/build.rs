@@ -1,6 +1,6 @@
 //! Links libduthlan.a, and with the feature `large` libduthlan_large.a, from the folder that
 //! DUTHLAN_LIB_DIR names, by an absolute path, or from target/staticlib of this repository, where
-//! `rt staticlib duthlan` and `rt staticlib duthlan_large` write them.
+//! `bindings/archive duthlan` and `bindings/archive duthlan_large` write them.
 
 use std::env;
 use std::path::{Path, PathBuf};
@@ -23,7 +23,7 @@ fn link(folder: &Path, name: &str) {
     let archive = folder.join(format!("lib{name}.a"));
     if !archive.exists() {
         println!(
-            "cargo:warning=there is no {}: run `rt staticlib {name}`, or name its folder in DUTHLAN_LIB_DIR",
+            "cargo:warning=there is no {}: run `bindings/archive {name}`, or name its folder in DUTHLAN_LIB_DIR",
             archive.display()
         );
     }

@@ -49,7 +49,7 @@
 //!
 //! The crate links `libduthlan.a`, and for large lists `libduthlan_large.a`, from the folder that
 //! `DUTHLAN_LIB_DIR` names, by an absolute path, when the crate is built; or from `target/staticlib` of
-//! its repository, where `rt staticlib duthlan` and `rt staticlib duthlan_large` write them.
+//! its repository, where `bindings/archive duthlan` and `bindings/archive duthlan_large` write them.
 
 #![no_std]
 #![deny(missing_docs, unsafe_code)]

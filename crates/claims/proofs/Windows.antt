@@ -15,7 +15,7 @@ use Rattle.model.specs.Window.{window_outcome}
 use Rattle.model.specs.declared.ListAnswer.{ListAnswer}
 use Rattle.recipe_refusal.specs.Refused.{recipe}
 use Rattle.windows.proofs.run_window.Reads as Window
-use Rattle.duthlan.proofs.window.duthlan_typed_recipe_rows.Reads as TypedWindow
+use Rattle.duthlan.proofs.windowed.duthlan_typed_recipe_rows.Reads as TypedWindow
 use Rattle.claims.specs.Slots.{Slices, LentList, LentValues, list_lent, values_lent, slices_room, entry4, exit4, entry6, exit6, entry3, exit3, WindowRuns}
 use Rattle.claims.specs.Numbers.{WindowTyped}
 use Rattle.claims.proofs.Typed.{list-served}

@@ -10,7 +10,7 @@ pub mod grade;
 pub mod hash;
 pub mod lengths;
 pub mod view;
-pub mod window;
+pub mod windowed;
 
 ghost use Rattle.entry_codes.specs.Calls.{one_call, set_call};
 ghost use Rattle.model.specs.Contract.{Clears, room_of};

@@ -1,7 +1,7 @@
 -- The recipe looked at for a few rows, its answer told; or 100.
 use Rattle.typed.proofs.WindowLaws.{window-told}
-use Rattle.duthlan.proofs.window.duthlan_typed_recipe_rows.Statement.{statement}
-use Rattle.duthlan.proofs.window.duthlan_typed_recipe_rows.Tie as tie
+use Rattle.duthlan.proofs.windowed.duthlan_typed_recipe_rows.Statement.{statement}
+use Rattle.duthlan.proofs.windowed.duthlan_typed_recipe_rows.Tie as tie
 
 -- ---- places: the answer told, the recipe run, the rows chosen
 

@@ -1,4 +1,4 @@
-// The entries of `duthlan::window` for C programs: each calls the function of its name there, and states its clauses again.
+// The entries of `duthlan::windowed` for C programs: each calls the function of its name there, and states its clauses again.
 // bindings/entries writes this file.
 ghost use Rattle.model.specs.Basics.{given};
 ghost use Rattle.model.specs.Contract.{Clears, room_of};
@@ -21,7 +21,7 @@ pub extern "C" fn duthlan_typed_recipe_rows<'a>(
     ensures clears { Clears one_offsets one_rows one_values one_elements }
     ensures clears_2 { Clears two_offsets two_rows two_values two_elements }
 {
-    duthlan::window::duthlan_typed_recipe_rows(
+    duthlan::windowed::duthlan_typed_recipe_rows(
         begin, end, numbers, columns,
         offsets, rows, rows_start, values, elements, elements_start,
         second_offsets, second_rows, second_rows_start, second_values, second_elements, second_elements_start,

@@ -1,4 +1,5 @@
 -- Laws of the arguments that are taken, and of refusals 2 and 3 of their columns.
+use Rattle.std.specs.Prelude.{None, Some}
 use Prim.Native.Nat.{ℕ, ◌<◌}
 use mathlib.Core.Path.{◌≡◌, refl, sym, ◌∙◌, subst}
 use mathlib.Core.Bool.{Bool, true, false, not, ◌&&◌, ◌||◌}
@@ -15,7 +16,6 @@ use Rattle.model.specs.Rows.{at_row, argument_of, limit_of, on_lent}
 use Rattle.model.proofs.ColumnLaws.{argument_at, row_at_lem, length-shown}
 use Rattle.column.proofs.RowLaws.{elem_valid, elem_null}
 use Rattle.rows.specs.Cells.{elem_of}
-use Rattle.rows.specs.declared.Cell.TheVariants as C
 use Rattle.ops.specs.Ops.{call_of, takes_of, second_limit, third_limit, table}
 use Rattle.ops.specs.declared.ListOp.{ListOp}
 use Rattle.ops.specs.declared.ListOp.TheVariants as L
@@ -30,11 +30,11 @@ elem_of_cell nul = refl
 elem_of_cell (val v) = refl
 
 module _ (vs : List ℤ) (b : Bits) (i : ℕ) where
-  pub cell_valid : valid_at b i ≡ true → C.Value (get_or vs i (pos 0)) ≡ cell_of (elem_at vs b i)
+  pub cell_valid : valid_at b i ≡ true → Some (get_or vs i (pos 0)) ≡ cell_of (elem_at vs b i)
   unfolding cell_of
   cell_valid h = rw (elem_valid vs b i h)
 
-  pub cell_null : valid_at b i ≡ false → C.Null ≡ cell_of (elem_at vs b i)
+  pub cell_null : valid_at b i ≡ false → None ≡ cell_of (elem_at vs b i)
   unfolding cell_of
   cell_null h = rw (elem_null vs b i h)
 

@@ -1,19 +1,18 @@
 -- The arguments of a row, as an operation on one list takes them from up to three columns.
-use Rattle.std.specs.Prelude.{ℕ, ◌<◌, ◌≡◌, Bool, true, false, not, ◌&&◌, ◌||◌, ltb, eqb, length}
+use Rattle.rows.specs.Cells.{Cell}
+use Rattle.std.specs.Prelude.{None, Some, ℕ, ◌<◌, ◌≡◌, Bool, true, false, not, ◌&&◌, ◌||◌, ltb, eqb, length}
 use Rattle.model.specs.Basics.{pick}
 use Rattle.model.specs.Bitmap.{Bits, valid_at}
 use Rattle.model.specs.Limits.{Limits}
 use Rattle.model.specs.Column.{Elem, nul, val, Arguments, elem_at, refusal2ᵃ}
 use Rattle.bitmap.specs.Push.{Covers}
-use Rattle.rows.specs.declared.Cell.{Cell}
-use Rattle.rows.specs.declared.Cell.TheVariants as C
 use Rattle.ops.specs.Ops.{takes_of, second_limit, third_limit, row_op_of}
 use Rattle.ops.specs.declared.ListOp.{ListOp}
-use Rattle.ops.specs.declared.RowOp.{RowOp}
+use Rattle.ops.specs.RowOp.{RowOp}
 
 unfoldable pub cell_of : Elem → Cell
-cell_of nul = C.Null
-cell_of (val v) = C.Value v
+cell_of nul = None
+cell_of (val v) = Some v
 
 -- where row r's argument stands among len: "their limit column has one row, used for all, or as many as the list"
 unfoldable pub place_in : Bool → ℕ → ℕ → ℕ
@@ -21,7 +20,7 @@ place_in limit len r = pick (limit && eqb len 1) 0 r
 
 -- row r's argument, where the operation takes the column
 unfoldable pub taken_at : Bool → Bool → Arguments → ℕ → Cell
-taken_at on limit a r = pick on (cell_of (elem_at a.values a.bits (place_in limit (length a.values) r))) C.Null
+taken_at on limit a r = pick on (cell_of (elem_at a.values a.bits (place_in limit (length a.values) r))) None
 
 -- what the operation does to row r of len elements
 unfoldable pub op_at : Limits → ListOp → Bits → Arguments → Arguments → Arguments → ℕ → ℕ → RowOp

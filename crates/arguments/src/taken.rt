@@ -2,8 +2,10 @@
 ghost use Rattle.std.specs.Prelude.{◌<◌, eqb, length, ◌&&◌, false, true, ◌≡◌};
 ghost use Rattle.arguments.specs.Taken.{Serves, arguments_refusal, cell_of, over_if, place_in, short_if, start_over, taken_at, wrong_if};
 ghost use Rattle.bitmap.specs.Push.{Covers};
+ghost use Rattle.model.specs.Answers.{refused_by};
 ghost use Rattle.model.specs.Inner.{now_arguments, now_bits, lent_arguments_from, lent_elem};
 
+use model::Refusal;
 use ops::ListOp;
 use rows::Cell;
 
@@ -14,22 +16,20 @@ fn cell_at(values: &[i64], bits: &[u8], start: usize, i: usize) -> Cell
     ensures { result ≡ cell_of (lent_elem values bits start i) }
 {
     if bitmap::is_valid(bits, start, i, values.len()) {
-        return Cell::Value(values[i]);
+        return Some(values[i]);
     }
-    Cell::Null
+    None
 }
 
 // Whether a column of len rows is a limit of one row, used for all.
 fn serves_all(limit: bool, len: usize) -> bool
     ensures { result ≡ limit && eqb len 1 }
 {
-    if limit {
-        return len == 1;
-    }
-    false
+    limit && len == 1
 }
 
 // Where row r's argument stands among len.
+#[tactic(auto, unfolding(crate::specs::Taken::place_in))]
 fn place_in(limit: bool, len: usize, r: usize) -> usize
     ensures { result ≡ place_in limit len r }
 {
@@ -40,6 +40,7 @@ fn place_in(limit: bool, len: usize, r: usize) -> usize
 }
 
 // Row r's argument of n; a null where the column is not taken.
+#[tactic(auto, unfolding(crate::specs::Taken::taken_at))]
 pub fn taken_at(
     on: bool,
     limit: bool,
@@ -54,20 +55,18 @@ pub fn taken_at(
     ensures { result ≡ taken_at on limit (lent_arguments_from values bits start) r }
 {
     if !on {
-        return Cell::Null;
+        return None;
     }
     let i = place_in(limit, values.len(), r);
     cell_at(values, bits, start, i)
 }
 
 // Whether a column that is taken has a starting bit over 7.
+#[tactic(auto, unfolding(crate::specs::Taken::over_if))]
 fn is_over_if(on: bool, start: usize) -> bool
     ensures { result ≡ over_if on start }
 {
-    if !on {
-        return false;
-    }
-    7 < start
+    on && 7 < start
 }
 
 // Whether any column that is taken has one; the others are not looked at.
@@ -84,26 +83,18 @@ fn is_short_if(on: bool, values: &[i64], bits: &[u8], start: usize) -> bool
     requires { over_if on start ≡ false }
     ensures { result ≡ short_if on (lent_arguments_from values bits start) }
 {
-    if !on {
-        return false;
-    }
-    bitmap::is_short(bits, start, values.len())
+    on && bitmap::is_short(bits, start, values.len())
 }
 
 // Whether a column that is taken has another number of rows than n, and is no limit of one row.
+#[tactic(auto, unfolding(crate::specs::Taken::wrong_if))]
 fn is_wrong_if(on: bool, limit: bool, n: usize, len: usize) -> bool
     ensures { result ≡ wrong_if on limit n len }
 {
-    if !on {
-        return false;
-    }
-    if serves_all(limit, len) {
-        return false;
-    }
-    len != n
+    on && !serves_all(limit, len) && len != n
 }
 
-// 2 of any column that is taken, else 3 of any, else 0.
+// 2 of any column that is taken, else 3 of any, if either.
 pub fn arguments_refusal(
     op: ListOp,
     n: usize,
@@ -116,30 +107,30 @@ pub fn arguments_refusal(
     zs: &[i64],
     zbits: &[u8],
     zstart: usize,
-) -> u8
+) -> Result<(), Refusal>
     requires { start_over op xstart ystart zstart ≡ false }
-    ensures { result ≡ arguments_refusal op n (lent_arguments_from xs xbits xstart) (lent_arguments_from ys ybits ystart) (lent_arguments_from zs zbits zstart) }
+    ensures { refused_by result ≡ arguments_refusal op n (lent_arguments_from xs xbits xstart) (lent_arguments_from ys ybits ystart) (lent_arguments_from zs zbits zstart) }
 {
     let t = ops::takes(op);
     let k = t.columns;
     let limit = t.limit;
     if is_short_if(0 < k, xs, xbits, xstart) {
-        return 2;
+        return Err(Refusal::ShortBitmap);
     }
     if is_short_if(1 < k, ys, ybits, ystart) {
-        return 2;
+        return Err(Refusal::ShortBitmap);
     }
     if is_short_if(2 < k, zs, zbits, zstart) {
-        return 2;
+        return Err(Refusal::ShortBitmap);
     }
     if is_wrong_if(0 < k, false, n, xs.len()) {
-        return 3;
+        return Err(Refusal::RowCountsDiffer);
     }
     if is_wrong_if(1 < k, limit == 2, n, ys.len()) {
-        return 3;
+        return Err(Refusal::RowCountsDiffer);
     }
     if is_wrong_if(2 < k, limit == 3, n, zs.len()) {
-        return 3;
+        return Err(Refusal::RowCountsDiffer);
     }
-    0
+    Ok(())
 }

@@ -9,7 +9,7 @@ use lib.IntN.{ℤ}
 use lib.ListN.{length, take, drop}
 use Rattle.model.specs.Basics.{pick, tab}
 use Rattle.model.specs.Bitmap.{Bits, from}
-use Rattle.model.specs.Column.{Elem, Row, Column, column, Arguments, rows_of, row_count, shown_by}
+use Rattle.model.specs.Column.{Elem, Row, Column, column, Arguments, rows_of, row_count, shown_by, refusal2ᵃ}
 use Rattle.model.specs.Form.{Room}
 use Rattle.model.specs.Limits.{Limits}
 use Rattle.model.specs.Outcome.{refused, fitted}
@@ -23,8 +23,10 @@ use Rattle.model.proofs.ColumnLaws.{length-rows}
 use Rattle.model.proofs.OutcomeLaws.{gate_open, gate_shut}
 use Rattle.model.proofs.TabLaws.{tab-step, tab-none}
 use Rattle.model.proofs.WindowLaws.{within_window, copy_steps, window_whole}
-use Rattle.bitmap.specs.Push.{bits_from}
+use Rattle.bitmap.specs.Push.{Covers, bits_from}
 use Rattle.column.specs.Put.{Readable}
+use Rattle.column.proofs.WalkLaws.{readable}
+use Rattle.set_checks.proofs.RefusalLaws.{both_formed}
 use Rattle.column.proofs.CutLaws.{part, part_count, part_readable, part_rows}
 use Rattle.recipe_refusal.specs.Refused.{recipe, recipe_refusal}
 use Rattle.recipe_refusal.proofs.RefusalLaws.{Passed, passed, window_is, or_else_none}
@@ -63,6 +65,37 @@ module _ (ns : List ℕ) (k x y : ℕ) (c d : Column) (e : Arguments) (j n : ℕ
       none : (t : Bool) → ◌≡◌ {A = ℕ} (pick t 16 0) 0 → t ≡ false
       none true h = let w : ⊥ = omega arith in absurd w
       none false h = refl
+
+-- the columns of a call that nothing refuses, of n rows
+pub record Going (ns : List ℕ) (k x y n : ℕ) (c d : Column) (e : Arguments) : Type 0 where
+  pub none : recipe_refusal (recipe ns k) c d e ≡ 0
+  pub window : no_window x y n ≡ false
+  pub begins : x ≤ y
+  pub ends : y ≤ n
+  pub rows : n ≡ row_count c.offsets
+  pub second-rows : n ≡ row_count d.offsets
+  pub first : Readable c
+  pub second : Readable d
+  pub covers : Covers e.bits (length e.values)
+
+pub going : (ns : List ℕ) (k x y : ℕ) (c d : Column) (e : Arguments) (n f : ℕ) → f ≡ recipe_refusal (recipe ns k) c d e → n ≡ row_count c.offsets → 0 ≡ or_else f (pick (no_window x y n) 16 0) → Going ns k x y n c d e
+unfolding refusal2ᵃ
+going ns k x y c d e n f r m q =
+    let g = goes ns k x y c d e 0 n f r m q refl in
+    let p = passed ns k c d e g.0 in
+    let b = both_formed c d p.lists in
+    let i = within_window x y n g.1 in
+    record {
+      none = g.0;
+      window = g.1;
+      begins = i.0;
+      ends = i.1;
+      rows = m;
+      second-rows = m ∙ sym p.equal;
+      first = readable c b.0;
+      second = readable d b.1;
+      covers = record { small = p.small; long = p.long };
+    }
 
 module _ (L : Limits) (ns : List ℕ) (k x y : ℕ) (c d : Column) (e : Arguments) (a b o : Room) where
   pub call-refused : (j n f : ℕ) → f ≡ recipe_refusal (recipe ns k) c d e → n ≡ row_count c.offsets → j ≡ or_else f (pick (no_window x y n) 16 0) → (j ≡ 0 → ⊥) → window_outcome L (recipe ns k) x y c d e a b o ≡ refused j

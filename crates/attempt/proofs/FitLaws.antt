@@ -3,6 +3,7 @@ use Prim.Native.Nat.{ℕ, zero, suc, ◌+◌, ◌-◌, ◌*◌, ◌/◌, ◌%◌
 use mathlib.Core.Path.{◌≡◌, refl, sym, ap, ◌∙◌}
 use mathlib.Core.Bool.{Bool, true, false, not, ◌||◌}
 use mathlib.Core.List.{List}
+use Rattle.std.specs.Prelude.{Option, Some, None}
 use native.Mathlib.Omega.{arith}
 use native.Mathlib.Nat.{mul-le-mul, add-mul, one-mul, zero-mul}
 use borrow.Author.Tests.{leb-false, eqb-true}
@@ -46,11 +47,11 @@ module _ (k : ℕ) (s : Step) (p w a len : ℕ) (g : a + w ≤ p) (e : len ≡ k
       let c = or_none _ _ b.0 in
       (c.0, c.1, b.1, a.1)
 
-  uses : (o : Operation) → operation_of s.code ≡ o → op_uses o s p w len
+  uses : (o : Option Operation) → operation_of s.code ≡ o → op_uses o s p w len
   unfolding op_uses columns_taken is_none
-  uses (S.Two op) q = tt
-  uses S.None q = never_true (ap is_none (sym q) ∙ none_is s.code ∙ parts.0)
-  uses (S.One op) q =
+  uses (Some (S.Two op)) q = tt
+  uses None q = never_true (ap is_none (sym q) ∙ none_is s.code ∙ parts.0)
+  uses (Some (S.One op)) q =
       let t : columns_of s.code ≡ takes_of op = columns-taken s.code ∙ ap columns_taken q in
       record {
         first_in = rw (← t) (within (ltb 0 (columns_of s.code)) k s.first p w a len g e parts.1);

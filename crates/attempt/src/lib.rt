@@ -8,7 +8,7 @@ ghost use Rattle.model.specs.Window.{window_outcome};
 ghost use Rattle.recipe_refusal.specs.Refused.{recipe};
 
 use column::widths;
-use model::{ListAnswer, Width};
+use model::{ListAnswer, Refusal, Width};
 
 // Checks the station, the recipe, the columns and whether rows begin up to end are there, and takes the steps on these rows of each column,
 // which are cut out and not copied; no step writes them into the output. The run of a recipe is the call for all rows.
@@ -27,7 +27,7 @@ pub fn attempt<'a>(
     ensures { ListAnswersAt width (λ o. stationed station (window_outcome (limits_at width) (recipe numbers.now columns) begin end (lent_at width offsets large rows rstart values elements estart) (lent_at width roffsets rlarge rrows r_rstart rvalues relements r_estart) (lent_arguments_from args bits start) (room_at width one_offsets one_large one_rows one_values one_elements) (room_at width two_offsets two_large two_rows two_values two_elements) o)) result out_offsets out_large out_rows out_values out_elements }
 {
     if station > 15 {
-        return ListAnswer::Refused(15);
+        return Err(Refusal::NoSuchStation);
     }
     let first = recipe_refusal::refusal(
         numbers, columns,
@@ -37,10 +37,7 @@ pub fn attempt<'a>(
         width, large, rlarge,
     );
     let n = widths::row_count(width, offsets, large);
-    let k = window::refusal_after(first, begin, end, n);
-    if k != 0 {
-        return ListAnswer::Refused(k);
-    }
+    window::refusal_after(first, begin, end, n)?;
     let o = window::offsets_of(offsets, begin, end);
     let l = window::large_of(large, begin, end);
     let r = bitmap::bits_from(rows, rstart, begin, n);

@@ -1,8 +1,8 @@
 -- Bits appended some at a time, forward and backward through a bitmap.
 use mathlib.Core.Bool.{Bool}
-use mathlib.Core.List.{List, [], ◌++◌, reverse, reverse-append}
-use mathlib.Core.Path.{◌≡◌, refl, sym, ap, ◌∙◌}
-use Prim.Native.Nat.{ℕ, ◌+◌, ◌-◌, ◌*◌, ◌≤◌, ◌<◌}
+use mathlib.Core.List.{List, ◌++◌, reverse, reverse-append}
+use mathlib.Core.Path.{◌≡◌, sym, ap, ◌∙◌}
+use Prim.Native.Nat.{ℕ, ◌+◌, ◌-◌, ◌≤◌}
 use native.Mathlib.Omega.{arith}
 use lib.ListN.{length}
 use Rattle.bit_words.specs.Words.{low_bits}
@@ -17,78 +17,47 @@ use Rattle.runs.proofs.SameLaws.{push_append}
 push_on : (l : List ℕ) {l' d : List ℕ} (bs cs : List Bool) {ws : List Bool} (p m : ℕ) → l' ≡ push_bits l p bs → length bs ≡ m → ws ≡ bs ++ cs → push_bits l p ws ≡ d → push_bits l' (p + m) cs ≡ d
 push_on l bs cs p m w n e h = rw (w, ← n, push_append bs cs l p, ← e) h
 
--- all that were left are written
-push_last : (l : List ℕ) {l' d : List ℕ} {bs ws : List Bool} (p : ℕ) → l' ≡ push_bits l p bs → bs ≡ ws → push_bits l p ws ≡ d → l' ≡ d
-push_last l p w e h = w ∙ ap (λ (r : List Bool). push_bits l p r) e ∙ h
+-- ---- the n bits from bit q on appended at place at: out so far, and how many of them it has
 
--- ---- forward: out so far, j the byte of the bitmap that is next, p the place for its bits, so many bits left
+module _ (bitmap : List ℕ) (q n : ℕ) (out₀ : List ℕ) (at : ℕ) where
+  pub record Forward (out : List ℕ) (done : ℕ) : Type 0 where
+    pub rest : push_bits out (at + done) (tab (bit_at bitmap) (q + done) (n - done)) ≡ push_bits out₀ at (tab (bit_at bitmap) q n)
 
-module _ (bitmap : List ℕ) (k s n : ℕ) (out₀ : List ℕ) (at : ℕ) where
-  pub record Forward (out : List ℕ) (j p left : ℕ) : Type 0 where
-    pub rest : push_bits out p (tab (bit_at bitmap) (8 * j + s) left) ≡ push_bits out₀ at (tab (bit_at bitmap) (8 * k + s) n)
-    pub source : 8 * j + left ≡ 8 * k + n
-    pub target : p + left ≡ at + n
-    pub kept : length out ≡ length out₀
+module _ {bitmap : List ℕ} {q n : ℕ} {out₀ : List ℕ} {at : ℕ} {out : List ℕ} {done : ℕ} (i : Forward bitmap q n out₀ at out done) where
+  -- w bits more
+  pub forward_on : (w x : ℕ) {p r more : ℕ} {out' : List ℕ} → done + w ≤ n → p ≡ at + done → r ≡ q + done → more ≡ done + w
+      → low_bits x w ≡ tab (bit_at bitmap) r w → out' ≡ push_bits out p (low_bits x w) → Forward bitmap q n out₀ at out' more
+  forward_on w x {out' = out'} h a b c v e =
+      let k : n - done ≡ w + (n - (done + w)) = omega arith in
+      let g : q + (done + w) ≡ q + done + w = omega arith in
+      let m : at + (done + w) ≡ at + done + w = omega arith in
+      let t : tab (bit_at bitmap) (q + done) (n - done) ≡ low_bits x w ++ tab (bit_at bitmap) (q + done + w) (n - (done + w)) = rw (k, tab_split (bit_at bitmap) (q + done) w (n - (done + w)), ← b, v) in
+      record { rest = rw (c, g, m) (push_on out (low_bits x w) (tab (bit_at bitmap) (q + done + w) (n - (done + w))) (at + done) w (rw a at e) (length_low x w) t i.rest) }
 
-  pub forward_begun : Forward out₀ k at n
-  forward_begun = record { rest = refl; source = refl; target = refl; kept = refl }
+  pub forward_done : done ≡ n → out ≡ push_bits out₀ at (tab (bit_at bitmap) q n)
+  unfolding push_bits tab
+  forward_done z = let k : n - done ≡ 0 = omega arith in rw k at i.rest
 
-  module _ {out : List ℕ} {j p left : ℕ} (i : Forward out j p left) where
-    -- the bits of w bytes more
-    pub forward_on : (w x : ℕ) {out' : List ℕ} → 8 * w ≤ left → out' ≡ push_bits out p (low_bits x (8 * w)) → low_bits x (8 * w) ≡ tab (bit_at bitmap) (8 * j + s) (8 * w)
-        → length out' ≡ length out → Forward out' (j + w) (p + 8 * w) (left - 8 * w)
-    forward_on w x h e r z =
-        let a : 8 * (j + w) + s ≡ 8 * j + s + 8 * w = omega arith in
-        let b : 8 * w + (left - 8 * w) ≡ left = omega arith in
-        let c : tab (bit_at bitmap) (8 * j + s) left ≡ low_bits x (8 * w) ++ tab (bit_at bitmap) (8 * (j + w) + s) (left - 8 * w) = rw (a, r, ← tab_split (bit_at bitmap) (8 * j + s) (8 * w) (left - 8 * w), b) in
-        record {
-          rest = push_on out (low_bits x (8 * w)) (tab (bit_at bitmap) (8 * (j + w) + s) (left - 8 * w)) p (8 * w) e (length_low x (8 * w)) c i.rest;
-          source = omega arith;
-          target = omega arith;
-          kept = z ∙ i.kept;
-        }
-
-    pub forward_none : left ≡ 0 → out ≡ push_bits out₀ at (tab (bit_at bitmap) (8 * k + s) n)
-    unfolding push_bits tab
-    forward_none z = rw z at i.rest
-
-    pub forward_last : (x : ℕ) {out' : List ℕ} → out' ≡ push_bits out p (low_bits x left) → low_bits x left ≡ tab (bit_at bitmap) (8 * j + s) left → out' ≡ push_bits out₀ at (tab (bit_at bitmap) (8 * k + s) n)
-    forward_last x e r = push_last out p e r i.rest
-
--- ---- backward: the bitmap's bits from the k-th byte's on are left, and the last of them come next
+-- ---- the same, the last of them first
 
 back_split : (f : ℕ → Bool) (q left m : ℕ) → m ≤ left → reverse (tab f q left) ≡ reverse (tab f (q + (left - m)) m) ++ reverse (tab f q (left - m))
 back_split f q left m h =
     let e : (left - m) + m ≡ left = omega arith in
     ap (λ (r : ℕ). reverse (tab f q r)) (sym e) ∙ ap reverse (tab_split f q (left - m) m) ∙ reverse-append (tab f q (left - m)) (tab f (q + (left - m)) m)
 
--- what is left ends before bit t of byte j
-module _ (bitmap : List ℕ) (k s n : ℕ) (out₀ : List ℕ) (at t : ℕ) where
-  pub record Backward (out : List ℕ) (j p left : ℕ) : Type 0 where
-    pub rest : push_bits out p (reverse (tab (bit_at bitmap) (8 * k + s) left)) ≡ push_bits out₀ at (reverse (tab (bit_at bitmap) (8 * k + s) n))
-    pub source : 8 * j + t ≡ 8 * k + s + left
-    pub fewer : left ≤ n
-    pub target : p + left ≡ at + n
-    pub kept : length out ≡ length out₀
+module _ (bitmap : List ℕ) (q n : ℕ) (out₀ : List ℕ) (at : ℕ) where
+  pub record Backward (out : List ℕ) (done : ℕ) : Type 0 where
+    pub rest : push_bits out (at + done) (reverse (tab (bit_at bitmap) q (n - done))) ≡ push_bits out₀ at (reverse (tab (bit_at bitmap) q n))
 
-  module _ {out : List ℕ} {j p left : ℕ} (i : Backward out j p left) where
-    pub backward_on : (x y : ℕ) {out' : List ℕ} → 8 ≤ left → 0 < j → low_bits x 8 ≡ tab (bit_at bitmap) (8 * (j - 1) + t) 8 → low_bits y 8 ≡ reverse (low_bits x 8)
-        → out' ≡ push_bits out p (low_bits y 8) → length out' ≡ length out → Backward out' (j - 1) (p + 8) (left - 8)
-    backward_on x y h o r v e z =
-        let a : 8 * k + s + (left - 8) ≡ 8 * (j - 1) + t = omega arith in
-        let c : reverse (tab (bit_at bitmap) (8 * k + s) left) ≡ low_bits y 8 ++ reverse (tab (bit_at bitmap) (8 * k + s) (left - 8)) = back_split (bit_at bitmap) (8 * k + s) left 8 h ∙ rw (a, v, r) in
-        record {
-          rest = push_on out (low_bits y 8) (reverse (tab (bit_at bitmap) (8 * k + s) (left - 8))) p 8 e (length_low y 8) c i.rest;
-          source = omega arith;
-          fewer = omega arith;
-          target = omega arith;
-          kept = z ∙ i.kept;
-        }
+module _ {bitmap : List ℕ} {q n : ℕ} {out₀ : List ℕ} {at : ℕ} {out : List ℕ} {done : ℕ} (i : Backward bitmap q n out₀ at out done) where
+  pub backward_on : (w x y : ℕ) {p r more : ℕ} {out' : List ℕ} → done + w ≤ n → p ≡ at + done → r ≡ q + (n - done - w) → more ≡ done + w
+      → low_bits x w ≡ tab (bit_at bitmap) r w → low_bits y w ≡ reverse (low_bits x w) → out' ≡ push_bits out p (low_bits y w) → Backward bitmap q n out₀ at out' more
+  backward_on w x y h a b c v u e =
+      let k : n - (done + w) ≡ n - done - w = omega arith in
+      let m : at + (done + w) ≡ at + done + w = omega arith in
+      let t : reverse (tab (bit_at bitmap) q (n - done)) ≡ low_bits y w ++ reverse (tab (bit_at bitmap) q (n - done - w)) = back_split (bit_at bitmap) q (n - done) w (omega arith) ∙ rw (u, v, b) in
+      record { rest = rw (c, k, m) (push_on out (low_bits y w) (reverse (tab (bit_at bitmap) q (n - done - w))) (at + done) w (rw a at e) (length_low y w) t i.rest) }
 
-    pub backward_none : left ≡ 0 → out ≡ push_bits out₀ at (reverse (tab (bit_at bitmap) (8 * k + s) n))
-    unfolding push_bits tab
-    backward_none z = rw z at i.rest
-
-    pub backward_last : (x y : ℕ) {out' : List ℕ} → low_bits x left ≡ tab (bit_at bitmap) (8 * k + s) left → low_bits y left ≡ reverse (low_bits x left)
-        → out' ≡ push_bits out p (low_bits y left) → out' ≡ push_bits out₀ at (reverse (tab (bit_at bitmap) (8 * k + s) n))
-    backward_last x y r v e = push_last out p e (v ∙ ap reverse r) i.rest
+  pub backward_done : done ≡ n → out ≡ push_bits out₀ at (reverse (tab (bit_at bitmap) q n))
+  unfolding push_bits tab
+  backward_done z = let k : n - done ≡ 0 = omega arith in rw k at i.rest

@@ -1,69 +1,43 @@
 -- Bits the other way round.
-use mathlib.Core.Bool.{Bool, true, false, ◌&&◌}
-use mathlib.Core.List.{List, [], ◌∷◌, ◌++◌, reverse, reverse-append}
-use mathlib.Core.Path.{◌≡◌, refl, sym, ap, ◌∙◌}
+use mathlib.Core.Bool.{Bool}
+use mathlib.Core.List.{List, ◌++◌, append-nil, append_assoc, reverse, reverse-append, reverse-cons}
+use mathlib.Core.Path.{◌≡◌, sym, ap, ◌∙◌}
 use Prim.Native.Nat.{ℕ, zero, suc, ◌+◌, ◌-◌, ◌*◌, ◌/◌, ◌%◌, ◌^◌, ◌≤◌, ◌<◌}
 use native.Mathlib.Nat.{mod-eq_of_lt}
 use native.Mathlib.Omega.{arith}
-use borrow.Author.Count.{below_more}
-use borrow.Author.Tests.{eqb-true}
-use lib.Bits.{bit_and, bit_or}
-use lib.Dec.{eqb}
 use lib.ListN.{length, drop, length-reverse}
 use lib.Pow.{shr_lt}
 use lib.Seq.{drop_at}
 use Rattle.bit_words.specs.Words.{low_bits}
+use Rattle.std.specs.Int.{reverse_bits_onto}
 use Rattle.bit_words.proofs.WordLaws.{length_low, low_split}
-use Rattle.model.specs.Bitmap.{bit, byte_of}
-use Rattle.model.proofs.BoolLaws.{and_true}
 
--- ---- a byte, by a test of every byte
+-- ---- a byte
 
--- does the test hold of every number below n
-abbrev every : (ℕ → Bool) → ℕ → Bool
-every f zero = true
-every f (suc n) = f n && every f n
+-- so many bits the last first, after others
+reversed_onto : (k m n a : ℕ) → low_bits (reverse_bits_onto k n a) (k + m) ≡ reverse (low_bits n k) ++ low_bits a m
+unfolding low_bits reverse_bits_onto
+reversed_onto zero m n a = let z : 0 + m ≡ m = omega arith in rw z
+reversed_onto (suc k) m n a =
+    let e : suc k + m ≡ k + suc m = omega arith in
+    let r : (a * 2 + n % 2) % 2 ≡ n % 2 = omega arith in
+    let q : (a * 2 + n % 2) / 2 ≡ a = omega arith in
+    rw (e, reversed_onto k (suc m) (n / 2) (a * 2 + n % 2), r, q, reverse-cons, append_assoc)
 
-each : (f : ℕ → Bool) (n : ℕ) → every f n ≡ true → (k : ℕ) → k < n → f k ≡ true
-each f zero t k h = let z : ⊥ = omega arith in absurd z
-each f (suc n) t k h = let p = and_true (f n) (every f n) t in below_more (λ (i : ℕ). f i ≡ true) n (each f n p.1) p.0 k (omega arith)
+-- nothing after them
+no_more : (bs : List Bool) (a : ℕ) → bs ++ low_bits a 0 ≡ bs
+unfolding low_bits
+no_more bs a = append-nil bs
 
--- the bits of a number made of them
-low_byte_of : (bs : List Bool) → low_bits (byte_of bs) (length bs) ≡ bs
-unfolding low_bits byte_of
-low_byte_of [] = refl
-low_byte_of (true ∷ bs) =
-    let y = byte_of bs in
-    let d : (1 + 2 * y) / 2 ≡ y = omega arith in
-    let m : (1 + 2 * y) % 2 ≡ 1 = omega arith in
-    rw (d, m) (ap (λ (r : List Bool). true ∷ r) (low_byte_of bs))
-low_byte_of (false ∷ bs) =
-    let y = byte_of bs in
-    let d : (0 + 2 * y) / 2 ≡ y = omega arith in
-    let m : (0 + 2 * y) % 2 ≡ 0 = omega arith in
-    rw (d, m) (ap (λ (r : List Bool). false ∷ r) (low_byte_of bs))
-
--- the halves of a byte changed over, the pairs of each half, the bits of each pair
-abbrev halves : ℕ → ℕ
-halves n = bit_or (n / 2 ^ 4) (n * 2 ^ 4 % 256)
-
-abbrev pairs : ℕ → ℕ
-pairs n = bit_or (bit_and (n / 2 ^ 2) 51) (bit_and n 51 * 2 ^ 2 % 256)
-
-abbrev ones : ℕ → ℕ
-ones n = bit_or (bit_and (n / 2 ^ 1) 85) (bit_and n 85 * 2 ^ 1 % 256)
-
-pub turned_byte : (n : ℕ) → n < 256 → low_bits (ones (pairs (halves n))) 8 ≡ reverse (low_bits n 8)
-unfolding low_bits byte_of
-turned_byte n h =
-    let e = eqb-true (ones (pairs (halves n))) (byte_of (reverse (low_bits n 8))) (each (λ (i : ℕ). eqb (ones (pairs (halves i))) (byte_of (reverse (low_bits i 8)))) 256 refl n h) in
-    ap (λ (r : ℕ). low_bits r 8) e ∙ low_byte_of (reverse (low_bits n 8))
+turned_byte : (n : ℕ) → low_bits (reverse_bits_onto 8 n 0) 8 ≡ reverse (low_bits n 8)
+turned_byte n = reversed_onto 8 0 n 0 ∙ no_more (reverse (low_bits n 8)) 0
 
 -- ---- the lowest bits of a byte that has none above them: the highest of the turned byte
 
-pub turned_few : (m x y : ℕ) → m ≤ 8 → x < 2 ^ m → y < 256 → low_bits y 8 ≡ reverse (low_bits x 8)
+pub turned_few : (m x : ℕ) {y : ℕ} → m ≤ 8 → x < 2 ^ m → y < 256 → y ≡ reverse_bits_onto 8 x 0
     → (low_bits (y / 2 ^ (8 - m)) m ≡ reverse (low_bits x m)) × (y / 2 ^ (8 - m) < 2 ^ m)
-turned_few m x y q h b e =
+turned_few m x {y} q h b o =
+    let e : low_bits y 8 ≡ reverse (low_bits x 8) = rw o (turned_byte x) in
     let g = 8 - m in
     let n : m + g ≡ 8 = omega arith in
     let n' : g + m ≡ 8 = omega arith in

@@ -1,7 +1,7 @@
 // Runs of bits copied from any bit to any bit, and turned round, eight and sixty-four at a time. An inner crate: its callers meet what it asks.
 #![tactic(auto)]
 
-ghost use Rattle.std.specs.Prelude.{◌%◌, ◌*◌, ◌+◌, ◌/◌, ◌<◌, ◌^◌, ◌≤◌, length, reverse, ◌≡◌};
+ghost use Rattle.std.specs.Prelude.{◌*◌, ◌+◌, ◌<◌, ◌^◌, ◌≤◌, length, reverse, ◌≡◌};
 ghost use Rattle.bit_words.specs.Words.{low_bits};
 ghost use Rattle.bitmap.specs.Push.{push_bits};
 ghost use Rattle.model.specs.Basics.{tab};
@@ -21,23 +21,10 @@ pub fn push_few(out: &mut [u8], at: usize, bits: u8, m: usize)
         out[k] = bits;
         return;
     }
-    let byte = out[k];
-    out[k] = byte | (bits << (s as u8));
+    out[k] |= bits << s;
     if 8 < s + m {
-        out[k + 1] = bits >> ((8 - s) as u8);
+        out[k + 1] = bits >> (8 - s);
     }
-}
-
-// The m lowest bits of a byte.
-fn lowest(byte: u8, m: usize) -> u8
-    requires { m < 9 }
-    ensures { result ≡ byte % 2 ^ m }
-{
-    if m == 8 {
-        return byte;
-    }
-    let mask = (1u8 << (m as u8)) - 1;
-    byte & mask
 }
 
 // The m bits from bit s of byte k on, the first lowest.
@@ -49,12 +36,13 @@ pub fn few_at(bitmap: &[u8], k: usize, s: usize, m: usize) -> u8
     ensures m_value { low_bits result m ≡ tab (bit_at bitmap.now) (8 * k + s) m }
     ensures upper_bound { result < 2 ^ m }
 {
-    let low = bitmap[k] >> (s as u8);
+    let lowest = u8::MAX >> (8 - m);
+    let low = bitmap[k] >> s;
     if s + m <= 8 {
-        return lowest(low, m);
+        return low & lowest;
     }
-    let high = bitmap[k + 1] << ((8 - s) as u8);
-    lowest(low | high, m)
+    let high = bitmap[k + 1] << (8 - s);
+    (low | high) & lowest
 }
 
 // Appends the n bits from bit s of byte k on, eight at a time.
@@ -65,21 +53,17 @@ fn push_eights(bitmap: &[u8], k: usize, s: usize, n: usize, out: &mut [u8], at: 
     requires n_bound { at + n < 18446744073709551616 }
     ensures { out.new ≡ push_bits out.old at (tab (bit_at bitmap.now) (8 * k + s) n) }
 {
-    let mut j = k;
-    let mut p = at;
-    let mut left = n;
-    while 8 < left {
-        let bits = few_at(bitmap, j, s, 8);
-        push_few(out, p, bits, 8);
-        j += 1;
-        p += 8;
-        left -= 8;
+    let eights = n / 8;
+    for i in 0..eights {
+        let bits = few_at(bitmap, k + i, s, 8);
+        push_few(out, at + 8 * i, bits, 8);
     }
+    let left = n % 8;
     if left == 0 {
         return;
     }
-    let bits = few_at(bitmap, j, s, left);
-    push_few(out, p, bits, left);
+    let bits = few_at(bitmap, k + eights, s, left);
+    push_few(out, at + 8 * eights, bits, left);
 }
 
 // Appends the n bits from bit s of byte k on, sixty-four at a time, and then eight.
@@ -90,26 +74,12 @@ pub fn push_copied(bitmap: &[u8], k: usize, s: usize, n: usize, out: &mut [u8], 
     requires n_bound { at + n < 18446744073709551616 }
     ensures { out.new ≡ push_bits out.old at (tab (bit_at bitmap.now) (8 * k + s) n) }
 {
-    let mut j = k;
-    let mut p = at;
-    let mut left = n;
-    while 64 <= left {
-        let word = bit_words::word_from(bitmap, j, s);
-        bit_words::push_word(out, p, word);
-        j += 8;
-        p += 64;
-        left -= 64;
+    let words = n / 64;
+    for i in 0..words {
+        let word = bit_words::word_from(bitmap, k + 8 * i, s);
+        bit_words::push_word(out, at + 64 * i, word);
     }
-    push_eights(bitmap, j, s, left, out, p);
-}
-
-// A byte, its last bit first.
-fn turned(byte: u8) -> u8
-    ensures { low_bits result 8 ≡ reverse (low_bits byte 8) }
-{
-    let b = (byte >> 4) | (byte << 4);
-    let c = ((b >> 2) & 51) | ((b & 51) << 2);
-    ((c >> 1) & 85) | ((c & 85) << 1)
+    push_eights(bitmap, k + 8 * words, s, n % 64, out, at + 64 * words);
 }
 
 // The m lowest bits of a byte that has none above them, the last first.
@@ -120,7 +90,7 @@ fn few_turned(byte: u8, m: usize) -> u8
     ensures m_value { low_bits result m ≡ reverse (low_bits byte m) }
     ensures upper_bound { result < 2 ^ m }
 {
-    turned(byte) >> ((8 - m) as u8)
+    byte.reverse_bits() >> (8 - m)
 }
 
 // Appends the n bits from bit s of byte k on, the last first, eight at a time.
@@ -131,23 +101,19 @@ pub fn push_turned(bitmap: &[u8], k: usize, s: usize, n: usize, out: &mut [u8], 
     requires n_bound { at + n < 18446744073709551616 }
     ensures { out.new ≡ push_bits out.old at (reverse (tab (bit_at bitmap.now) (8 * k + s) n)) }
 {
-    let last = s + n % 8;
-    let t = last % 8;
-    let mut j = k + n / 8 + last / 8;
-    let mut p = at;
-    let mut left = n;
-    while 8 <= left {
-        j -= 1;
-        left -= 8;
-        let bits = few_at(bitmap, j, t, 8);
+    let eights = n / 8;
+    let left = n % 8;
+    let end = k + eights + (s + left) / 8;
+    let t = (s + left) % 8;
+    for i in 0..eights {
+        let bits = few_at(bitmap, end - 1 - i, t, 8);
         let back = few_turned(bits, 8);
-        push_few(out, p, back, 8);
-        p += 8;
+        push_few(out, at + 8 * i, back, 8);
     }
     if left == 0 {
         return;
     }
     let bits = few_at(bitmap, k, s, left);
     let back = few_turned(bits, left);
-    push_few(out, p, back, left);
+    push_few(out, at + 8 * eights, back, left);
 }

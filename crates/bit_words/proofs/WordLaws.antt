@@ -3,16 +3,19 @@ use mathlib.Core.Bool.{Bool, false}
 use mathlib.Core.List.{List, ◌∷◌, ◌++◌}
 use mathlib.Core.Path.{◌≡◌, refl, sym, ap, ◌∙◌}
 use Prim.Native.Nat.{ℕ, zero, suc, ◌+◌, ◌-◌, ◌*◌, ◌/◌, ◌%◌, ◌^◌, ◌≤◌, ◌<◌}
-use native.Mathlib.Nat.{lt_of_lt_of_le, mod-lt, add-mul, mul_comm, mul_assoc, pow-suc, suc-mul, zero-mul}
+use native.Mathlib.Nat.{mod-lt, mod-eq_of_lt, add_comm, add-mul, mul_comm, mul_assoc, pow-suc, suc-mul, zero-mul}
 use native.Mathlib.Omega.{arith}
 use borrow.Author.Tests.{ne_eqb}
 use lib.Bits.{bit_and, bit_or, and_mask, or_block, or_lt, or_zero_r, or_shifted_r}
 use lib.Count.{ones, ones_step, ones-le}
 use lib.Dec.{eqb}
-use lib.ListN.{length, get_or, set, replicate, length-set}
-use lib.Pow.{pow_pos, split, shl_lt, shl-shr, pow_mono, mod-pow-add, mod-mod-pow, field, shr-shr, shr_lt, shl_exact, low, high}
-use lib.Seq.{set-set, set-get_or, get_or-set_same}
-use Rattle.bitmap.proofs.OnesLaws.{trues-append}
+use lib.ListN.{length, get_or, set, take, drop, replicate, length-set}
+use lib.Pow.{pow_pos, pow-add, split, shl-shr, mod-pow-add, mod-mod-pow, field, shr-shr, shr_lt, shl_exact, low, high}
+use lib.Seq.{sets, set-set, set-get_or, get_or-set_same}
+use Rattle.std.proofs.lemmas.List.{get_or-take, get_or-drop}
+use Rattle.std.proofs.lemmas.Nat.{mul-add-lt}
+use Rattle.std.specs.Int.{w64, byte_at, byte_worth, bytes_low_first, sum_through, to_le_bytes, from_le_bytes}
+use Rattle.bitmap.proofs.OnesLaws.{trues-append, ones_bits}
 use Rattle.bitmap.specs.Push.{push_bit, push_bits, trues}
 use Rattle.bit_words.specs.Words.{low_bits}
 use Rattle.model.specs.Basics.{tab}
@@ -84,13 +87,6 @@ module _ (f : ℕ → Bool) where
   pub join : (m n x y p : ℕ) → low_bits x m ≡ tab f p m → x < 2 ^ m → low_bits y n ≡ tab f (p + m) n → low_bits (y * 2 ^ m + x) (m + n) ≡ tab f p (m + n)
   join m n x y p a h b = low_split m n (y * 2 ^ m + x) ∙ rw (low y m {lo = x} h, high y m {lo = x} h, a, b) (sym (tab_split f p m n))
 
-  -- two halves, as a machine of w bits joins them
-  pub join_halves : (m w x y p q : ℕ) → m + m ≤ w → p + m ≡ q → low_bits x m ≡ tab f p m → x < 2 ^ m → low_bits y m ≡ tab f q m → y < 2 ^ m
-      → (low_bits (bit_or x (y * 2 ^ m % 2 ^ w)) (m + m) ≡ tab f p (m + m)) × (bit_or x (y * 2 ^ m % 2 ^ w) < 2 ^ (m + m))
-  join_halves m w x y p q o e a h b k =
-      rw (shl_exact {a = y} m m w k o)
-      (rw (or_shifted_r y m x h) (join m m x y p a h (rw e b)), or_lt (m + m) x (y * 2 ^ m) (lt_of_lt_of_le h (pow_mono (omega arith))) (shl_lt {a = y} m m k))
-
 -- what a number of w bits keeps of bits that are shifted past its end
 pub kept-bits : (x g s w : ℕ) → g + s ≡ w → x * 2 ^ s % 2 ^ w ≡ x % 2 ^ g * 2 ^ s
 kept-bits x g s w e =
@@ -123,6 +119,39 @@ byte_bits m l k h =
     let d : (8 * k + j) / 8 ≡ k = omega arith in
     let e : (8 * k + j) % 8 ≡ j = omega arith in
     rw (d, e))
+
+-- a byte's place in a number
+pow_bytes : (n : ℕ) → 256 ^ n ≡ 2 ^ (8 * n)
+pow_bytes zero = refl
+pow_bytes (suc n) =
+    let e : 8 * n + 8 ≡ 8 * suc n = omega arith in
+    pow-suc 256 n ∙ ap (λ (r : ℕ). r * 256) (pow_bytes n) ∙ sym (pow-add 2 (8 * n) 8) ∙ ap (λ (r : ℕ). 2 ^ r) e
+
+-- the bytes g 0, .. g n of a number, which are those from byte k on
+number_bits : (l : List ℕ) (k : ℕ) (g : ℕ → ℕ) (n : ℕ) → ((i : ℕ) → i ≤ n → (g i ≡ get_or l (k + i) 0) × (g i < 256))
+    → (low_bits (sum_through (λ i. byte_worth i (g i)) n) (8 * suc n) ≡ tab (bit_at l) (8 * k) (8 * suc n)) × (sum_through (λ i. byte_worth i (g i)) n < 2 ^ (8 * suc n))
+number_bits l k g zero h =
+    let first = h 0 (omega arith) in
+    let z : k + 0 ≡ k = omega arith in
+    (ap (λ (x : ℕ). low_bits x 8) (first.0 ∙ ap (λ (j : ℕ). get_or l j 0) z) ∙ byte_bits 8 l k (omega arith), omega (arith, first.1))
+number_bits l k g (suc n) h =
+    let m = 8 * suc n in
+    let x = sum_through (λ i. byte_worth i (g i)) n in
+    let y = g (suc n) in
+    let before = number_bits l k g n (λ i o. h i (omega arith)) in
+    let last = h (suc n) (omega arith) in
+    let q : 8 * (k + suc n) ≡ 8 * k + m = omega arith in
+    let b : low_bits y 8 ≡ tab (bit_at l) (8 * k + m) 8 = ap (λ (r : ℕ). low_bits r 8) last.0 ∙ byte_bits 8 l (k + suc n) (omega arith) ∙ ap (λ (r : ℕ). tab (bit_at l) r 8) q in
+    let w : y * 2 ^ m + x ≡ x + y * 256 ^ suc n = ap (λ (r : ℕ). y * r + x) (sym (pow_bytes (suc n))) ∙ add_comm (y * 256 ^ suc n) x in
+    let d : m + 8 ≡ 8 * suc (suc n) = omega arith in
+    (rw (w, d) at (join (bit_at l) m 8 x y (8 * k) before.0 before.1 b), rw (w, d) at (rw (← pow-add 2 m 8) at (mul-add-lt y (2 ^ m) x 256 last.1 before.1)))
+
+-- the eight bytes from byte k on as a word, the first lowest
+pub word_bits : (l bytes : List ℕ) (k : ℕ) → bytes ≡ take 8 (drop k l) → ((i : ℕ) → get_or l i 0 < 256) → low_bits (from_le_bytes w64 bytes) 64 ≡ tab (bit_at l) (8 * k) 64
+word_bits l bytes k e small =
+    let at : (i : ℕ) → i ≤ 7 → get_or bytes i 0 ≡ get_or l (k + i) 0 = λ i o. ap (λ (r : List ℕ). get_or r i 0) e ∙ get_or-take 8 (drop k l) i 0 (omega arith) ∙ get_or-drop k l i 0 in
+    let both = number_bits l k (λ i. get_or bytes i 0) 7 (λ i o. (at i o, omega (arith, at i o, small (k + i)))) in
+    both.0
 
 -- bits of one byte
 pub read_within : (m : ℕ) (l : List ℕ) (k s : ℕ) → s + m ≤ 8 → low_bits (get_or l k 0 / 2 ^ s % 2 ^ m) m ≡ tab (bit_at l) (8 * k + s) m
@@ -280,42 +309,32 @@ few_across m x l i h o c q b =
 -- ---- a word appended
 
 -- a byte's bits of a number, and then the others
-next_byte : (x y n : ℕ) (l : List ℕ) (k q : ℕ) → k < length l → x / 2 ^ 8 ≡ y → 8 * k + 8 ≡ q → push_bits (set l k (bit_and x 255)) q (low_bits y n) ≡ push_bits l (8 * k) (low_bits x (8 + n))
+next_byte : (x y n : ℕ) (l : List ℕ) (k q : ℕ) → k < length l → x / 2 ^ 8 ≡ y → 8 * k + 8 ≡ q → push_bits (set l k (x % 2 ^ 8)) q (low_bits y n) ≡ push_bits l (8 * k) (low_bits x (8 + n))
 next_byte x y n l k q h d e =
     let f : 8 * k / 8 ≡ k = omega arith in
     let b : push_bits l (8 * k) (low_bits (x % 2 ^ 8) 8) ≡ set l (8 * k / 8) (x % 2 ^ 8) = few-first 8 (x % 2 ^ 8) l (8 * k) (omega arith) (omega arith) (omega arith) (omega arith) (mod-lt x (pow_pos 8)) in
-    rw (← d, ← e, and_mask x 8, push_split 8 n x l (8 * k), b, f)
+    rw (← d, ← e, push_split 8 n x l (8 * k), b, f)
+
+byte_value : (i x : ℕ) → byte_at i x ≡ x / 2 ^ (8 * i) % 2 ^ 8
+byte_value zero x = let o : x / 1 ≡ x = omega arith in rw o
+byte_value (suc i) x = rw (pow_bytes (suc i))
 
 -- the bytes from byte i on of a number, stored from byte k on
-unfoldable pub stored : List ℕ → ℕ → ℕ → ℕ → ℕ → List ℕ
-stored l k x i zero = l
-stored l k x i (suc n) = stored (set l (k + i) (bit_and (x / 2 ^ (8 * i)) 255)) k x (suc i) n
-
-length_stored : (n i x : ℕ) (l : List ℕ) (k : ℕ) → length (stored l k x i n) ≡ length l
-unfolding stored
-length_stored zero i x l k = refl
-length_stored (suc n) i x l k = let y = bit_and (x / 2 ^ (8 * i)) 255 in length_stored n (suc i) x (set l (k + i) y) k ∙ length-set l (k + i) y
-
-stored_bits : (n i x : ℕ) (l : List ℕ) (k : ℕ) → k + i + n ≤ length l → stored l k x i n ≡ push_bits l (8 * (k + i)) (low_bits (x / 2 ^ (8 * i)) (8 * n))
-unfolding stored push_bits low_bits
-stored_bits zero i x l k h = refl
-stored_bits (suc n) i x l k h =
-    let y = bit_and (x / 2 ^ (8 * i)) 255 in
+bytes_stored : (n i x : ℕ) (l : List ℕ) (k : ℕ) → k + n ≤ length l → sets l k (bytes_low_first i n x) ≡ push_bits l (8 * k) (low_bits (x / 2 ^ (8 * i)) (8 * n))
+unfolding push_bits low_bits
+bytes_stored zero i x l k h = refl
+bytes_stored (suc n) i x l k h =
+    let y = byte_at i x in
     let e : 8 * i + 8 ≡ 8 * suc i = omega arith in
     let f : 8 + 8 * n ≡ 8 * suc n = omega arith in
-    stored_bits n (suc i) x (set l (k + i) y) k (omega (arith, length-set l (k + i) y))
-    ∙ next_byte (x / 2 ^ (8 * i)) (x / 2 ^ (8 * suc i)) (8 * n) l (k + i) (8 * (k + suc i)) (omega arith) (rw e at (shr-shr x (8 * i) 8)) (omega arith)
-    ∙ ap (λ (r : ℕ). push_bits l (8 * (k + i)) (low_bits (x / 2 ^ (8 * i)) r)) f
-
--- so many bytes of a number, the first stored
-pub first_stored : (n x : ℕ) (l : List ℕ) (k : ℕ) → length (stored (set l k (bit_and x 255)) k x 1 n) ≡ length l
-first_stored n x l k = length_stored n 1 x (set l k (bit_and x 255)) k ∙ length-set l k (bit_and x 255)
+    bytes_stored n (suc i) x (set l k y) (suc k) (omega (arith, length-set l k y))
+    ∙ ap (λ (r : ℕ). push_bits (set l k r) (8 * suc k) (low_bits (x / 2 ^ (8 * suc i)) (8 * n))) (byte_value i x)
+    ∙ next_byte (x / 2 ^ (8 * i)) (x / 2 ^ (8 * suc i)) (8 * n) l k (8 * suc k) (omega arith) (rw e at (shr-shr x (8 * i) 8)) (omega arith)
+    ∙ ap (λ (r : ℕ). push_bits l (8 * k) (low_bits (x / 2 ^ (8 * i)) r)) f
 
 -- the eight bytes of a word
-pub word_stored : (x : ℕ) (l : List ℕ) (k : ℕ) → k + 8 ≤ length l → stored (set l k (bit_and x 255)) k x 1 7 ≡ push_bits l (8 * k) (low_bits x 64)
-word_stored x l k h =
-    let y = bit_and x 255 in
-    stored_bits 7 1 x (set l k y) k (omega (arith, length-set l k y)) ∙ next_byte x (x / 2 ^ 8) 56 l k (8 * (k + 1)) (omega arith) refl (omega arith)
+pub word_stored : (x : ℕ) (l : List ℕ) (k : ℕ) → k + 8 ≤ length l → sets l k (to_le_bytes w64 x) ≡ push_bits l (8 * k) (low_bits x 64)
+word_stored x l k h = let o : x / 1 ≡ x = omega arith in rw o at (bytes_stored 8 0 x l k h)
 
 low_none : (m : ℕ) → low_bits 0 m ≡ replicate m false
 unfolding low_bits
@@ -350,8 +369,49 @@ ones_low (suc m) x h =
     let s = pow-suc 2 m in
     omega (arith, odd (x % 2) (omega arith), ones_low m (x / 2) (omega arith), ones_step x)
 
--- the ones of a word, and then those of the bits after it
-pub word_counted : (f : ℕ → Bool) (p q n x : ℕ) → 64 ≤ n → p + 64 ≡ q → low_bits x 64 ≡ tab f p 64 → x < 2 ^ 64 → trues (tab f p n) ≡ ones x + trues (tab f q (n - 64))
-word_counted f p q n x h e a b =
-    let d : 64 + (n - 64) ≡ n = omega arith in
-    ap (λ (r : ℕ). trues (tab f p r)) (sym d) ∙ rw (tab_split f p 64 (n - 64), ← a, e, trues-append, ones_low 64 x b)
+-- those of so many bits, and of the bits after them
+counted_more : (f : ℕ → Bool) (p n m : ℕ) → trues (tab f p (n + m)) ≡ trues (tab f p n) + trues (tab f (p + n) m)
+counted_more f p n m = ap trues (tab_split f p n m) ∙ trues-append (tab f p n) (tab f (p + n) m)
+
+module _ (l : List ℕ) (k : ℕ) where
+  -- byte i of the n from byte k on
+  pub byte_counted : (n i : ℕ) → ((j : ℕ) → get_or l j 0 < 256) → i < n → trues (tab (bit_at l) (8 * k) (8 * (i + 1))) ≡ trues (tab (bit_at l) (8 * k) (8 * i)) + ones (get_or (take n (drop k l)) i 0)
+  byte_counted n i small h =
+      let e : 8 * i + 8 ≡ 8 * (i + 1) = omega arith in
+      let q : 8 * k + 8 * i ≡ 8 * (k + i) = omega arith in
+      let at : get_or (take n (drop k l)) i 0 ≡ get_or l (k + i) 0 = get_or-take n (drop k l) i 0 h ∙ get_or-drop k l i 0 in
+      let whole : get_or l (k + i) 0 % 2 ^ 8 ≡ get_or l (k + i) 0 = mod-eq_of_lt (small (k + i)) in
+      ap (λ (r : ℕ). trues (tab (bit_at l) (8 * k) r)) (sym e)
+      ∙ counted_more (bit_at l) (8 * k) (8 * i) 8
+      ∙ ap (λ (r : ℕ). trues (tab (bit_at l) (8 * k) (8 * i)) + trues (tab (bit_at l) r 8)) q
+      ∙ ap (λ (r : ℕ). trues (tab (bit_at l) (8 * k) (8 * i)) + r) (ones_bits l (k + i) 8 (omega arith) ∙ ap ones (whole ∙ sym at))
+
+  -- whole bytes, and the bits that are left
+  pub bytes_counted : (n : ℕ) → trues (tab (bit_at l) (8 * k) n) ≡ trues (tab (bit_at l) (8 * k) (8 * (n / 8))) + ones (get_or l (k + n / 8) 0 % 2 ^ (n % 8))
+  bytes_counted n =
+      let e : 8 * (n / 8) + n % 8 ≡ n = omega arith in
+      let q : 8 * k + 8 * (n / 8) ≡ 8 * (k + n / 8) = omega arith in
+      ap (λ (r : ℕ). trues (tab (bit_at l) (8 * k) r)) (sym e)
+      ∙ counted_more (bit_at l) (8 * k) (8 * (n / 8)) (n % 8)
+      ∙ ap (λ (r : ℕ). trues (tab (bit_at l) (8 * k) (8 * (n / 8))) + trues (tab (bit_at l) r (n % 8))) q
+      ∙ ap (λ (r : ℕ). trues (tab (bit_at l) (8 * k) (8 * (n / 8))) + r) (ones_bits l (k + n / 8) (n % 8) (omega arith))
+
+module _ (f : ℕ → Bool) where
+  -- word i
+  pub word_counted : (i x : ℕ) → low_bits x 64 ≡ tab f (8 * (8 * i)) 64 → x < 2 ^ 64 → trues (tab f 0 (64 * (i + 1))) ≡ trues (tab f 0 (64 * i)) + ones x
+  word_counted i x a b =
+      let e : 64 * i + 64 ≡ 64 * (i + 1) = omega arith in
+      let q : 0 + 64 * i ≡ 8 * (8 * i) = omega arith in
+      ap (λ (r : ℕ). trues (tab f 0 r)) (sym e)
+      ∙ counted_more f 0 (64 * i) 64
+      ∙ ap (λ (r : ℕ). trues (tab f 0 (64 * i)) + trues (tab f r 64)) q
+      ∙ ap (λ (r : ℕ). trues (tab f 0 (64 * i)) + r) (ap trues (sym a) ∙ ones_low 64 x b)
+
+  -- whole words, and the bits that are left
+  pub words_counted : (n : ℕ) → trues (tab f 0 n) ≡ trues (tab f 0 (64 * (n / 64))) + trues (tab f (8 * (8 * (n / 64))) (n % 64))
+  words_counted n =
+      let e : 64 * (n / 64) + n % 64 ≡ n = omega arith in
+      let q : 0 + 64 * (n / 64) ≡ 8 * (8 * (n / 64)) = omega arith in
+      ap (λ (r : ℕ). trues (tab f 0 r)) (sym e)
+      ∙ counted_more f 0 (64 * (n / 64)) (n % 64)
+      ∙ ap (λ (r : ℕ). trues (tab f 0 (64 * (n / 64))) + trues (tab f r (n % 64))) q

@@ -8,11 +8,10 @@ use native.Mathlib.Nat.{pow-suc, mul_assoc}
 use borrow.Author.Tests.{ne_eqb, ltb-true, ltb-false}
 use lib.Bits.{or_shifted_r}
 use lib.Dec.{ltb, eqb}
-use lib.Pow.{shl_exact}
 use mir.Val.{bool_byte}
-use lib.ListN.{length, get_or, take, drop, length-drop, length-append, length-set}
+use lib.ListN.{length, take, drop, length-drop, length-append, length-set}
 use lib.Seq.{take_all, take-append-le, drop-append-le}
-use Rattle.model.specs.Bitmap.{Bits, bit_at, bit, byte_of, pack, pack_n, bytes_for, short_bits, nulls}
+use Rattle.model.specs.Bitmap.{Bits, bit, byte_of, pack, pack_n, bytes_for, short_bits, nulls}
 use Rattle.bitmap.specs.Push.{Covers, push_bit, push_bits}
 use Rattle.model.specs.Basics.{tab}
 use Rattle.model.proofs.TabLaws.{tab-step, tab-none}
@@ -24,13 +23,6 @@ unfolding short_bits
 within b i n s h z =
     let l : bytes_for (b.start + n) ≤ length b.bytes = ltb-false _ _ (rw (ne_eqb (length b.bytes) 0 z) at s.long) in
     omega arith
-
--- a bit counted from a starting bit, in the code's terms
-pub from_at : (l : List ℕ) (s i : ℕ) → eqb (get_or l (i / 8 + (s + i % 8) / 8) 0 / 2 ^ ((s + i % 8) % 8) % 2) 1 ≡ bit_at l (s + i)
-from_at l s i =
-    let q : i / 8 + (s + i % 8) / 8 ≡ (s + i) / 8 = omega arith in
-    let m : (s + i % 8) % 8 ≡ (s + i) % 8 = omega arith in
-    rw (q, m)
 
 -- ---- packing
 
@@ -150,8 +142,3 @@ bit_le false = omega arith
 pub bit_byte : (b : Bool) → bool_byte b ≡ bit b
 bit_byte true = refl
 bit_byte false = refl
-
--- a bit shifted into a byte stays in it
-pub bit_shifted : (b : Bool) (k : ℕ) → k < 8 → bool_byte b * 2 ^ k % 256 ≡ bit b * 2 ^ k
-bit_shifted true k h = shl_exact {a = 1} 1 k 8 (omega arith) (omega arith)
-bit_shifted false k h = shl_exact {a = 0} 1 k 8 (omega arith) (omega arith)

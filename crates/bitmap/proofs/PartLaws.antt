@@ -1,13 +1,13 @@
 -- Laws of a bitmap cut at a bit: from the byte on that holds it.
-use mathlib.Core.Path.{◌≡◌, refl, sym}
+use mathlib.Core.Path.{◌≡◌, refl}
 use mathlib.Core.Bool.{Bool, true, false, not, ◌&&◌}
-use mathlib.Core.List.{List, [], ◌∷◌}
-use Prim.Native.Nat.{ℕ, ◌+◌, ◌-◌, ◌/◌, ◌%◌, ◌≤◌, ◌<◌}
+use mathlib.Core.List.{List}
+use Prim.Native.Nat.{ℕ, ◌+◌, ◌/◌, ◌%◌, ◌≤◌, ◌<◌}
 use native.Mathlib.Omega.{arith}
 use borrow.Author.Tests.{eq-eqb, ne_eqb, ltb-false, le-ltb, eqb-true, eqb-false}
 use lib.Dec.{eqb}
-use lib.ListN.{length, take, drop, length-drop}
-use lib.Seq.{take_all, drop-nil, get_or-drop}
+use lib.ListN.{length, drop, length-drop}
+use lib.Seq.{get_or-drop}
 use Rattle.model.specs.Bitmap.{Bits, bit_at, valid_at, short_bits, bytes_for}
 use Rattle.bitmap.specs.Push.{Covers, bits_from}
 use Rattle.bitmap.proofs.BitLaws.{within}
@@ -27,16 +27,6 @@ and_false false = refl
 pub long : (eb : Bits) (N : ℕ) → Covers eb N → (length eb.bytes ≡ 0 → ⊥) → bytes_for (eb.start + N) ≤ length eb.bytes
 unfolding short_bits
 long eb N g z = ltb-false _ _ (rw (ne_eqb (length eb.bytes) 0 z) at g.long)
-
--- the bytes from bit a on, in the code's terms
-pub no_bytes : (l : List ℕ) (k : ℕ) → length l ≡ 0 → l ≡ drop k l
-no_bytes [] k h = sym (drop-nil k)
-no_bytes (x ∷ l) k h = let z : ⊥ = omega arith in absurd z
-
-pub bytes-from : (l : List ℕ) (s a : ℕ) → take (length l - (a / 8 + (s + a % 8) / 8)) (drop (a / 8 + (s + a % 8) / 8) l) ≡ drop ((s + a) / 8) l
-bytes-from l s a =
-    let q : a / 8 + (s + a % 8) / 8 ≡ (s + a) / 8 = omega arith in
-    rw q (take_all (length l - (s + a) / 8) (drop ((s + a) / 8) l) (omega (arith, length-drop ((s + a) / 8) l)))
 
 module _ (eb : Bits) (a n N : ℕ) (g : Covers eb N) (h : a + n ≤ N) where
   short-from : (t : Bool) → eqb (length eb.bytes) 0 ≡ t → short_bits (bits_from eb a) n ≡ false

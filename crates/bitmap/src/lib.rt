@@ -11,8 +11,7 @@ fn bit_at(bitmap: &[u8], i: usize) -> bool
     requires { i / 8 < length bitmap.now }
     ensures { result ≡ bit_at bitmap.now i }
 {
-    let byte = bitmap[i / 8];
-    ((byte >> ((i % 8) as u8)) & 1) == 1
+    (bitmap[i / 8] >> (i % 8)) & 1 == 1
 }
 
 // The same, counted from a starting bit; the sum of the two may be past the largest number.
@@ -22,21 +21,20 @@ fn bit_from(bitmap: &[u8], start: usize, i: usize) -> bool
     ensures { result ≡ bit_at bitmap.now (start + i) }
 {
     let p = start + i % 8;
-    let byte = bitmap[i / 8 + p / 8];
-    ((byte >> ((p % 8) as u8)) & 1) == 1
+    (bitmap[i / 8 + p / 8] >> (p % 8)) & 1 == 1
 }
 
 // Appends bit i, the bits before it being written: the first bit of a byte starts the byte anew.
+#[tactic(auto, unfolding(crate::specs::Push::push_bit))]
 pub fn push_bit(bitmap: &mut [u8], i: usize, on: bool)
     requires { i / 8 < length bitmap.old }
     ensures { bitmap.new ≡ push_bit bitmap.old i on }
 {
-    let at = i / 8;
+    let bit = u8::from(on);
     if i % 8 == 0 {
-        bitmap[at] = on as u8;
+        bitmap[i / 8] = bit;
     } else {
-        let byte = bitmap[at];
-        bitmap[at] = byte | ((on as u8) << ((i % 8) as u8));
+        bitmap[i / 8] |= bit << (i % 8);
     }
 }
 
@@ -44,7 +42,7 @@ pub fn push_bit(bitmap: &mut [u8], i: usize, on: bool)
 pub fn bytes_for(n: usize) -> usize
     ensures { result ≡ bytes_for n }
 {
-    n / 8 + (n % 8 + 7) / 8
+    n.div_ceil(8)
 }
 
 // How many bytes n bits take that begin at a starting bit.
@@ -52,27 +50,26 @@ fn bytes_from(start: usize, n: usize) -> usize
     requires { start < 8 }
     ensures { result ≡ bytes_for (start + n) }
 {
-    n / 8 + (n % 8 + start + 7) / 8
+    n / 8 + (n % 8 + start).div_ceil(8)
 }
 
 // Whether a bitmap that is not empty has fewer than n bits.
+#[tactic(auto, unfolding(model::specs::Bitmap::short_bits))]
 pub fn is_short(bitmap: &[u8], start: usize, n: usize) -> bool
     requires { start < 8 }
     ensures { result ≡ short_bits (lent_bits bitmap start) n }
 {
-    if bitmap.len() == 0 {
-        return false;
-    }
-    bitmap.len() < bytes_from(start, n)
+    !bitmap.is_empty() && bitmap.len() < bytes_from(start, n)
 }
 
 // Whether bit i of n is set, or the bitmap is empty; a bitmap that starts at bit 0, as most do, needs no counting from a start.
+#[tactic(auto, unfolding(model::specs::Bitmap::valid_at))]
 pub fn is_valid(bitmap: &[u8], start: usize, i: usize, n: usize) -> bool
     requires covers { Covers (now_bits bitmap start) n }
     requires i_lt_n { i < n }
     ensures { result ≡ valid_at (lent_bits bitmap start) i }
 {
-    if bitmap.len() == 0 {
+    if bitmap.is_empty() {
         return true;
     }
     if start == 0 {
@@ -82,12 +79,13 @@ pub fn is_valid(bitmap: &[u8], start: usize, i: usize, n: usize) -> bool
 }
 
 // The bitmap from bit a on: from the byte on that holds that bit.
+#[tactic(auto, unfolding(crate::specs::Push::bits_from))]
 pub fn bits_from(bitmap: &[u8], start: usize, a: usize, n: usize) -> &[u8]
     requires covers { Covers (now_bits bitmap start) n }
     requires a_le_n { a ≤ n }
     ensures { result.now ≡ (bits_from (lent_bits bitmap start) a).bytes }
 {
-    if bitmap.len() == 0 {
+    if bitmap.is_empty() {
         return bitmap;
     }
     let byte = a / 8 + (start + a % 8) / 8;

@@ -43,10 +43,10 @@ fn two_removed() -> bool {
         &mut out_elements,
     );
     compare::list_counts(answer, 1, 2, 0, 1)
-        && compare::offsets(&out_offsets, &[0, 2, 77])
-        && compare::bytes(&out_rows, &[1, 0xaa])
-        && compare::values(&out_values, &[UNDER_NULL, 7, 77, 77, 77])
-        && compare::bytes(&out_elements, &[0b10, 0xaa])
+        && compare::same(&out_offsets, &[0, 2, 77])
+        && compare::same(&out_rows, &[1, 0xaa])
+        && compare::same(&out_values, &[UNDER_NULL, 7, 77, 77, 77])
+        && compare::same(&out_elements, &[0b10, 0xaa])
 }
 
 // With n -1 it gives the row unchanged.
@@ -63,10 +63,10 @@ fn none_removed() -> bool {
         &mut out_elements,
     );
     compare::list_counts(answer, 1, 4, 0, 1)
-        && compare::offsets(&out_offsets, &[0, 4, 77])
-        && compare::bytes(&out_rows, &[1, 0xaa])
-        && compare::values(&out_values, &[7, UNDER_NULL, 7, 7, 77])
-        && compare::bytes(&out_elements, &[0b1101, 0xaa])
+        && compare::same(&out_offsets, &[0, 4, 77])
+        && compare::same(&out_rows, &[1, 0xaa])
+        && compare::same(&out_values, &[7, UNDER_NULL, 7, 7, 77])
+        && compare::same(&out_elements, &[0b1101, 0xaa])
 }
 
 pub(crate) fn case_n() -> bool {

@@ -25,10 +25,10 @@ pub(crate) fn case_o() -> bool {
         &mut out_elements,
     );
     compare::repeat_counts(answer, 2, 2, 0, 0, 3, 1)
-        && compare::offsets(&out_offsets, &[0, 1, 3, 77])
-        && compare::bytes(&out_rows, &[0b11, 0xaa])
-        && compare::offsets(&inner_offsets, &[0, 0, 1, 2, 77])
-        && compare::bytes(&inner_rows, &[0b110, 0xaa])
-        && compare::values(&out_values, &[4, 4, 77])
-        && compare::bytes(&out_elements, &[0b11, 0xaa])
+        && compare::same(&out_offsets, &[0, 1, 3, 77])
+        && compare::same(&out_rows, &[0b11, 0xaa])
+        && compare::same(&inner_offsets, &[0, 0, 1, 2, 77])
+        && compare::same(&inner_rows, &[0b110, 0xaa])
+        && compare::same(&out_values, &[4, 4, 77])
+        && compare::same(&out_elements, &[0b11, 0xaa])
 }

@@ -13,8 +13,8 @@ pub(crate) fn case_l() -> bool {
         &mut out_offsets, &mut out_rows, &mut out_values, &mut out_elements,
     );
     compare::list_counts(answer, 1, 4, 0, 2)
-        && compare::offsets(&out_offsets, &[0, 4, 77])
-        && compare::bytes(&out_rows, &[1, 0xaa])
-        && compare::values(&out_values, &[1, 2, UNDER_NULL, UNDER_NULL, 77])
-        && compare::bytes(&out_elements, &[0b11, 0xaa])
+        && compare::same(&out_offsets, &[0, 4, 77])
+        && compare::same(&out_rows, &[1, 0xaa])
+        && compare::same(&out_values, &[1, 2, UNDER_NULL, UNDER_NULL, 77])
+        && compare::same(&out_elements, &[0b11, 0xaa])
 }

@@ -20,8 +20,8 @@ pub(crate) fn case_a() -> bool {
         &mut out_elements,
     );
     compare::list_counts(answer, 3, 3, 1, 1)
-        && compare::offsets(&out_offsets, &[0, 3, 3, 3, 77, 77])
-        && compare::bytes(&out_rows, &[0b101, 0xaa])
-        && compare::values(&out_values, &[UNDER_NULL, 2, 1, 77, 77])
-        && compare::bytes(&out_elements, &[0b110, 0xaa])
+        && compare::same(&out_offsets, &[0, 3, 3, 3, 77, 77])
+        && compare::same(&out_rows, &[0b101, 0xaa])
+        && compare::same(&out_values, &[UNDER_NULL, 2, 1, 77, 77])
+        && compare::same(&out_elements, &[0b110, 0xaa])
 }

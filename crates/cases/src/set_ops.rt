@@ -21,10 +21,10 @@ pub(crate) fn case_b() -> bool {
         &mut out_elements,
     );
     compare::list_counts(answer, 1, 3, 0, 1)
-        && compare::offsets(&out_offsets, &[0, 3, 77])
-        && compare::bytes(&out_rows, &[1, 0xaa])
-        && compare::values(&out_values, &[3, UNDER_NULL, 1, 77])
-        && compare::bytes(&out_elements, &[0b101, 0xaa])
+        && compare::same(&out_offsets, &[0, 3, 77])
+        && compare::same(&out_rows, &[1, 0xaa])
+        && compare::same(&out_values, &[3, UNDER_NULL, 1, 77])
+        && compare::same(&out_elements, &[0b101, 0xaa])
 }
 
 // Union [2,1,2], [1,5,-] gives [2,1,5,-].
@@ -39,10 +39,10 @@ pub(crate) fn case_c() -> bool {
         &mut out_offsets, &mut out_rows, &mut out_values, &mut out_elements,
     );
     compare::list_counts(answer, 1, 4, 0, 1)
-        && compare::offsets(&out_offsets, &[0, 4, 77])
-        && compare::bytes(&out_rows, &[1, 0xaa])
-        && compare::values(&out_values, &[2, 1, 5, UNDER_NULL, 77])
-        && compare::bytes(&out_elements, &[0b111, 0xaa])
+        && compare::same(&out_offsets, &[0, 4, 77])
+        && compare::same(&out_rows, &[1, 0xaa])
+        && compare::same(&out_values, &[2, 1, 5, UNDER_NULL, 77])
+        && compare::same(&out_elements, &[0b111, 0xaa])
 }
 
 // Intersect [1,2], [2,1] gives [1,2].
@@ -57,10 +57,10 @@ pub(crate) fn case_d() -> bool {
         &mut out_offsets, &mut out_rows, &mut out_values, &mut out_elements,
     );
     compare::list_counts(answer, 1, 2, 0, 0)
-        && compare::offsets(&out_offsets, &[0, 2, 77])
-        && compare::bytes(&out_rows, &[1, 0xaa])
-        && compare::values(&out_values, &[1, 2, 77])
-        && compare::bytes(&out_elements, &[0b11, 0xaa])
+        && compare::same(&out_offsets, &[0, 2, 77])
+        && compare::same(&out_rows, &[1, 0xaa])
+        && compare::same(&out_values, &[1, 2, 77])
+        && compare::same(&out_elements, &[0b11, 0xaa])
 }
 
 // Intersect [1,2], [2,9,1] gives [2,1].
@@ -75,8 +75,8 @@ pub(crate) fn case_e() -> bool {
         &mut out_offsets, &mut out_rows, &mut out_values, &mut out_elements,
     );
     compare::list_counts(answer, 1, 2, 0, 0)
-        && compare::offsets(&out_offsets, &[0, 2, 77])
-        && compare::bytes(&out_rows, &[1, 0xaa])
-        && compare::values(&out_values, &[2, 1, 77])
-        && compare::bytes(&out_elements, &[0b11, 0xaa])
+        && compare::same(&out_offsets, &[0, 2, 77])
+        && compare::same(&out_rows, &[1, 0xaa])
+        && compare::same(&out_values, &[2, 1, 77])
+        && compare::same(&out_elements, &[0b11, 0xaa])
 }

@@ -2,6 +2,7 @@
 #![tactic(auto)]
 
 ghost use Rattle.std.specs.Prelude.{◌<◌, ltb, ◌||◌, [], ◌∷◌, ◌≡◌};
+ghost use Rattle.model.specs.Answers.{refused_by};
 ghost use Rattle.model.specs.Asked.{asked_list, asked_values};
 ghost use Rattle.model.specs.Contract.{room, value_room};
 ghost use Rattle.model.specs.Form.{fits_in, fits_values};
@@ -11,19 +12,17 @@ ghost use Rattle.model.specs.Limits.{largest};
 ghost use Rattle.model.specs.Outcome.{columns_refusal, made};
 
 use column::widths;
-use model::{ListLengths, ValueLengths, Width};
+use model::{ListLengths, ListSlots, Refusal, ValueLengths, ValueSlots, Width};
 
 // Whether a starting bit of either bitmap is over 7.
 pub fn is_start_over(rstart: usize, estart: usize) -> bool
     ensures { result ≡ ltb 7 rstart || ltb 7 estart }
 {
-    if 7 < rstart {
-        return true;
-    }
-    7 < estart
+    7 < rstart || 7 < estart
 }
 
-// Refusals 13, 1 and 2 of a list column; 0 where none applies.
+// A starting bit over 7, bad offsets and a short bitmap of a list column, in this order.
+#[tactic(auto, unfolding(model::specs::Outcome::columns_refusal, model::specs::Basics::any, model::specs::Column::refusal13, model::specs::Column::refusal2))]
 pub fn list_refusal(
     offsets: &[i32],
     rows: &[u8],
@@ -33,69 +32,59 @@ pub fn list_refusal(
     estart: usize,
     width: Width,
     large: &[i64],
-) -> u8
-    ensures { result ≡ columns_refusal (lent_at width offsets large rows rstart values elements estart ∷ []) [] }
+) -> Result<(), Refusal>
+    ensures { refused_by result ≡ columns_refusal (lent_at width offsets large rows rstart values elements estart ∷ []) [] }
 {
     if is_start_over(rstart, estart) {
-        return 13;
+        return Err(Refusal::BadStartingBit);
     }
     if widths::are_bad(width, offsets, large, values.len()) {
-        return 1;
+        return Err(Refusal::BadOffsets);
     }
     if bitmap::is_short(rows, rstart, widths::row_count(width, offsets, large)) {
-        return 2;
+        return Err(Refusal::ShortBitmap);
     }
     if bitmap::is_short(elements, estart, values.len()) {
-        return 2;
+        return Err(Refusal::ShortBitmap);
     }
-    0
+    Ok(())
 }
 
 // Whether the result form of n rows and m elements fits outputs of these lengths.
 pub fn has_room(n: usize, m: usize, lo: usize, lr: usize, lv: usize, le: usize) -> bool
     ensures { result ≡ fits_in n m (room lo lr lv le) }
 {
-    if lo <= n {
-        return false;
-    }
-    if lr < bitmap::bytes_for(n) {
-        return false;
-    }
-    if lv < m {
-        return false;
-    }
-    bitmap::bytes_for(m) <= le
+    n < lo && bitmap::bytes_for(n) <= lr && m <= lv && bitmap::bytes_for(m) <= le
 }
 
 // Whether n values and their bitmap fit outputs of these lengths.
 pub fn has_value_room(n: usize, lv: usize, lr: usize) -> bool
     ensures { result ≡ fits_values n (value_room lv lr) }
 {
-    if lv < n {
-        return false;
-    }
-    bitmap::bytes_for(n) <= lr
+    n <= lv && bitmap::bytes_for(n) <= lr
 }
 
 // The lengths of the result form of n rows and m elements.
+#[tactic(auto, unfolding(model::specs::Asked::asked_list))]
 pub fn lengths_for(n: usize, m: usize) -> ListLengths
     requires { n < largest }
     ensures { asked_list result ≡ made (room_for n m) }
 {
-    ListLengths::Of {
+    Ok(ListSlots {
         offsets: n + 1,
         rows: bitmap::bytes_for(n),
         values: m,
         elements: bitmap::bytes_for(m),
-    }
+    })
 }
 
 // Those of n values.
+#[tactic(auto, unfolding(model::specs::Asked::asked_values))]
 pub fn value_lengths_for(n: usize) -> ValueLengths
     ensures { asked_values result ≡ made (value_room_for n) }
 {
-    ValueLengths::Of {
+    Ok(ValueSlots {
         values: n,
         rows: bitmap::bytes_for(n),
-    }
+    })
 }

@@ -16,7 +16,7 @@ use Rattle.model.specs.Outcome.{Outcome, refused, made}
 use Rattle.model.specs.Recipe.{Recipe, recipe_outcome, stationed}
 use Rattle.model.specs.Call.{grade_column, grade_recipe, End, Formed, alike_grade_column, end, grade_end, graded_end, recipe_end, trays_end, list_end, answer_of, written, lists_of, arguments_of, views_of}
 use Rattle.model.specs.Run.{Run, grade_column_run, grade_recipe_run}
-use Rattle.model.specs.declared.GradeAnswer.{GradeAnswer}
+use Rattle.model.specs.Answers.{GradeAnswer}
 use Rattle.grades.proofs.grade_column.Reads as GradeColumn
 use Rattle.grades.proofs.grade_recipe.Reads as GradeRecipe
 use Rattle.duthlan.proofs.grade.duthlan_typed_grade.Reads as TypedGrade

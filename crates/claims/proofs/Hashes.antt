@@ -18,7 +18,7 @@ use Rattle.model.specs.Rows.{on_lent}
 use Rattle.model.specs.Call.{list, hashed, End, end, hashed_end, list_end}
 use Rattle.model.specs.Contract.{MutSlice}
 use Rattle.model.specs.Run.{Run, hashed_run}
-use Rattle.model.specs.declared.ListAnswer.{ListAnswer}
+use Rattle.model.specs.Answers.{ListAnswer}
 use Rattle.model.specs.declared.SetOp.{SetOp}
 use Rattle.model.proofs.HashLaws.{ends_as_plain}
 use Rattle.model.proofs.RunLaws.{run_ends}

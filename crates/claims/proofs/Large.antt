@@ -26,13 +26,7 @@ use Rattle.model.proofs.LargeLaws.{Neither, no_four_or_six}
 use Rattle.model.proofs.LentEnough.{rules_out_nine, wide_eights}
 use Rattle.model.proofs.RunLaws.{run_ends}
 use Rattle.model.proofs.Stations.{end_moves, recipes_split, sixteen_stay}
-use Rattle.model.specs.declared.ListAnswer.{ListAnswer}
-use Rattle.model.specs.declared.RepeatAnswer.{RepeatAnswer}
-use Rattle.model.specs.declared.ValueAnswer.{ValueAnswer}
-use Rattle.model.specs.declared.ListLengths.{ListLengths}
-use Rattle.model.specs.declared.ValueLengths.{ValueLengths}
-use Rattle.model.specs.declared.RepeatLengths.{RepeatLengths}
-use Rattle.model.specs.declared.RecipeLimits.{RecipeLimits}
+use Rattle.model.specs.Answers.{ListAnswer, RepeatAnswer, ValueAnswer, ListLengths, ValueLengths, RepeatLengths, RecipeLimits}
 use Rattle.model.specs.declared.Optional.{Optional}
 use Rattle.model.specs.declared.SetOp.{SetOp}
 use Rattle.model.specs.declared.Unary.TheVariants as U

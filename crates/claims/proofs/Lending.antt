@@ -20,10 +20,7 @@ use Rattle.model.specs.Call.{Call, End, end, answer_of, measure_end, measure_lis
 use Rattle.model.specs.Contract.{Slice, MutSlice, lent_if, told_lengths, told_value_lengths, told_repeat_lengths, told_limits}
 use Rattle.model.specs.Run.{Run, measure_list_run, measure_any_value_run, measure_element_run, measure_repeat_run, limit_recipe_run}
 use Rattle.model.proofs.AskedLaws.{list_measures, value_measures, repeat_measures, recipe_limited}
-use Rattle.model.specs.declared.ListLengths.{ListLengths}
-use Rattle.model.specs.declared.ValueLengths.{ValueLengths}
-use Rattle.model.specs.declared.RepeatLengths.{RepeatLengths}
-use Rattle.model.specs.declared.RecipeLimits.{RecipeLimits}
+use Rattle.model.specs.Answers.{ListLengths, ValueLengths, RepeatLengths, RecipeLimits}
 use Rattle.model.specs.declared.Optional.{Optional}
 use Rattle.model.specs.declared.SetOp.{SetOp}
 use Rattle.model.specs.declared.Unary.TheVariants as U

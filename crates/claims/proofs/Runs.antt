@@ -23,9 +23,7 @@ use Rattle.model.specs.Tally as M
 use Rattle.model.proofs.Agreement.{Agree, runs_agree}
 use Rattle.model.proofs.Stations.{recipes_split, run_gives}
 use Rattle.model.proofs.ColumnLaws.{other_bits, other_bitsᵃ}
-use Rattle.model.specs.declared.ListAnswer.{ListAnswer}
-use Rattle.model.specs.declared.RepeatAnswer.{RepeatAnswer}
-use Rattle.model.specs.declared.ValueAnswer.{ValueAnswer}
+use Rattle.model.specs.Answers.{ListAnswer, RepeatAnswer, ValueAnswer}
 use Rattle.model.specs.declared.Optional.{Optional}
 use Rattle.model.specs.declared.SetOp.{SetOp}
 use Rattle.model.specs.declared.Unary.{Unary}

@@ -12,7 +12,7 @@ use Rattle.model.specs.Call.{import_view, export_view, end, view_end, list_bitma
 use Rattle.model.specs.Contract.{MutSlice}
 use Rattle.model.specs.Run.{import_run, export_run}
 use Rattle.model.specs.View.{import_outcome, export_outcome}
-use Rattle.model.specs.declared.ListAnswer.{ListAnswer}
+use Rattle.model.specs.Answers.{ListAnswer}
 use Rattle.views.proofs.import_view.Reads as Import
 use Rattle.views.proofs.export_view.Reads as Export
 use Rattle.duthlan.proofs.view.duthlan_typed_import_view.Reads as TypedImport

@@ -12,7 +12,7 @@ use Rattle.model.specs.Call.{window, end, window_end, trays_end, list_end}
 use Rattle.model.specs.Contract.{Slice, MutSlice}
 use Rattle.model.specs.Run.{window_run}
 use Rattle.model.specs.Window.{window_outcome}
-use Rattle.model.specs.declared.ListAnswer.{ListAnswer}
+use Rattle.model.specs.Answers.{ListAnswer}
 use Rattle.recipe_refusal.specs.Refused.{recipe}
 use Rattle.windows.proofs.run_window.Reads as Window
 use Rattle.duthlan.proofs.windowed.duthlan_typed_recipe_rows.Reads as TypedWindow

@@ -15,10 +15,7 @@ use Rattle.model.specs.Contract.{Slice, MutSlice, room_of, value_room, repeat_ro
 use Rattle.model.specs.Inner.{lent_from, lent_arguments_from}
 use Rattle.model.specs.Recipe.{Recipe}
 use Rattle.model.specs.Run.{Run, list_run_end, value_run_end, repeat_run_end, recipe_run_end, view_run_end, grade_run_end, graded_run_end, hashed_run_end}
-use Rattle.model.specs.declared.GradeAnswer.{GradeAnswer}
-use Rattle.model.specs.declared.ListAnswer.{ListAnswer}
-use Rattle.model.specs.declared.RepeatAnswer.{RepeatAnswer}
-use Rattle.model.specs.declared.ValueAnswer.{ValueAnswer}
+use Rattle.model.specs.Answers.{GradeAnswer, ListAnswer, RepeatAnswer, ValueAnswer}
 use Rattle.tally.specs.Tallies.{tally_of}
 use Rattle.tally.specs.declared.RecipeAnswer.{RecipeAnswer}
 use Rattle.tally.specs.declared.Tally.{Tally}

@@ -1,5 +1,5 @@
 -- Operation codes: what each names; and the four numbers of a step.
-use Rattle.std.specs.Prelude.{ℕ, Bool, true, false, List, [], ◌∷◌, get_or}
+use Rattle.std.specs.Prelude.{ℕ, Bool, true, false, List, [], ◌∷◌, map, get_or, Option, Some, None}
 use Rattle.model.specs.Recipe.{Step}
 use Rattle.model.specs.declared.Unary.TheVariants as U
 use Rattle.model.specs.declared.SetOp.TheVariants as T
@@ -29,16 +29,15 @@ operations =
     ∷ S.Two T.Intersect
     ∷ []
 
-unfoldable pub operation_of : ℕ → Operation
-operation_of code = get_or operations code S.None
+unfoldable pub operation_of : ℕ → Option Operation
+operation_of code = get_or (map Some operations) code None
 
-unfoldable pub is_none : Operation → Bool
-is_none (S.One op) = false
-is_none (S.Two op) = false
-is_none S.None = true
+unfoldable pub is_none : Option Operation → Bool
+is_none (Some o) = false
+is_none None = true
 
 -- how many argument columns an operation takes
-unfoldable pub columns_taken : Operation → ℕ
-columns_taken (S.One op) = takes_of op
-columns_taken (S.Two op) = 0
-columns_taken S.None = 0
+unfoldable pub columns_taken : Option Operation → ℕ
+columns_taken (Some (S.One op)) = takes_of op
+columns_taken (Some (S.Two op)) = 0
+columns_taken None = 0

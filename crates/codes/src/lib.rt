@@ -3,25 +3,25 @@
 
 pub mod check;
 
-ghost use Rattle.codes.specs.Codes.{is_none, operation_of};
+ghost use Rattle.codes.specs.Codes.{operation_of};
 ghost use Rattle.std.specs.Prelude.{◌≡◌};
 
 use model::{SetOp, Unary};
 use ops::ListOp;
 
-// What a code names: an operation on one list and its argument columns, one on two lists, or none.
+// An operation on one list and its argument columns, or one on two lists.
 #[derive(Clone, Copy)]
 pub enum Operation {
     One(ListOp),
     Two(SetOp),
-    None,
 }
 
-// The table of codes.
-pub fn operation_of(code: u32) -> Operation
+// The table of codes: what a code names, if it names an operation.
+#[tactic(auto, using(crate::proofs::CheckLaws::none_rest), unfolding(crate::specs::Codes::operation_of))]
+pub fn operation_of(code: u32) -> Option<Operation>
     ensures { result ≡ operation_of code }
 {
-    match code {
+    Some(match code {
         0 => Operation::One(ListOp::Plain(Unary::Reverse)),
         1 => Operation::One(ListOp::Plain(Unary::Distinct)),
         2 => Operation::One(ListOp::Plain(Unary::PopFront)),
@@ -33,17 +33,6 @@ pub fn operation_of(code: u32) -> Operation
         8 => Operation::One(ListOp::Remove),
         9 => Operation::Two(SetOp::Union),
         10 => Operation::Two(SetOp::Intersect),
-        _ => Operation::None,
-    }
-}
-
-// Whether the code names none.
-pub fn is_none(o: Operation) -> bool
-    ensures { result ≡ is_none o }
-{
-    match o {
-        Operation::One(_) => false,
-        Operation::Two(_) => false,
-        Operation::None => true,
-    }
+        _ => return None,
+    })
 }

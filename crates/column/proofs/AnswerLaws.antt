@@ -1,5 +1,6 @@
 -- From outputs written in result form, and nulls counted in them, to what a contract says of a call.
 use mathlib.Core.Path.{◌≡◌, refl, sym, ◌∙◌, subst}
+use Rattle.std.specs.Prelude.{Err}
 use mathlib.Core.Bool.{Bool, true, false, ◌&&◌}
 use mathlib.Core.List.{List, map}
 use Prim.Native.Nat.{ℕ, ◌+◌, ◌≤◌}
@@ -14,10 +15,8 @@ use Rattle.model.specs.Form.{is_val, is_row, flat, over, fits_in, fits_values, f
 use Rattle.model.specs.Outcome.{Outcome, refused, made, fitted, fitted_values}
 use Rattle.model.specs.Call.{answer_of, written}
 use Rattle.model.specs.Contract.{told, told_value, ListMeets, ValueMeets, room, value_room}
-use Rattle.model.specs.declared.ListAnswer.{ListAnswer}
-use Rattle.model.specs.declared.ListAnswer.TheVariants as L
-use Rattle.model.specs.declared.ValueAnswer.{ValueAnswer}
-use Rattle.model.specs.declared.ValueAnswer.TheVariants as V'
+use Rattle.model.specs.declared.Refusal.{Refusal}
+use Rattle.model.specs.Answers.{number_of, ListAnswer, ValueAnswer}
 use Rattle.model.proofs.TabLaws.{length-map}
 use Rattle.bitmap.proofs.PackLaws.{counted-nulls}
 use Rattle.column.specs.Put.{RoomInˡ, Fillsˡ}
@@ -26,11 +25,11 @@ use Rattle.model.proofs.BoolLaws.{and_true}
 
 -- ---- a refusal changes no output
 
-pub list-refused : {x : Outcome (List Row)} (k : ℕ) {o : List ℤ} {r : List ℕ} {v : List ℤ} {e : List ℕ} → x ≡ refused k → ListMeets x (L.Refused k) o o r r v v e e
+pub list-refused : {x : Outcome (List Row)} (k : Refusal) {o : List ℤ} {r : List ℕ} {v : List ℤ} {e : List ℕ} → x ≡ refused (number_of k) → ListMeets x (Err k) o o r r v v e e
 unfolding told answer_of written
 list-refused k q = rw q (record { answer = refl; offsets = refl; rows = refl; values = refl; elements = refl })
 
-pub value_refused : {x : Outcome (List Elem)} (k : ℕ) {v : List ℤ} {r : List ℕ} → x ≡ refused k → ValueMeets x (V'.Refused k) v v r r
+pub value_refused : {x : Outcome (List Elem)} (k : Refusal) {v : List ℤ} {r : List ℕ} → x ≡ refused (number_of k) → ValueMeets x (Err k) v v r r
 unfolding told_value answer_of written
 value_refused k q = rw q (record { answer = refl; values = refl; rows = refl })
 

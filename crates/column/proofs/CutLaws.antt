@@ -1,26 +1,25 @@
 -- Laws of rows a up to b of a column: its offsets from a on, one more than these rows, and its row bitmap from bit a on. The values and the
 -- element bitmap stay, since offsets go on pointing into them.
 use mathlib.Core.Path.{◌≡◌, refl, sym, ap, subst, ◌∙◌}
-use mathlib.Core.Bool.{Bool, true, false, ◌||◌}
+use mathlib.Core.Bool.{false, ◌||◌}
 use mathlib.Core.List.{List, [], ◌∷◌}
 use Prim.Native.Nat.{ℕ, zero, suc, ◌+◌, ◌-◌, ◌≤◌, ◌<◌}
 use native.Mathlib.Omega.{arith}
 use native.Mathlib.Nat.{zero-add}
-use borrow.Author.Tests.{ltb-false, le-ltb}
+use borrow.Author.Tests.{le-ltb}
 use lib.Dec.{T}
 use lib.IntN.{ℤ, pos, negsuc}
-use lib.ListN.{length, get_or, take, drop, length-drop, drop_of_length-le}
+use lib.ListN.{length, get_or, take, drop, length-drop}
 use lib.Seq.{get_or-take, get_or-drop, length-take-le, take-nil, drop-nil}
 use lib.Signed.{lt_z}
-use Rattle.model.specs.Basics.{pick, tab}
-use Rattle.model.specs.Bitmap.{Bits, valid_at}
-use Rattle.model.specs.Column.{Row, null_row, list_row, Column, column, Arguments, arguments, count, offset_at, elem_at, row_at, rows_of, row_count, shown_by, falls, bad_offsets}
+use Rattle.model.specs.Basics.{tab}
+use Rattle.model.specs.Column.{null_row, Column, column, count, offset_at, row_at, rows_of, row_count, falls, bad_offsets}
 use Rattle.model.specs.Window.{cut}
 use Rattle.model.proofs.BoolLaws.{or_none}
-use Rattle.model.proofs.TabLaws.{length-tab, get_or-tab, tab_ext, tab-get_or}
-use Rattle.model.proofs.ColumnLaws.{length-rows, row_at_lem, length-shown, argument_at}
+use Rattle.model.proofs.TabLaws.{tab-get_or}
+use Rattle.model.proofs.ColumnLaws.{length-rows, row_at_lem}
 use Rattle.model.proofs.WindowLaws.{length_cut, cut_at}
-use Rattle.bitmap.specs.Push.{Covers, bits_from}
+use Rattle.bitmap.specs.Push.{bits_from}
 use Rattle.bitmap.proofs.PartLaws.{covers_from, valid_from}
 use Rattle.column.specs.Put.{Readable}
 use Rattle.column.proofs.OffsetLaws.{count_beyond, top}

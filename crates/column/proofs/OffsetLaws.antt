@@ -1,5 +1,7 @@
 -- Laws of offsets: the check of refusal 1, and a signed number as a count.
-use mathlib.Core.Path.{◌≡◌, refl, ◌∙◌, subst}
+use mathlib.Core.Path.{◌≡◌, refl, sym, ap, ◌∙◌, subst}
+use Rattle.std.proofs.Common.{map}
+use Rattle.std.proofs.lemmas.List.{get_or-map, length-map}
 use mathlib.Core.Bool.{Bool, true, false, ◌||◌}
 use mathlib.Core.List.{List, [], ◌∷◌}
 use Prim.Native.Nat.{ℕ, zero, suc, ◌+◌, ◌^◌, ◌≤◌, ◌<◌}
@@ -91,6 +93,11 @@ unfolding bad_offsets
 top [] n i h k = omega arith
 top (o ∷ os) n i h k = falls_top o os n i (or_none (lt_z o (pos 0)) (falls o os n) h).1 k
 
+-- an offset of a list as a number
+pub number_at : {A : Type 0} (number : A → ℤ) (numbers : List A → List ℤ) → ((l : List A) → numbers l ≡ map number l) → (l : List A) (i : ℕ) (x : A) → i < length l → x ≡ get_or l i x → (i < length (numbers l)) × (number x ≡ get_or (numbers l) i (pos 0))
+number_at number numbers are l i x h e =
+    rw are (omega (arith, length-map l number), ap number e ∙ sym (get_or-map number l i x (pos 0) h))
+
 -- ---- a signed number, read back from its bits
 
 pub back64 : (x : ℤ) → mag x < 2 ^ 63 → to_z w64 (of_z w64 x) ≡ x
@@ -116,27 +123,13 @@ module _ (w : Width) (x : ℤ) (g : mag x < 2 ^ hbits w) where
   pub casts : T (ltb (hbits w) (bits w64)) → lt_z (to_z w (of_z w x)) (pos 0) ≡ false → T (non_neg (to_z w (of_z w x))) × Fits w64 (nat_abs (to_z w (of_z w x)))
   casts t h = rw back ((non x (rw back at h)).0, Fits-nat_abs {w = w} {z = x} t (record { sfits = g }))
 
-  pub bounded : lt_z (to_z w (of_z w x)) (pos 0) ≡ false → nat_abs (to_z w (of_z w x)) < 2 ^ hbits w
-  bounded h = rw back (small x (non x (rw back at h)).0 g)
-    where
-      small : (y : ℤ) → T (non_neg y) → mag y < 2 ^ hbits w → nat_abs y < 2 ^ hbits w
-      small (pos n) t l = l
-      small (negsuc n) t l = absurd t
-
   pub counted : lt_z (to_z w (of_z w x)) (pos 0) ≡ false → nat_abs (to_z w (of_z w x)) ≡ count x
   counted h = rw back (non x (rw back at h)).1
 
-module _ (w : Width) (x : ℤ) (v : ℕ) (g : mag x < 2 ^ hbits w) where
-  neg_below : (y : ℤ) → lt_z y (pos 0) ≡ true → true ≡ lt_z y (pos v)
-  neg_below (pos n) h = let z : n < 0 = ltb-true n 0 h in let q : ⊥ = omega arith in absurd q
-  neg_below (negsuc n) h = refl
-
-  pub negative_below : lt_z (to_z w (of_z w x)) (pos 0) ≡ true → true ≡ lt_z x (pos v)
-  negative_below h = neg_below x (rw (back w x g) at h)
-
-  non_below : (y : ℤ) → lt_z y (pos 0) ≡ false → ltb (nat_abs y) v ≡ lt_z y (pos v)
-  non_below (pos n) h = refl
-  non_below (negsuc n) h = let z : ◌≡◌ {A = Bool} true false = h in absurd (subst T z tt)
-
-  pub counted-below : lt_z (to_z w (of_z w x)) (pos 0) ≡ false → ltb (nat_abs (to_z w (of_z w x))) v ≡ lt_z x (pos v)
-  counted-below h = rw (back w x g) (non_below x (rw (back w x g) at h))
+  pub count_small : count (to_z w (of_z w x)) < 2 ^ hbits w
+  unfolding count
+  count_small = rw back (small x g)
+    where
+      small : (y : ℤ) → mag y < 2 ^ hbits w → count y < 2 ^ hbits w
+      small (pos n) l = l
+      small (negsuc n) l = omega (arith, l)

@@ -7,28 +7,18 @@ ghost use Rattle.model.specs.Form.{is_val, under_null, value_of};
 ghost use Rattle.model.specs.Inner.{now_bits, lent_elem};
 
 // What a null slot holds.
-pub const UNDER_NULL: i64 = -9223372036854775808;
+pub const UNDER_NULL: i64 = i64::MIN;
 
 // The value at i, or what a null slot holds.
 fn value_or_null(values: &[i64], i: usize, on: bool) -> i64
     requires { i < length values.now }
     ensures { result ≡ pick on (get_or values.now i (pos 0)) under_null }
 {
-    if on {
-        return values[i];
-    }
-    UNDER_NULL
-}
-
-// Stores a value.
-fn put_value(out: &mut [i64], i: usize, v: i64)
-    requires { i < length out.old }
-    ensures { out.new ≡ set out.old i v }
-{
-    out[i] = v;
+    if on { values[i] } else { UNDER_NULL }
 }
 
 // Writes element i of a column as element k of the result.
+#[tactic(auto, unfolding(model::specs::Form::value_of, model::specs::Form::is_val, model::specs::Column::elem_at))]
 pub fn write_elem(
     values: &[i64],
     elements: &[u8],
@@ -46,18 +36,18 @@ pub fn write_elem(
     ensures out_elements_after { out_elements.new ≡ push_bit out_elements.old k (is_val (lent_elem values elements estart i)) }
 {
     let valid = bitmap::is_valid(elements, estart, i, values.len());
-    let v = value_or_null(values, i, valid);
-    put_value(out_values, k, v);
+    out_values[k] = value_or_null(values, i, valid);
     bitmap::push_bit(out_elements, k, valid);
 }
 
 // Writes a null as element k of the result.
+#[tactic(auto, unfolding(model::specs::Form::value_of, model::specs::Form::is_val))]
 pub fn write_null(out_values: &mut [i64], out_elements: &mut [u8], k: usize)
     requires k_in_bounds { k < length out_values.old }
     requires k_in_bounds_2 { k / 8 < length out_elements.old }
     ensures out_values_after { out_values.new ≡ set out_values.old k (value_of nul) }
     ensures out_elements_after { out_elements.new ≡ push_bit out_elements.old k (is_val nul) }
 {
-    put_value(out_values, k, UNDER_NULL);
+    out_values[k] = UNDER_NULL;
     bitmap::push_bit(out_elements, k, false);
 }

@@ -2,7 +2,6 @@
 #![tactic(auto)]
 
 pub mod elements;
-pub mod large;
 pub mod offsets;
 pub mod rows;
 pub mod widths;

@@ -3,7 +3,7 @@ ghost use Rattle.std.specs.Prelude.{◌<◌, ◌≤◌, pos, length, set, ◌≡
 ghost use Rattle.model.specs.Column.{bad_offsets, offset_at, row_count};
 ghost use Rattle.model.specs.Widths.{entry_at, mut_entry_at, exit_at, limits_at, used};
 
-use crate::{large, offsets};
+use crate::offsets;
 use model::Width;
 
 // Of two numbers the one that the width uses.
@@ -24,7 +24,7 @@ pub fn offset_at(width: Width, narrow: &[i32], wide: &[i64], i: usize) -> usize
 {
     match width {
         Width::Narrow => offsets::offset_at(narrow, i),
-        Width::Wide => large::offset_at(wide, i),
+        Width::Wide => offsets::offset_at(wide, i),
     }
 }
 
@@ -32,10 +32,10 @@ pub fn offset_at(width: Width, narrow: &[i32], wide: &[i64], i: usize) -> usize
 pub fn first_offset(width: Width, narrow: &[i32], wide: &[i64]) -> usize
     ensures { result ≡ offset_at (entry_at width narrow wide) 0 }
 {
-    if pick(width, narrow.len(), wide.len()) == 0 {
-        return 0;
+    match width {
+        Width::Narrow => offsets::first_offset(narrow),
+        Width::Wide => offsets::first_offset(wide),
     }
-    offset_at(width, narrow, wide, 0)
 }
 
 // The number of rows.
@@ -44,7 +44,7 @@ pub fn row_count(width: Width, narrow: &[i32], wide: &[i64]) -> usize
 {
     match width {
         Width::Narrow => offsets::row_count(narrow),
-        Width::Wide => large::row_count(wide),
+        Width::Wide => offsets::row_count(wide),
     }
 }
 
@@ -56,7 +56,7 @@ pub fn put_offset(width: Width, narrow: &mut [i32], wide: &mut [i64], i: usize, 
 {
     match width {
         Width::Narrow => offsets::put_offset(narrow, i, v),
-        Width::Wide => large::put_offset(wide, i, v),
+        Width::Wide => offsets::put_offset(wide, i, v),
     }
 }
 
@@ -66,6 +66,6 @@ pub fn are_bad(width: Width, narrow: &[i32], wide: &[i64], n: usize) -> bool
 {
     match width {
         Width::Narrow => offsets::are_bad(narrow, n),
-        Width::Wide => large::are_bad(wide, n),
+        Width::Wide => offsets::are_bad(wide, n),
     }
 }

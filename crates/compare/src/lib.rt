@@ -2,138 +2,98 @@
 #![tactic(auto)]
 
 ghost use Rattle.compare.specs.Same.{Same};
+ghost use Rattle.std.proofs.lemmas.Bool.Decides.{Decides-eqb, Decides-int_eq};
+ghost use Rattle.std.specs.Bool.{Decides};
+ghost use Rattle.std.specs.Prelude.{◌≡◌, Ok, Err};
 
-use model::{ListAnswer, RepeatAnswer, ValueAnswer};
+use model::{
+    ListAnswer, ListCounts, Refusal, RepeatAnswer, RepeatCounts, ValueAnswer, ValueCounts,
+};
 
 // What the cases want in a null slot of a result.
 pub const UNDER_NULL: i64 = -9223372036854775808;
 
-// Whether two bitmaps hold the same bytes.
-pub fn bytes(got: &[u8], want: &[u8]) -> bool
-    ensures { Same got.now want.now result }
-{
-    if got.len() != want.len() {
-        return false;
-    }
-    for k in 0..got.len() {
-        if got[k] != want[k] {
-            return false;
-        }
-    }
-    true
+// What `==` tells apart from everything else.
+pub trait Exact: PartialEq {
+    ghost exact: { (a b : Self) → Decides (Self.eq a b) (a ≡ b) };
 }
 
-// Whether two slices hold the same offsets.
-pub fn offsets(got: &[i32], want: &[i32]) -> bool
-    ensures { Same got.now want.now result }
-{
-    if got.len() != want.len() {
-        return false;
-    }
-    for i in 0..got.len() {
-        if got[i] != want[i] {
-            return false;
-        }
-    }
-    true
+impl Exact for u8 {
+    ghost exact = { Decides-eqb };
 }
 
-// Whether two slices hold the same values.
-pub fn values(got: &[i64], want: &[i64]) -> bool
+impl Exact for i32 {
+    ghost exact = { Decides-int_eq };
+}
+
+impl Exact for i64 {
+    ghost exact = { Decides-int_eq };
+}
+
+// Whether two slices hold the same.
+pub fn same<T: Exact>(got: &[T], want: &[T]) -> bool
     ensures { Same got.now want.now result }
 {
-    if got.len() != want.len() {
-        return false;
-    }
-    for i in 0..got.len() {
-        if got[i] != want[i] {
-            return false;
-        }
-    }
-    true
+    got == want
 }
 
 // Whether a list answer has these counts of rows, elements, null rows and null elements.
 pub fn list_counts(answer: ListAnswer, r: usize, e: usize, nr: usize, ne: usize) -> bool
-    ensures { Same answer (ListAnswer.Counts r e nr ne) result }
+    ensures { Same answer (Ok (record { rows = r; elements = e; null_rows = nr; null_elements = ne })) result }
 {
-    match answer {
-        ListAnswer::Counts {
-            rows,
-            elements,
-            null_rows,
-            null_elements,
-        } => (rows == r) & (elements == e) & (null_rows == nr) & (null_elements == ne),
-        ListAnswer::Refused(_) => false,
-    }
+    answer
+        == Ok(ListCounts {
+            rows: r,
+            elements: e,
+            null_rows: nr,
+            null_elements: ne,
+        })
 }
 
-// Whether a list answer is the refusal of this number.
-pub fn list_refused(answer: ListAnswer, number: u8) -> bool
-    ensures { Same answer (ListAnswer.Refused number) result }
+// Whether a list answer is this refusal.
+pub fn list_refused(answer: ListAnswer, refusal: Refusal) -> bool
+    ensures { Same answer (Err refusal) result }
 {
-    match answer {
-        ListAnswer::Counts {
-            rows: _,
-            elements: _,
-            null_rows: _,
-            null_elements: _,
-        } => false,
-        ListAnswer::Refused(k) => k == number,
-    }
+    answer == Err(refusal)
 }
 
 // Whether a value answer has these counts of rows and null rows.
 pub fn value_counts(answer: ValueAnswer, r: usize, nr: usize) -> bool
-    ensures { Same answer (ValueAnswer.Counts r nr) result }
+    ensures { Same answer (Ok (record { rows = r; null_rows = nr })) result }
 {
-    match answer {
-        ValueAnswer::Counts { rows, null_rows } => (rows == r) & (null_rows == nr),
-        ValueAnswer::Refused(_) => false,
-    }
+    answer
+        == Ok(ValueCounts {
+            rows: r,
+            null_rows: nr,
+        })
 }
 
-// Whether a value answer is the refusal of this number.
-pub fn value_refused(answer: ValueAnswer, number: u8) -> bool
-    ensures { Same answer (ValueAnswer.Refused number) result }
+// Whether a value answer is this refusal.
+pub fn value_refused(answer: ValueAnswer, refusal: Refusal) -> bool
+    ensures { Same answer (Err refusal) result }
 {
-    match answer {
-        ValueAnswer::Counts {
-            rows: _,
-            null_rows: _,
-        } => false,
-        ValueAnswer::Refused(k) => k == number,
-    }
+    answer == Err(refusal)
 }
 
 // Whether an answer of list-repeat has these counts of rows, elements, null rows, null elements, inner rows and null inner rows.
 pub fn repeat_counts(
     answer: RepeatAnswer,
-    r: usize,
-    e: usize,
-    nr: usize,
-    ne: usize,
-    ir: usize,
-    nir: usize,
+    rows: usize,
+    elements: usize,
+    null_rows: usize,
+    null_elements: usize,
+    inner_rows: usize,
+    null_inner_rows: usize,
 ) -> bool
-    ensures { Same answer (RepeatAnswer.Counts r e nr ne ir nir) result }
+    ensures { Same answer (Ok (record { rows = rows; elements = elements; null_rows = null_rows; null_elements = null_elements; inner_rows = inner_rows; null_inner_rows = null_inner_rows })) result }
 {
-    match answer {
-        RepeatAnswer::Counts {
+    answer
+        == Ok(RepeatCounts {
             rows,
             elements,
             null_rows,
             null_elements,
             inner_rows,
             null_inner_rows,
-        } => {
-            (rows == r)
-                & (elements == e)
-                & (null_rows == nr)
-                & (null_elements == ne)
-                & (inner_rows == ir)
-                & (null_inner_rows == nir)
-        }
-        RepeatAnswer::Refused(_) => false,
-    }
+        })
 }

@@ -9,9 +9,9 @@ ghost use Rattle.model.specs.Widths.{ListAnswersAt};
 ghost use Rattle.std.specs.Prelude.{pos, length, replicate, ◌≡◌};
 
 use column::widths;
-use model::{ListAnswer, Width};
+use model::{ListAnswer, Refusal, Width};
 
-// Copies a column that refusals 1 and 2 do not apply to into result form, or gives 9.
+// Copies a column into result form, where the outputs have room for it.
 pub fn copy(
     offsets: &[i32],
     rows: &[u8],
@@ -42,7 +42,7 @@ pub fn copy(
         out_values.len(),
         out_elements.len(),
     ) {
-        return ListAnswer::Refused(9);
+        return Err(Refusal::ShortOutput);
     }
     copy_rows::write_rows(
         offsets,
@@ -62,37 +62,11 @@ pub fn copy(
     answers::list_answer(out_rows, n, out_elements, m)
 }
 
-// Sets every offset to 0.
-fn clear_i32(slots: &mut [i32])
-    ensures { slots.new ≡ replicate (length slots.old) (pos 0) }
-{
-    let mut k: usize = 0;
-    while k < slots.len() {
-        slots[k] = 0;
-        k += 1;
-    }
-}
-
 // Sets every byte to 0.
 pub fn clear_u8(bytes: &mut [u8])
     ensures { bytes.new ≡ replicate (length bytes.old) 0 }
 {
-    let mut k: usize = 0;
-    while k < bytes.len() {
-        bytes[k] = 0;
-        k += 1;
-    }
-}
-
-// Sets every value to 0.
-fn clear_i64(slots: &mut [i64])
-    ensures { slots.new ≡ replicate (length slots.old) (pos 0) }
-{
-    let mut k: usize = 0;
-    while k < slots.len() {
-        slots[k] = 0;
-        k += 1;
-    }
+    bytes.fill(0);
 }
 
 // Sets every slot of a tray to 0.
@@ -102,9 +76,9 @@ pub fn clear(offsets: &mut [i32], rows: &mut [u8], values: &mut [i64], elements:
     ensures values_after { values.new ≡ replicate (length values.old) (pos 0) }
     ensures elements_after { elements.new ≡ replicate (length elements.old) 0 }
 {
-    clear_i32(offsets);
+    offsets.fill(0);
     clear_u8(rows);
-    clear_i64(values);
+    values.fill(0);
     clear_u8(elements);
 }
 
@@ -115,8 +89,8 @@ pub fn clear_large(offsets: &mut [i64], rows: &mut [u8], values: &mut [i64], ele
     ensures values_after { values.new ≡ replicate (length values.old) (pos 0) }
     ensures elements_after { elements.new ≡ replicate (length elements.old) 0 }
 {
-    clear_i64(offsets);
+    offsets.fill(0);
     clear_u8(rows);
-    clear_i64(values);
+    values.fill(0);
     clear_u8(elements);
 }

@@ -31,15 +31,10 @@ pub fn measure_rows(
 {
     let n = widths::row_count(width, offsets, large);
     let mut found: usize = 0;
-    let mut r: usize = 0;
-    let mut left = n;
-    while 0 < left {
+    for r in 0..n {
         let a = widths::offset_at(width, offsets, large, r);
         let b = widths::offset_at(width, offsets, large, r + 1);
-        let len = column::rows::row_len(rows, rstart, n, r, a, b);
-        found += len;
-        r += 1;
-        left -= 1;
+        found += column::rows::row_len(rows, rstart, n, r, a, b);
     }
     found
 }
@@ -80,10 +75,8 @@ pub fn write_rows(
 {
     let n = widths::row_count(width, offsets, large);
     widths::put_offset(width, out_offsets, out_large, 0, 0);
-    let mut r: usize = 0;
     let mut at: usize = 0;
-    let mut left = n;
-    while 0 < left {
+    for r in 0..n {
         let a = widths::offset_at(width, offsets, large, r);
         let b = widths::offset_at(width, offsets, large, r + 1);
         at = put_row(
@@ -92,7 +85,5 @@ pub fn write_rows(
             at,
         );
         widths::put_offset(width, out_offsets, out_large, r + 1, at);
-        r += 1;
-        left -= 1;
     }
 }

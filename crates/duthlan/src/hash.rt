@@ -6,7 +6,7 @@ ghost use Rattle.model.specs.Inner.{lent_from};
 ghost use Rattle.model.specs.Limits.{narrow};
 ghost use Rattle.typed.specs.Typed.{HashServed};
 
-use codes::{Operation, operation_of};
+use entry_codes::set_of;
 use hashed_lists::set_ops;
 
 // Distinct, with a work area.
@@ -42,17 +42,13 @@ pub extern "C" fn duthlan_typed_lists_hashed<'a>(
 ) -> u32
     ensures { HashServed (hashed_call op (lent_from l_offsets l_rows l_rows_start l_values l_elements l_elements_start) (lent_from r_offsets r_rows r_rows_start r_values r_elements r_elements_start)) result out_offsets out_rows out_values out_elements area counts }
 {
-    let named = operation_of(op);
+    let named = set_of(op);
     match named {
-        Operation::One(_) => {
+        None => {
             hash_slots::clear_area(area);
             100
         }
-        Operation::None => {
-            hash_slots::clear_area(area);
-            100
-        }
-        Operation::Two(operation) => {
+        Some(operation) => {
             if counts.len() < 4 {
                 hash_slots::clear_area(area);
                 return 100;

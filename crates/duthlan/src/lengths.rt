@@ -8,8 +8,7 @@ ghost use Rattle.model.specs.Limits.{narrow};
 ghost use Rattle.recipe_refusal.specs.Refused.{recipe};
 ghost use Rattle.typed.specs.Typed.{LengthsServed};
 
-use codes::{Operation, operation_of};
-use entry_codes::{Taking, one_of};
+use entry_codes::{one_of, set_of};
 use lists::{extract, repeat, set_ops};
 
 // Four lengths: offsets, row bitmap, values, element bitmap.
@@ -27,8 +26,8 @@ pub extern "C" fn duthlan_typed_list_lengths(
 {
     let named = one_of(op);
     match named {
-        Taking::None => 100,
-        Taking::Of(operation) => {
+        None => 100,
+        Some(operation) => {
             if lengths.len() < 4 {
                 return 100;
             }
@@ -55,11 +54,10 @@ pub extern "C" fn duthlan_typed_lists_lengths<'a>(
 ) -> u32
     ensures { LengthsServed room_counts 4 (set_lengths narrow op (lent_from l_offsets l_rows l_rows_start l_values l_elements l_elements_start) (lent_from r_offsets r_rows r_rows_start r_values r_elements r_elements_start)) result lengths }
 {
-    let named = operation_of(op);
+    let named = set_of(op);
     match named {
-        Operation::One(_) => 100,
-        Operation::None => 100,
-        Operation::Two(operation) => {
+        None => 100,
+        Some(operation) => {
             if lengths.len() < 4 {
                 return 100;
             }

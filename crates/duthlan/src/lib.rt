@@ -21,8 +21,7 @@ ghost use Rattle.recipes.specs.Recipes.{recipe_lent};
 ghost use Rattle.typed.specs.Tallies.{RecipeServed};
 ghost use Rattle.typed.specs.Typed.{ListServed, RepeatServed, ValueServed};
 
-use codes::{Operation, operation_of};
-use entry_codes::{Taking, one_of};
+use entry_codes::{one_of, set_of};
 use lists::{extract, repeat, set_ops};
 use typed::tallies;
 
@@ -43,8 +42,8 @@ pub extern "C" fn duthlan_typed_list(
 {
     let named = one_of(op);
     match named {
-        Taking::None => 100,
-        Taking::Of(operation) => {
+        None => 100,
+        Some(operation) => {
             if counts.len() < 4 {
                 return 100;
             }
@@ -73,11 +72,10 @@ pub extern "C" fn duthlan_typed_lists<'a>(
 ) -> u32
     ensures { ListServed (set_call narrow op (lent_from l_offsets l_rows l_rows_start l_values l_elements l_elements_start) (lent_from r_offsets r_rows r_rows_start r_values r_elements r_elements_start)) result out_offsets out_rows out_values out_elements counts }
 {
-    let named = operation_of(op);
+    let named = set_of(op);
     match named {
-        Operation::One(_) => 100,
-        Operation::None => 100,
-        Operation::Two(operation) => {
+        None => 100,
+        Some(operation) => {
             if counts.len() < 4 {
                 return 100;
             }

@@ -8,8 +8,7 @@ ghost use Rattle.model.specs.Limits.{wide};
 ghost use Rattle.recipe_refusal.specs.Refused.{recipe};
 ghost use Rattle.typed.specs.Typed.{LengthsServed};
 
-use codes::{Operation, operation_of};
-use entry_codes::{Taking, one_of};
+use entry_codes::{one_of, set_of};
 use large_lists::{extract, repeat, set_ops};
 use list_walk::large;
 
@@ -28,8 +27,8 @@ pub extern "C" fn duthlan_large_list_lengths(
 {
     let named = one_of(op);
     match named {
-        Taking::None => 100,
-        Taking::Of(operation) => {
+        None => 100,
+        Some(operation) => {
             if lengths.len() < 4 {
                 return 100;
             }
@@ -56,11 +55,10 @@ pub extern "C" fn duthlan_large_lists_lengths<'a>(
 ) -> u32
     ensures { LengthsServed room_counts 4 (set_lengths wide op (lent_from l_offsets l_rows l_rows_start l_values l_elements l_elements_start) (lent_from r_offsets r_rows r_rows_start r_values r_elements r_elements_start)) result lengths }
 {
-    let named = operation_of(op);
+    let named = set_of(op);
     match named {
-        Operation::One(_) => 100,
-        Operation::None => 100,
-        Operation::Two(operation) => {
+        None => 100,
+        Some(operation) => {
             if lengths.len() < 4 {
                 return 100;
             }

@@ -8,7 +8,7 @@ ghost use Rattle.model.specs.Outcome.{list_outcome};
 ghost use Rattle.model.specs.Rows.{unary};
 
 use entry::{answers, inputs, sizes};
-use entry_codes::{Plain, unary_of};
+use entry_codes::unary_of;
 use model::{ListAnswer, Unary};
 use ops::ListOp;
 
@@ -59,8 +59,8 @@ pub fn enter(
 {
     let named = unary_of(op);
     match named {
-        Plain::None => 102,
-        Plain::Of(operation) => {
+        None => 102,
+        Some(operation) => {
             let k = sizes::list_refusal(
                 offsets.len(),
                 values.len(),

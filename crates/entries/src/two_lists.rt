@@ -7,8 +7,8 @@ ghost use Rattle.model.specs.Limits.{narrow};
 ghost use Rattle.model.specs.Outcome.{list_outcome};
 ghost use Rattle.model.specs.Rows.{set_op_call};
 
-use codes::{Operation, operation_of};
 use entry::{answers, inputs, sizes};
+use entry_codes::set_of;
 use lists::set_ops;
 use model::{ListAnswer, SetOp};
 
@@ -54,11 +54,10 @@ pub fn enter(
 ) -> u32
     ensures { ListEntry (set_call narrow op (decoded_from l_offsets l_rows l_rows_start l_values l_elements l_elements_start) (decoded_from r_offsets r_rows r_rows_start r_values r_elements r_elements_start)) (list_sizes (size l_offsets) (size l_values) ++ list_sizes (size r_offsets) (size r_values)) result out_offsets out_rows out_values out_elements counts }
 {
-    let named = operation_of(op);
+    let named = set_of(op);
     match named {
-        Operation::One(_) => 102,
-        Operation::None => 102,
-        Operation::Two(operation) => {
+        None => 102,
+        Some(operation) => {
             let k = sizes::lists_refusal(
                 l_offsets.len(),
                 l_values.len(),

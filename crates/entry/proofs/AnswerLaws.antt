@@ -1,5 +1,6 @@
 -- What is read of bytes; and what an operation leaves in its outputs, and what is sent of them, come to what an entry returns.
 use mathlib.Core.Path.{◌≡◌, refl, sym, ap, ◌∙◌}
+use Rattle.std.specs.Prelude.{Ok, Err}
 use mathlib.Core.List.{List, [], ◌∷◌, ◌++◌, map, flat_map, append_assoc}
 use Prim.Native.Nat.{ℕ, ◌+◌, ◌*◌, ◌/◌, ◌≤◌}
 use native.Mathlib.Numerals.{add-one}
@@ -12,10 +13,10 @@ use Rattle.model.specs.Form.{over, length_of, flat, value_of, form_offsets, form
 use Rattle.model.specs.Outcome.{Outcome, refused, made}
 use Rattle.model.specs.Call.{answer_of, written, list_counts, value_counts}
 use Rattle.model.specs.Contract.{told, told_value, ListMeets, ValueMeets}
-use Rattle.model.specs.declared.ListAnswer.{ListAnswer}
-use Rattle.model.specs.declared.ListAnswer.TheVariants as L
-use Rattle.model.specs.declared.ValueAnswer.{ValueAnswer}
-use Rattle.model.specs.declared.ValueAnswer.TheVariants as V'
+use Rattle.model.specs.declared.Refusal.{Refusal}
+use Rattle.model.specs.declared.ListCounts.{ListCounts}
+use Rattle.model.specs.declared.ValueCounts.{ValueCounts}
+use Rattle.model.specs.Answers.{number_of as refusal_number, ListAnswer, ValueAnswer}
 use Rattle.model.proofs.TabLaws.{length-map}
 use Rattle.model.proofs.FormLaws.{length-offsets}
 use Rattle.wire.specs.Bytes.{bytes_of, bytes_of4, bytes_of8, bytes_of_counts}
@@ -69,20 +70,20 @@ module _ {A : Type 0} (w d p : List A) (n : ℕ) (h : p ≡ over w (take n d)) (
 
 -- ---- a list answer is sent
 
-pub sent_refused : {a : ListAnswer} (k : ℕ) {o v : List ℤ} {bo bv c : List ℕ} → a ≡ L.Refused k → Sent a k o v bo bo bv bv c c
+pub sent_refused : {a : ListAnswer} (k : Refusal) {o v : List ℤ} {bo bv c : List ℕ} → a ≡ Err k → Sent a (refusal_number k) o v bo bo bv bv c c
 unfolding told number_in counts_in offset_slots value_slots bytes_of bytes_of_counts flat_map
 sent_refused k q = rw q (record { number = refl; offsets = refl; values = refl; counts = refl })
 
-module _ {a : ListAnswer} {r e n m : ℕ} (q : a ≡ L.Counts r e n m) where
-  pub sent_made : {o v : List ℤ} {bo bo' bv bv' c c' : List ℕ} → bo' ≡ over (bytes_of4 (take (r + 1) o)) bo → bv' ≡ over (bytes_of8 (take e v)) bv → c' ≡ over (bytes_of_counts (r ∷ e ∷ n ∷ m ∷ [])) c → Sent a 0 o v bo bo' bv bv' c c'
+module _ {a : ListAnswer} {k : ListCounts} (q : a ≡ Ok k) where
+  pub sent_made : {o v : List ℤ} {bo bo' bv bv' c c' : List ℕ} → bo' ≡ over (bytes_of4 (take (k.rows + 1) o)) bo → bv' ≡ over (bytes_of8 (take k.elements v)) bv → c' ≡ over (bytes_of_counts (k.rows ∷ k.elements ∷ k.null_rows ∷ k.null_elements ∷ [])) c → Sent a 0 o v bo bo' bv bv' c c'
   unfolding told number_in counts_in offset_slots value_slots
   sent_made f g h = rw q (record { number = refl; offsets = f; values = g; counts = h })
 
-  pub counted : {o v lo lv lc : ℕ} → Ready a o v lo lv lc → (r + 1 ≤ o) × (e ≤ v)
+  pub counted : {o v lo lv lc : ℕ} → Ready a o v lo lv lc → (k.rows + 1 ≤ o) × (k.elements ≤ v)
   unfolding offset_slots value_slots
   counted d = (rw q at d.offsets, rw q at d.values)
 
-  pub counted-bytes : {o v lo lv lc : ℕ} → Ready a o v lo lv lc → ((r + 1) * 4 ≤ lo) × (e * 8 ≤ lv)
+  pub counted-bytes : {o v lo lv lc : ℕ} → Ready a o v lo lv lc → ((k.rows + 1) * 4 ≤ lo) × (k.elements * 8 ≤ lv)
   unfolding offset_slots value_slots
   counted-bytes d = (rw q at d.offset-bytes, rw q at d.value_bytes_lem)
 
@@ -93,17 +94,17 @@ length_form ws = length-offsets 0 (map length_of ws) ∙ rw (add-one, length-map
 
 offset-slots : (x : Outcome (List Row)) (a : ListAnswer) → told a ≡ answer_of list_counts x → offset_slots a ≡ length (written form_offsets x)
 unfolding told answer_of written offset_slots
-offset-slots (refused k) (L.Refused j) h = refl
-offset-slots (refused k) (L.Counts r e n m) h = never cc
-offset-slots (made ws) (L.Refused j) h = never cc
-offset-slots (made ws) (L.Counts r e n m) h = let z : r ≡ length ws = cc in rw z (sym (length_form ws))
+offset-slots (refused k) (Err j) h = refl
+offset-slots (refused k) (Ok c) h = never cc
+offset-slots (made ws) (Err j) h = never cc
+offset-slots (made ws) (Ok c) h = let z : c.rows ≡ length ws = cc in rw z (sym (length_form ws))
 
 value_slots_lem : (x : Outcome (List Row)) (a : ListAnswer) → told a ≡ answer_of list_counts x → value_slots a ≡ length (written (λ ws. form_values (flat ws)) x)
 unfolding told answer_of written value_slots
-value_slots_lem (refused k) (L.Refused j) h = refl
-value_slots_lem (refused k) (L.Counts r e n m) h = never cc
-value_slots_lem (made ws) (L.Refused j) h = never cc
-value_slots_lem (made ws) (L.Counts r e n m) h = let z : e ≡ length (flat ws) = cc in z ∙ sym (length-map value_of (flat ws))
+value_slots_lem (refused k) (Err j) h = refl
+value_slots_lem (refused k) (Ok c) h = never cc
+value_slots_lem (made ws) (Err j) h = never cc
+value_slots_lem (made ws) (Ok c) h = let z : c.elements ≡ length (flat ws) = cc in z ∙ sym (length-map value_of (flat ws))
 
 -- the operation was lent the first m offsets of o and the first n values of v, which came back as p and q
 pub list_ran : {x y : Outcome (List Row)} {a : ListAnswer} (m n : ℕ) (o v : List ℤ) {p q : List ℤ} {r r' e e' : List ℕ} → ListMeets x a (take m o) p r r' (take n v) q e e' → length p ≡ length (take m o) → length q ≡ length (take n v) → m ≤ length o → n ≤ length v
@@ -148,29 +149,29 @@ module _ {x : Outcome (List Row)} {a : ListAnswer} {m n : ℕ} {o v : List ℤ} 
 
 -- ---- the same of a value answer
 
-pub values-refused : {a : ValueAnswer} (k : ℕ) {v : List ℤ} {bv c : List ℕ} → a ≡ V'.Refused k → ValueSent a k v bv bv c c
+pub values-refused : {a : ValueAnswer} (k : Refusal) {v : List ℤ} {bv c : List ℕ} → a ≡ Err k → ValueSent a (refusal_number k) v bv bv c c
 unfolding told_value number_in counts_in slots bytes_of bytes_of_counts flat_map
 values-refused k q = rw q (record { number = refl; values = refl; counts = refl })
 
-module _ {a : ValueAnswer} {r n : ℕ} (q : a ≡ V'.Counts r n) where
-  pub values-made : {v : List ℤ} {bv bv' c c' : List ℕ} → bv' ≡ over (bytes_of8 (take r v)) bv → c' ≡ over (bytes_of_counts (r ∷ n ∷ [])) c → ValueSent a 0 v bv bv' c c'
+module _ {a : ValueAnswer} {k : ValueCounts} (q : a ≡ Ok k) where
+  pub values-made : {v : List ℤ} {bv bv' c c' : List ℕ} → bv' ≡ over (bytes_of8 (take k.rows v)) bv → c' ≡ over (bytes_of_counts (k.rows ∷ k.null_rows ∷ [])) c → ValueSent a 0 v bv bv' c c'
   unfolding told_value number_in counts_in slots
   values-made g h = rw q (record { number = refl; values = g; counts = h })
 
-  pub counted-values : {v lv lc : ℕ} → ValueReady a v lv lc → r ≤ v
+  pub counted-values : {v lv lc : ℕ} → ValueReady a v lv lc → k.rows ≤ v
   unfolding slots
   counted-values d = rw q at d.values
 
-  pub counted_value_bytes : {v lv lc : ℕ} → ValueReady a v lv lc → r * 8 ≤ lv
+  pub counted_value_bytes : {v lv lc : ℕ} → ValueReady a v lv lc → k.rows * 8 ≤ lv
   unfolding slots
   counted_value_bytes d = rw q at d.value_bytes_lem
 
 row_slots : (x : Outcome (List Elem)) (a : ValueAnswer) → told_value a ≡ answer_of value_counts x → slots a ≡ length (written form_values x)
 unfolding told_value answer_of written slots
-row_slots (refused k) (V'.Refused j) h = refl
-row_slots (refused k) (V'.Counts r n) h = never cc
-row_slots (made es) (V'.Refused j) h = never cc
-row_slots (made es) (V'.Counts r n) h = let z : r ≡ length es = cc in z ∙ sym (length-map value_of es)
+row_slots (refused k) (Err j) h = refl
+row_slots (refused k) (Ok c) h = never cc
+row_slots (made es) (Err j) h = never cc
+row_slots (made es) (Ok c) h = let z : c.rows ≡ length es = cc in z ∙ sym (length-map value_of es)
 
 pub value_ran : {x y : Outcome (List Elem)} {a : ValueAnswer} (n : ℕ) (v : List ℤ) {q : List ℤ} {r r' : List ℕ} → ValueMeets x a (take n v) q r r' → length q ≡ length (take n v) → n ≤ length v → y ≡ x → ValueRan y a n (q ++ drop n v) r r'
 value_ran {x = x} {a = a} n v {q = q} t k g z =

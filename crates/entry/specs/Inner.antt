@@ -1,14 +1,11 @@
 -- What the inner functions ask of their callers and promise them.
-use Rattle.std.specs.Prelude.{ℕ, ◌+◌, ◌*◌, ◌/◌, ◌≤◌, ◌≡◌, List, [], length, take, ℤ}
+use Rattle.std.specs.Prelude.{Ok, Err, ℕ, ◌+◌, ◌*◌, ◌/◌, ◌≤◌, ◌≡◌, List, [], length, take, ℤ}
 use Rattle.model.specs.Column.{Elem, Row}
 use Rattle.model.specs.Form.{Room, ValueRoom, over, flat, form_offsets, form_rows, form_values, form_elements}
 use Rattle.model.specs.Outcome.{Outcome}
 use Rattle.model.specs.Call.{Answer, refusal, counts, answer_of, written, list_counts, value_counts}
 use Rattle.model.specs.Contract.{MutSlice, after, room, value_room, told, told_value}
-use Rattle.model.specs.declared.ListAnswer.{ListAnswer}
-use Rattle.model.specs.declared.ListAnswer.TheVariants as L
-use Rattle.model.specs.declared.ValueAnswer.{ValueAnswer}
-use Rattle.model.specs.declared.ValueAnswer.TheVariants as V'
+use Rattle.model.specs.Answers.{ListAnswer, ValueAnswer}
 use Rattle.wire.specs.Bytes.{ints4, ints8, bytes_of4, bytes_of8, bytes_of_counts}
 use Rattle.entry.specs.Entry.{mut_size}
 
@@ -37,16 +34,16 @@ counts_in (counts ns) = ns
 
 -- the offsets and the values that it counts
 unfoldable pub offset_slots : ListAnswer → ℕ
-offset_slots (L.Refused k) = 0
-offset_slots (L.Counts r e n m) = r + 1
+offset_slots (Err k) = 0
+offset_slots (Ok c) = c.rows + 1
 
 unfoldable pub value_slots : ListAnswer → ℕ
-value_slots (L.Refused k) = 0
-value_slots (L.Counts r e n m) = e
+value_slots (Err k) = 0
+value_slots (Ok c) = c.elements
 
 unfoldable pub slots : ValueAnswer → ℕ
-slots (V'.Refused k) = 0
-slots (V'.Counts r n) = r
+slots (Err k) = 0
+slots (Ok c) = c.rows
 
 -- after an operation with room for m offsets and n values, whose outcome is x: the numbers that the answer counts are at the fronts
 -- of o and v, however long; the bitmaps of rows and elements, at entry and at exit

@@ -4,8 +4,8 @@ ghost use Rattle.entry.specs.Inner.{Ready, Sent, ValueReady, ValueSent};
 ghost use Rattle.model.specs.Form.{over};
 ghost use Rattle.wire.specs.Bytes.{bytes_of_counts};
 
-use model::{ListAnswer, ValueAnswer};
-use wire::{encode_i32, encode_i64, encode_u64};
+use model::{ListAnswer, ListCounts, ValueAnswer, ValueCounts};
+use wire::encode;
 
 // The counts of a list answer, at the front of `counts`, and below those of a value answer.
 fn put_counts(
@@ -24,7 +24,7 @@ fn put_counts(
         null_rows as u64,
         null_elements as u64,
     ];
-    encode_u64(&c, counts);
+    encode(&c, counts);
 }
 
 // A list answer: of o and v, which the operation wrote, the slots that it counts.
@@ -40,16 +40,18 @@ pub fn put_list(
     ensures { Sent answer result o.now v.now out_offsets.old out_offsets.new out_values.old out_values.new counts.old counts.new }
 {
     match answer {
-        ListAnswer::Refused(k) => k as u32,
-        ListAnswer::Counts {
-            rows,
-            elements,
-            null_rows,
-            null_elements,
-        } => {
+        Err(refusal) => u32::from(refusal),
+        Ok(
+            ListCounts {
+                rows,
+                elements,
+                null_rows,
+                null_elements,
+            },
+        ) => {
             let n = rows + 1;
-            encode_i32(&o[..n], out_offsets);
-            encode_i64(&v[..elements], out_values);
+            encode(&o[..n], out_offsets);
+            encode(&v[..elements], out_values);
             put_counts(rows, elements, null_rows, null_elements, counts);
             0
         }
@@ -61,7 +63,7 @@ fn put_value_counts(rows: usize, null_rows: usize, counts: &mut [u8])
     ensures { counts.new ≡ over (bytes_of_counts (rows ∷ null_rows ∷ [])) counts.old }
 {
     let c = [rows as u64, null_rows as u64];
-    encode_u64(&c, counts);
+    encode(&c, counts);
 }
 
 // A value answer: of v the slots that it counts.
@@ -70,9 +72,9 @@ pub fn put_values(answer: ValueAnswer, v: &[i64], out_values: &mut [u8], counts:
     ensures { ValueSent answer result v.now out_values.old out_values.new counts.old counts.new }
 {
     match answer {
-        ValueAnswer::Refused(k) => k as u32,
-        ValueAnswer::Counts { rows, null_rows } => {
-            encode_i64(&v[..rows], out_values);
+        Err(refusal) => u32::from(refusal),
+        Ok(ValueCounts { rows, null_rows }) => {
+            encode(&v[..rows], out_values);
             put_value_counts(rows, null_rows, counts);
             0
         }

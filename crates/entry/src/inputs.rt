@@ -3,15 +3,15 @@ ghost use Rattle.std.specs.Prelude.{◌/◌, ◌≤◌, length, take, ◌≡◌}
 ghost use Rattle.entry.specs.Inner.{ListFits, ListRead};
 ghost use Rattle.wire.specs.Bytes.{ints8};
 
-use wire::{fill_i32, fill_i64};
+use wire::fill;
 
 // A list's offsets and values.
 pub fn get_list(offsets: &[u8], values: &[u8], o: &mut [i32], v: &mut [i64])
     requires { ListFits (length offsets.now) (length values.now) (length o.old) (length v.old) }
     ensures { ListRead offsets.now values.now o.new v.new }
 {
-    fill_i32(offsets, o);
-    fill_i64(values, v);
+    fill(offsets, o);
+    fill(values, v);
 }
 
 // An argument column's values.
@@ -19,5 +19,5 @@ pub fn get_values(values: &[u8], v: &mut [i64])
     requires { length values.now / 8 ≤ length v.old }
     ensures { take (length values.now / 8) v.new ≡ ints8 values.now }
 {
-    fill_i64(values, v);
+    fill(values, v);
 }

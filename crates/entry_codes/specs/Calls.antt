@@ -1,5 +1,5 @@
 -- The operations of each C entry, by document 01's codes (codes, specs/Codes.antt).
-use Rattle.std.specs.Prelude.{ℕ, List, eqb}
+use Rattle.std.specs.Prelude.{ℕ, List, eqb, Option, Some, None}
 use Rattle.model.specs.Basics.{pick, Lent, absent, given}
 use Rattle.model.specs.Limits.{Limits, narrow}
 use Rattle.model.specs.Column.{Row, Column, Arguments}
@@ -17,20 +17,12 @@ use Rattle.ops.specs.declared.ListOp.TheVariants as L
 use Rattle.codes.specs.Codes.{operation_of}
 use Rattle.codes.specs.declared.Operation.{Operation}
 use Rattle.codes.specs.declared.Operation.TheVariants as S
-use Rattle.entry_codes.specs.declared.Plain.{Plain}
-use Rattle.entry_codes.specs.declared.Plain.TheVariants as P
-use Rattle.entry_codes.specs.declared.Taking.{Taking}
-use Rattle.entry_codes.specs.declared.Taking.TheVariants as T
 
 -- ---- what the code holds, as the definitions do
 
-unfoldable pub plain_lent : Plain → Lent Unary
-plain_lent (P.Of u) = given u
-plain_lent P.None = absent
-
-unfoldable pub taking_lent : Taking → Lent ListOp
-taking_lent (T.Of k) = given k
-taking_lent T.None = absent
+unfoldable pub lent_of : {A : Type 0} → Option A → Lent A
+lent_of (Some x) = given x
+lent_of None = absent
 
 -- ---- one list, without argument columns
 
@@ -43,10 +35,10 @@ plain_of L.ResizeWith = absent
 plain_of L.Replace = absent
 plain_of L.Remove = absent
 
-unfoldable pub plain_in : Operation → Lent Unary
-plain_in (S.One k) = plain_of k
-plain_in (S.Two k) = absent
-plain_in S.None = absent
+unfoldable pub plain_in : Option Operation → Lent Unary
+plain_in (Some (S.One k)) = plain_of k
+plain_in (Some (S.Two k)) = absent
+plain_in None = absent
 
 unfoldable pub unary_of : ℕ → Lent Unary
 unary_of op = plain_in (operation_of op)
@@ -57,10 +49,10 @@ unary_call op c = on_lent (λ k. list_outcome narrow (unary k c)) (unary_of op)
 
 -- ---- two lists
 
-unfoldable pub set_in : Operation → Lent SetOp
-set_in (S.One k) = absent
-set_in (S.Two k) = given k
-set_in S.None = absent
+unfoldable pub set_in : Option Operation → Lent SetOp
+set_in (Some (S.One k)) = absent
+set_in (Some (S.Two k)) = given k
+set_in None = absent
 
 unfoldable pub set_of : ℕ → Lent SetOp
 set_of op = set_in (operation_of op)
@@ -77,10 +69,10 @@ hashed_call op c d n = on_lent (λ k. hashed_outcome narrow (H.set_of k c d) n) 
 
 -- ---- one list, with argument columns or without
 
-unfoldable pub one_in : Operation → Lent ListOp
-one_in (S.One k) = given k
-one_in (S.Two k) = absent
-one_in S.None = absent
+unfoldable pub one_in : Option Operation → Lent ListOp
+one_in (Some (S.One k)) = given k
+one_in (Some (S.Two k)) = absent
+one_in None = absent
 
 -- 11 is the entries' own, resize without fill
 unfoldable pub one_of : ℕ → Lent ListOp

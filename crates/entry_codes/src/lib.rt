@@ -1,87 +1,56 @@
 // The operations of each C entry, by the table of codes. An inner crate.
 #![tactic(auto)]
 
-ghost use Rattle.entry_codes.specs.Calls.{one_of, plain_lent, plain_of, taking_lent, taking_of, unary_of, with_of};
+ghost use Rattle.entry_codes.specs.Calls.{lent_of, one_of, set_of, unary_of, with_of};
 ghost use Rattle.std.specs.Prelude.{◌≡◌};
 
 use codes::{Operation, operation_of};
-use model::Unary;
+use model::{SetOp, Unary};
 use ops::ListOp;
 
-// An operation on one list that takes no argument columns, and below any.
-#[derive(Clone, Copy)]
-pub enum Plain {
-    Of(Unary),
-    None,
-}
-
-#[derive(Clone, Copy)]
-pub enum Taking {
-    Of(ListOp),
-    None,
-}
-
-fn plain_of(op: ListOp) -> Plain
-    ensures { plain_lent result ≡ plain_of op }
+// An operation on one list that takes no argument columns.
+#[tactic(auto, unfolding(crate::specs::Calls::lent_of, crate::specs::Calls::unary_of, crate::specs::Calls::plain_in, crate::specs::Calls::plain_of))]
+pub fn unary_of(code: u32) -> Option<Unary>
+    ensures { lent_of result ≡ unary_of code }
 {
-    match op {
-        ListOp::Plain(u) => Plain::Of(u),
-        ListOp::Slice => Plain::None,
-        ListOp::SliceBy => Plain::None,
-        ListOp::Resize => Plain::None,
-        ListOp::ResizeWith => Plain::None,
-        ListOp::Replace => Plain::None,
-        ListOp::Remove => Plain::None,
+    match operation_of(code) {
+        Some(Operation::One(ListOp::Plain(unary))) => Some(unary),
+        _ => None,
     }
 }
 
-pub fn unary_of(code: u32) -> Plain
-    ensures { plain_lent result ≡ unary_of code }
+// An operation on two lists.
+#[tactic(auto, unfolding(crate::specs::Calls::lent_of, crate::specs::Calls::set_of, crate::specs::Calls::set_in))]
+pub fn set_of(code: u32) -> Option<SetOp>
+    ensures { lent_of result ≡ set_of code }
 {
-    let named = operation_of(code);
-    match named {
-        Operation::One(op) => plain_of(op),
-        Operation::Two(_) => Plain::None,
-        Operation::None => Plain::None,
-    }
-}
-
-fn taking_of(op: ListOp) -> Taking
-    ensures { taking_lent result ≡ taking_of op }
-{
-    match op {
-        ListOp::Plain(_) => Taking::None,
-        ListOp::Slice => Taking::Of(op),
-        ListOp::SliceBy => Taking::Of(op),
-        ListOp::Resize => Taking::Of(op),
-        ListOp::ResizeWith => Taking::Of(op),
-        ListOp::Replace => Taking::Of(op),
-        ListOp::Remove => Taking::Of(op),
+    match operation_of(code) {
+        Some(Operation::Two(op)) => Some(op),
+        _ => None,
     }
 }
 
 // An operation on one list, with argument columns or without: the table's, and 11, resize without fill.
-pub fn one_of(code: u32) -> Taking
-    ensures { taking_lent result ≡ one_of code }
+#[tactic(auto, unfolding(crate::specs::Calls::lent_of, crate::specs::Calls::one_of, crate::specs::Calls::one_in))]
+pub fn one_of(code: u32) -> Option<ListOp>
+    ensures { lent_of result ≡ one_of code }
 {
     if code == 11 {
-        return Taking::Of(ListOp::Resize);
+        return Some(ListOp::Resize);
     }
-    let named = operation_of(code);
-    match named {
-        Operation::One(op) => Taking::Of(op),
-        Operation::Two(_) => Taking::None,
-        Operation::None => Taking::None,
+    match operation_of(code) {
+        Some(Operation::One(op)) => Some(op),
+        _ => None,
     }
 }
 
 // One that takes argument columns.
-pub fn with_of(code: u32) -> Taking
-    ensures { taking_lent result ≡ with_of code }
+#[tactic(auto, unfolding(crate::specs::Calls::lent_of, crate::specs::Calls::with_of, crate::specs::Calls::taking_in, crate::specs::Calls::taking_of))]
+pub fn with_of(code: u32) -> Option<ListOp>
+    ensures { lent_of result ≡ with_of code }
 {
-    let named = one_of(code);
-    match named {
-        Taking::Of(op) => taking_of(op),
-        Taking::None => Taking::None,
+    match one_of(code) {
+        Some(ListOp::Plain(_)) => None,
+        named => named,
     }
 }

@@ -1,4 +1,5 @@
 -- What list-repeat leaves in its outputs, and what is sent of them, come to what its entry returns.
+use Rattle.std.specs.Prelude.{Ok, Err}
 use mathlib.Core.Path.{◌≡◌, refl, sym, ap, ◌∙◌}
 use mathlib.Core.List.{List, ◌++◌, map}
 use Prim.Native.Nat.{ℕ, ◌+◌, ◌*◌, ◌/◌, ◌≤◌}
@@ -14,8 +15,7 @@ use Rattle.model.specs.Limits.{narrow}
 use Rattle.model.specs.Outcome.{Outcome, refused, made, repeat_outcome}
 use Rattle.model.specs.Call.{answer_of, written, repeat_counts}
 use Rattle.model.specs.Contract.{told_repeat, RepeatMeets, repeat_room}
-use Rattle.model.specs.declared.RepeatAnswer.{RepeatAnswer}
-use Rattle.model.specs.declared.RepeatAnswer.TheVariants as R
+use Rattle.model.specs.Answers.{RepeatAnswer}
 use Rattle.model.proofs.TabLaws.{length-map}
 use Rattle.model.proofs.FormLaws.{length-offsets}
 use Rattle.wire.specs.Bytes.{bytes_of4, bytes_of8, bytes_of_counts}
@@ -46,24 +46,24 @@ length-inner os = length-offsets 0 (map length_of (inner os)) ∙ rw (add-one, l
 
 outer_slots_lem : (x : Outcome (List Outer)) (a : RepeatAnswer) → told_repeat a ≡ answer_of repeat_counts x → outer_slots a ≡ length (written (λ os. offsets_from 0 (map outer_length os)) x)
 unfolding told_repeat answer_of written outer_slots
-outer_slots_lem (refused k) (R.Refused l) h = refl
-outer_slots_lem (refused k) (R.Counts r e n m i j) h = never cc
-outer_slots_lem (made os) (R.Refused l) h = never cc
-outer_slots_lem (made os) (R.Counts r e n m i j) h = let z : r ≡ length os = cc in rw z (sym (length-outer os))
+outer_slots_lem (refused k) (Err l) h = refl
+outer_slots_lem (refused k) (Ok c) h = never cc
+outer_slots_lem (made os) (Err l) h = never cc
+outer_slots_lem (made os) (Ok c) h = let z : c.rows ≡ length os = cc in rw z (sym (length-outer os))
 
 inner-slots : (x : Outcome (List Outer)) (a : RepeatAnswer) → told_repeat a ≡ answer_of repeat_counts x → inner_slots a ≡ length (written (λ os. form_offsets (inner os)) x)
 unfolding told_repeat answer_of written inner_slots
-inner-slots (refused k) (R.Refused l) h = refl
-inner-slots (refused k) (R.Counts r e n m i j) h = never cc
-inner-slots (made os) (R.Refused l) h = never cc
-inner-slots (made os) (R.Counts r e n m i j) h = let z : i ≡ length (inner os) = cc in rw z (sym (length-inner os))
+inner-slots (refused k) (Err l) h = refl
+inner-slots (refused k) (Ok c) h = never cc
+inner-slots (made os) (Err l) h = never cc
+inner-slots (made os) (Ok c) h = let z : c.inner_rows ≡ length (inner os) = cc in rw z (sym (length-inner os))
 
 value_slots_lem : (x : Outcome (List Outer)) (a : RepeatAnswer) → told_repeat a ≡ answer_of repeat_counts x → value_slots a ≡ length (written (λ os. form_values (flat (inner os))) x)
 unfolding told_repeat answer_of written value_slots
-value_slots_lem (refused k) (R.Refused l) h = refl
-value_slots_lem (refused k) (R.Counts r e n m i j) h = never cc
-value_slots_lem (made os) (R.Refused l) h = never cc
-value_slots_lem (made os) (R.Counts r e n m i j) h = let z : e ≡ length (flat (inner os)) = cc in z ∙ sym (length-map value_of (flat (inner os)))
+value_slots_lem (refused k) (Err l) h = refl
+value_slots_lem (refused k) (Ok c) h = never cc
+value_slots_lem (made os) (Err l) h = never cc
+value_slots_lem (made os) (Ok c) h = let z : c.elements ≡ length (flat (inner os)) = cc in z ∙ sym (length-map value_of (flat (inner os)))
 
 -- the operation was lent the first m offsets of o, the first i of io and the first n values of v, which came back as p, s and q
 pub repeat_ran : {x y : Outcome (List Outer)} {a : RepeatAnswer} (m i n : ℕ) (o io v : List ℤ) {p s q : List ℤ} {r r' ir ir' e e' : List ℕ} → RepeatMeets x a (take m o) p r r' (take i io) s ir ir' (take n v) q e e'

@@ -12,7 +12,7 @@ ghost use Rattle.model.specs.Outcome.{list_outcome};
 ghost use Rattle.ops.specs.Ops.{call_of};
 
 use entry::{answers, inputs, sizes};
-use entry_codes::{Taking, with_of};
+use entry_codes::with_of;
 use model::ListAnswer;
 use ops::ListOp;
 
@@ -108,8 +108,8 @@ pub fn enter(
 {
     let named = with_of(op);
     match named {
-        Taking::None => 102,
-        Taking::Of(operation) => {
+        None => 102,
+        Some(operation) => {
             let k = with_refusal(
                 offsets.len(), values.len(), first.len(), second.len(), third.len(),
                 out_offsets.len(), out_values.len(),

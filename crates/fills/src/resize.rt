@@ -8,13 +8,12 @@ ghost use Rattle.std.specs.Prelude.{replicate, ◌≡◌};
 
 use rows::{Cell, Fill, utils};
 
+// What a row is filled with, as an argument: a null where no fill is lent.
+#[tactic(auto, unfolding(rows::specs::Cells::elem_of, rows::specs::Cells::fill_elem))]
 fn fill_cell(fill: Fill) -> Cell
     ensures { elem_of result ≡ fill_elem fill }
 {
-    match fill {
-        Fill::Absent => Cell::Null,
-        Fill::Own(cell) => cell,
-    }
+    fill.flatten()
 }
 
 // Writes an argument n times; gives the next place.
@@ -29,8 +28,8 @@ fn write_fill(
     ensures { Writes (replicate n (elem_of cell)) at out_values out_elements result }
 {
     match cell {
-        Cell::Null => runs::write_null(n, out_values, out_elements, at),
-        Cell::Value(v) => runs::write_value(v, n, out_values, out_elements, at),
+        None => runs::write_null(n, out_values, out_elements, at),
+        Some(v) => runs::write_value(v, n, out_values, out_elements, at),
     }
 }
 

@@ -1,16 +1,16 @@
 -- Grades of rows slot by slot, and of what an answer counts at the front of an output.
 use Prim.Native.Nat.{ℕ, ◌+◌, ◌-◌}
-use mathlib.Core.Path.{◌≡◌, refl}
+use mathlib.Core.Path.{◌≡◌}
 use mathlib.Core.Bool.{true, false}
-use mathlib.Core.List.{List, []}
+use mathlib.Core.List.{List}
 use lib.IntN.{ℤ}
-use lib.ListN.{length, take}
-use Rattle.model.specs.Basics.{pick, tab}
+use lib.ListN.{take}
+use Rattle.model.specs.Basics.{tab}
 use Rattle.model.specs.Bitmap.{Bits, from, bytes_for, valid_at}
-use Rattle.model.specs.Column.{Elem, Row, null_row, list_row, Column, column, row_at, rows_of, row_count}
+use Rattle.model.specs.Column.{Elem, list_row, Column, column, row_at, rows_of, row_count}
 use Rattle.model.specs.Form.{over}
 use Rattle.model.specs.Grade.{grade_of, grades_of}
-use Rattle.model.specs.declared.ListAnswer.{ListAnswer}
+use Rattle.model.specs.Answers.{ListAnswer}
 use Rattle.model.proofs.TabLaws.{map-tab}
 use Rattle.column.specs.Front.{front}
 use Rattle.column.specs.Rows.{row_from}

@@ -1,13 +1,11 @@
 -- What grading states of numbers and answers, and the grades of the rows at the front of an output.
-use Rattle.std.specs.Prelude.{ℕ, ◌+◌, ◌<◌, ◌≤◌, ◌≡◌, Bool, true, false, ◌&&◌, List, [], ltb, eqb, ℤ}
+use Rattle.std.specs.Prelude.{ℕ, ◌+◌, ◌<◌, ◌≤◌, ◌≡◌, Bool, true, false, ◌&&◌, List, [], ltb, eqb, ℤ, Result, Ok, Err}
 use Rattle.model.specs.Basics.{pick}
 use Rattle.model.specs.Column.{rows_of}
 use Rattle.model.specs.Elements.{eq_z}
 use Rattle.model.specs.Grade.{grades_of}
-use Rattle.model.specs.declared.ListAnswer.{ListAnswer}
-use Rattle.model.specs.declared.ListAnswer.TheVariants as L
-use Rattle.model.specs.declared.ValueLengths.{ValueLengths}
-use Rattle.model.specs.declared.ValueLengths.TheVariants as V'
+use Rattle.model.specs.Answers.{number_of, ListAnswer, ValueLengths}
+use Rattle.model.specs.declared.Refusal.{Refusal}
 use Rattle.column.specs.Front.{front, AtFront}
 
 -- 12 and 9 of a grading by k, of n rows into a slice of g grades
@@ -18,31 +16,32 @@ early_of k n g = pick (eqb k 0) 12 (pick (ltb g n) 9 0)
 unfoldable pub run_after : ℕ → ℤ → Bool → ℤ → ℕ
 run_after r v b w = pick b (pick (ltb 0 r && eq_z v w) (r + 1) 1) 0
 
--- the answer of a graded recipe, of which `early` is 12, 9 or 0 and a what its run answered
-unfoldable pub answered : ℕ → ListAnswer → ListAnswer
-answered early a = pick (eqb early 0) a (L.Refused early)
+-- the answer of a graded recipe, which `early` refuses by 12 or 9, and of which a is what its run answered
+unfoldable pub answered : Result (Unit {0}) Refusal → ListAnswer → ListAnswer
+answered (Ok u) a = a
+answered (Err k) a = Err k
 
 -- what an answer counts, and whether it counts at all
 unfoldable pub is_made : ListAnswer → Bool
-is_made (L.Counts n m p q) = true
-is_made (L.Refused k) = false
+is_made (Ok c) = true
+is_made (Err k) = false
 
 unfoldable pub rows_in : ListAnswer → ℕ
-rows_in (L.Counts n m p q) = n
-rows_in (L.Refused k) = 0
+rows_in (Ok c) = c.rows
+rows_in (Err k) = 0
 
 unfoldable pub elements_in : ListAnswer → ℕ
-elements_in (L.Counts n m p q) = m
-elements_in (L.Refused k) = 0
+elements_in (Ok c) = c.elements
+elements_in (Err k) = 0
 
 -- what refuses a measure, and the rows that it measured
 unfoldable pub refusal_in : ValueLengths → ℕ
-refusal_in (V'.Of v r) = 0
-refusal_in (V'.Refused k) = k
+refusal_in (Ok l) = 0
+refusal_in (Err k) = number_of k
 
 unfoldable pub rows_measured : ValueLengths → ℕ
-rows_measured (V'.Of v r) = v
-rows_measured (V'.Refused k) = 0
+rows_measured (Ok l) = l.values
+rows_measured (Err k) = 0
 
 -- the rows that an answer counts are at the front of an output, and have places in a slice of g grades
 pub record Counted (k : ℕ) (a : ListAnswer) (o : List ℤ) (r : List ℕ) (v : List ℤ) (e : List ℕ) (g : ℕ) : Type 0 where

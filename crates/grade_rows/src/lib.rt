@@ -17,6 +17,7 @@ use column::offsets;
 use model::ListAnswer;
 
 // The length of the run that element p ends, where the element before it ends a run of length `run`: none at a null.
+#[tactic(auto, unfolding(crate::specs::Grades::run_after))]
 fn run_after(run: usize, values: &[i64], p: usize, valid: bool) -> usize
     requires p_in_bounds { p < length values.now }
     requires run_le_p { run ≤ p }
@@ -25,13 +26,11 @@ fn run_after(run: usize, values: &[i64], p: usize, valid: bool) -> usize
     if !valid {
         return 0;
     }
-    if run == 0 {
-        return 1;
+    if run != 0 && set_elements::same_value(values[p - 1], values[p]) {
+        run + 1
+    } else {
+        1
     }
-    if set_elements::same_value(values[p - 1], values[p]) {
-        return run + 1;
-    }
-    1
 }
 
 // The grade of the n elements from element a on, of a row that is not null: one pass, left as soon as a run is long enough.
@@ -42,22 +41,15 @@ fn elements_grade(k: u64, values: &[i64], elements: &[u8], estart: usize, a: usi
 {
     let mut seen = false;
     let mut run: usize = 0;
-    let mut p = a;
-    let mut left = n;
-    while 0 < left {
+    for p in a..a + n {
         let valid = bitmap::is_valid(elements, estart, p, values.len());
         run = run_after(run, values, p, valid);
         if k <= run as u64 {
             return 2;
         }
-        seen = seen | valid;
-        p += 1;
-        left -= 1;
+        seen |= valid;
     }
-    if seen {
-        return 3;
-    }
-    1
+    if seen { 3 } else { 1 }
 }
 
 // The grade of row r of n, whose elements lie between a and b.
@@ -86,12 +78,10 @@ pub fn grade_rows(
     ensures { grades.new ≡ over (grades_of k (rows_of (lent_from offsets rows rstart values elements estart))) grades.old }
 {
     let n = offsets::row_count(offsets);
-    let mut r: usize = 0;
-    while r < n {
+    for r in 0..n {
         let a = offsets::offset_at(offsets, r);
         let b = offsets::offset_at(offsets, r + 1);
         grades[r] = row_grade(k, rows, rstart, n, values, elements, estart, r, a, b);
-        r += 1;
     }
 }
 
@@ -103,15 +93,14 @@ pub fn grade_front(
     requires { Counted k answer offsets.now rows.now values.now elements.now (length grades.old) }
     ensures { grades.new ≡ over (front_grades k answer offsets.now rows.now values.now elements.now) grades.old }
 {
-    if !calls::is_made(answer) {
+    let Ok(counts) = answer else {
         return;
-    }
-    let n = calls::rows_in(answer);
-    let m = calls::elements_in(answer);
-    let slots = n + 1;
+    };
+    let n = counts.rows;
+    let m = counts.elements;
     let row_bytes = bitmap::bytes_for(n);
     let element_bytes = bitmap::bytes_for(m);
     grade_rows(
-        k, &offsets[..slots], &rows[..row_bytes], 0, &values[..m], &elements[..element_bytes], 0, grades,
+        k, &offsets[..n + 1], &rows[..row_bytes], 0, &values[..m], &elements[..element_bytes], 0, grades,
     );
 }

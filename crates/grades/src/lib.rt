@@ -22,19 +22,12 @@ pub fn grade_column(
 ) -> GradeAnswer
     ensures { GradeAnswers k (grade_outcome k (lent_from offsets rows rows_start values elements elements_start)) result grades }
 {
-    let early = calls::early_refusal(k, offsets.len(), grades.len());
-    if early != 0 {
-        return GradeAnswer::Refused(early);
-    }
+    calls::early_refusal(k, offsets.len(), grades.len())?;
     let lengths = extract::general_array_any_value_lengths(
         offsets, rows, rows_start, values, elements, elements_start,
-    );
-    let number = calls::refusal_in(lengths);
-    if number != 0 {
-        return GradeAnswer::Refused(number);
-    }
+    )?;
     grade_rows::grade_rows(k, offsets, rows, rows_start, values, elements, elements_start, grades);
-    GradeAnswer::Rows(calls::rows_measured(lengths))
+    Ok(lengths.values)
 }
 
 // Runs a recipe for a station, as `run_recipe` does, and grades what it makes: 12, 9 where there are fewer places for grades than rows of the
@@ -57,9 +50,8 @@ pub fn grade_recipe<'a>(
     ensures grades_lent { GradesLent k (graded_lent k grades station columns numbers offsets rows rows_start values elements elements_start second_offsets second_rows second_rows_start second_values second_elements second_elements_start arguments argument_bits argument_start (room_of one_offsets one_rows one_values one_elements) (room_of two_offsets two_rows two_values two_elements) (room_of out_offsets out_rows out_values out_elements)) grades }
 {
     let early = calls::early_refusal(k, offsets.len(), grades.len());
-    let named = calls::station_for(early, station);
     let done = recipes::run_recipe(
-        tally, named, numbers, columns,
+        tally, calls::station_for(early, station), numbers, columns,
         offsets, rows, rows_start, values, elements, elements_start,
         second_offsets, second_rows, second_rows_start, second_values, second_elements, second_elements_start,
         arguments, argument_bits, argument_start,
@@ -67,9 +59,7 @@ pub fn grade_recipe<'a>(
         two_offsets, two_rows, two_values, two_elements,
         out_offsets, out_rows, out_values, out_elements,
     );
-    let own = done.answer;
-    let answer = calls::answer_for(early, own);
+    let answer = calls::answer_for(early, done.answer);
     grade_rows::grade_front(k, answer, out_offsets, out_rows, out_values, out_elements, grades);
-    let after = done.tally;
-    RecipeAnswer { answer, tally: after }
+    RecipeAnswer { answer, tally: done.tally }
 }

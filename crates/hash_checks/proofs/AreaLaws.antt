@@ -2,15 +2,15 @@
 use Prim.Native.Nat.{ℕ, zero, suc, ◌+◌, ◌-◌, ◌≤◌, ◌<◌, max}
 use mathlib.Core.Path.{◌≡◌, refl, sym, ap, ◌∙◌}
 use mathlib.Core.Bool.{Bool, true, false, ◌&&◌}
-use mathlib.Core.List.{List, map}
+use mathlib.Core.List.{List}
 use native.Mathlib.Nat.{zero-add}
 use native.Mathlib.Omega.{arith}
 use lib.ListN.{length}
 use Rattle.model.specs.Basics.{pick, tab}
-use Rattle.model.specs.Bitmap.{Bits, valid_at}
-use Rattle.model.specs.Column.{Elem, Row, null_row, list_row, Column, elem_at, offset_at, length_at, row_at, rows_of, row_count}
+use Rattle.model.specs.Bitmap.{valid_at}
+use Rattle.model.specs.Column.{Elem, null_row, list_row, Column, elem_at, offset_at, length_at, row_at, rows_of, row_count}
 use Rattle.model.specs.Form.{elems_of, length_of}
-use Rattle.model.specs.Hash.{Hashed, distinct_of, set_of, longest, pair_length, longest_in}
+use Rattle.model.specs.Hash.{distinct_of, set_of, longest, pair_length, longest_in}
 use Rattle.model.specs.Limits.{narrow}
 use Rattle.model.specs.Rows.{row_of}
 use Rattle.model.specs.declared.SetOp.{SetOp}
@@ -22,28 +22,27 @@ use Rattle.hash_checks.specs.declared.HashOp.TheVariants.{Distinct, Pair}
 
 -- ---- the greatest, in the code's terms
 
-pub record Greatest (f : ℕ → ℕ) (n most r left : ℕ) : Type 0 where
-  pub same : max most (longest (tab f r left)) ≡ longest (tab f 0 n)
-  pub rows : r + left ≡ n
+pub record Greatest (f : ℕ → ℕ) (n most r : ℕ) : Type 0 where
+  pub same : max most (longest (tab f r (n - r))) ≡ longest (tab f 0 n)
   pub low : most ≤ 4294967294
 
 module _ (f : ℕ → ℕ) (n : ℕ) where
-  pub greatest_begun : Greatest f n 0 0 n
-  greatest_begun = record { same = omega arith; rows = omega arith; low = omega arith }
+  pub greatest_begun : Greatest f n 0 0
+  greatest_begun = let e : n - 0 ≡ n = omega arith in record { same = rw e (omega arith); low = omega arith }
 
-  more : (r left : ℕ) → 0 < left → longest (tab f r left) ≡ max (f r) (longest (tab f (r + 1) (left - 1)))
+  more : (r : ℕ) → r < n → longest (tab f r (n - r)) ≡ max (f r) (longest (tab f (r + 1) (n - (r + 1))))
   unfolding longest
-  more r left h = ap longest (tab-step f r left h)
+  more r h = let e : n - r - 1 ≡ n - (r + 1) = omega arith in ap longest (tab-step f r (n - r) (omega arith)) ∙ rw e
 
-  none : (r left : ℕ) → left ≤ 0 → longest (tab f r left) ≡ 0
+  none : (r : ℕ) → n ≤ r → longest (tab f r (n - r)) ≡ 0
   unfolding longest
-  none r left h = ap longest (tab-none f r left h)
+  none r h = ap longest (tab-none f r (n - r) (omega arith))
 
-  pub greatest_more : {most r left : ℕ} (k m : ℕ) → Greatest f n most r left → 0 < left → k ≡ f r → k ≤ 4294967294 → m ≡ max most k → Greatest f n m (r + 1) (left - 1)
-  greatest_more {most} {r} {left} k m g h e l q = record { same = omega (arith, more r left h, q, e, g.same); rows = omega (arith, g.rows); low = omega (arith, g.low) }
+  pub greatest_more : {most r : ℕ} (k m : ℕ) → Greatest f n most r → r < n → k ≡ f r → k ≤ 4294967294 → m ≡ max most k → Greatest f n m (r + 1)
+  greatest_more {most} {r} k m g h e l q = record { same = omega (arith, more r h, q, e, g.same); low = omega (arith, g.low) }
 
-  pub greatest_done : {most r left : ℕ} → Greatest f n most r left → left ≤ 0 → most ≡ longest (tab f 0 n)
-  greatest_done {most} {r} {left} g h = omega (arith, g.same, none r left h)
+  pub greatest_done : {most r : ℕ} → Greatest f n most r → n ≤ r → most ≡ longest (tab f 0 n)
+  greatest_done {most} {r} g h = omega (arith, g.same, none r h)
 
 -- each of a list is at most the greatest
 pub longest_ge : (f : ℕ → ℕ) (a n i : ℕ) → i < n → f (a + i) ≤ longest (tab f a n)

@@ -1,17 +1,18 @@
-// What distinct, union and intersect with a work area test: how much of it the longest row or pair of rows needs, refusal 14, and 8. An inner
-// crate: its callers meet what it asks.
+// What distinct, union and intersect with a work area test: how much of it the longest row or pair of rows needs, and what
+// refuses it. An inner crate: its callers meet what it asks.
 #![tactic(auto)]
 
-ghost use Rattle.std.specs.Prelude.{◌+◌, ◌≤◌, max, ltb, ◌≡◌};
+ghost use Rattle.std.specs.Prelude.{◌+◌, ◌≤◌, ltb, ◌≡◌};
 ghost use Rattle.column.specs.Put.{Readable};
 ghost use Rattle.hash_checks.specs.Area.{most_needed, op_refusal, row_need};
+ghost use Rattle.model.specs.Answers.{refused_by};
 ghost use Rattle.model.specs.Basics.{pick};
 ghost use Rattle.model.specs.Column.{row_count};
 ghost use Rattle.model.specs.Inner.{lent_from, now_column};
 ghost use Rattle.model.specs.Limits.{narrow};
 
 use column::offsets;
-use model::{SetOp, Width};
+use model::{Refusal, SetOp, Width};
 
 // The operations that take a work area: distinct, which looks at the left row alone, and those on two lists.
 #[derive(Clone, Copy)]
@@ -21,6 +22,7 @@ pub enum HashOp {
 }
 
 // The elements of rows of n and m elements that count for the work area.
+#[tactic(auto, unfolding(crate::specs::Area::row_need))]
 fn need_of(op: HashOp, n: usize, m: usize) -> usize
     requires few { n ≤ narrow.offset }
     requires low { m ≤ narrow.offset }
@@ -38,20 +40,7 @@ fn valid_need(op: HashOp, valid: bool, n: usize, m: usize) -> usize
     requires low { m ≤ narrow.offset }
     ensures { result ≡ pick valid (row_need op n m) 0 }
 {
-    if !valid {
-        return 0;
-    }
-    need_of(op, n, m)
-}
-
-// The greater of two numbers.
-fn greater(a: usize, b: usize) -> usize
-    ensures { result ≡ max a b }
-{
-    if a < b {
-        return b;
-    }
-    a
+    if valid { need_of(op, n, m) } else { 0 }
 }
 
 // The elements of the longest row, or pair of rows, that counts.
@@ -69,23 +58,19 @@ pub fn most_needed(
 {
     let n = offsets::row_count(loffsets);
     let mut most: usize = 0;
-    let mut r: usize = 0;
-    let mut left = n;
-    while 0 < left {
+    for r in 0..n {
         let a = offsets::offset_at(loffsets, r);
         let b = offsets::offset_at(loffsets, r + 1);
         let c = offsets::offset_at(roffsets, r);
         let d = offsets::offset_at(roffsets, r + 1);
         let valid = set_checks::are_valid(lrows, l_rstart, rrows, r_rstart, n, r);
         let need = valid_need(op, valid, b - a, d - c);
-        most = greater(most, need);
-        r += 1;
-        left -= 1;
+        most = most.max(need);
     }
     most
 }
 
-// 14: whether so many slots are under twice the elements of the longest row or pair.
+// Whether so many slots are under twice the elements of the longest row or pair.
 pub fn is_short(slots: usize, longest: usize) -> bool
     requires few { longest ≤ 4294967294 }
     ensures { result ≡ ltb slots (longest + longest) }
@@ -93,12 +78,13 @@ pub fn is_short(slots: usize, longest: usize) -> bool
     slots < longest + longest
 }
 
-// 8 of a union of m elements.
-pub fn op_refusal(op: HashOp, m: usize) -> u8
-    ensures { result ≡ op_refusal op m }
+// A union of too many elements.
+#[tactic(auto, unfolding(crate::specs::Area::op_refusal))]
+pub fn op_refusal(op: HashOp, m: usize) -> Result<(), Refusal>
+    ensures { refused_by result ≡ op_refusal op m }
 {
     match op {
-        HashOp::Distinct => 0,
+        HashOp::Distinct => Ok(()),
         HashOp::Pair(k) => set_checks::union_refusal(k, m, Width::Narrow),
     }
 }

@@ -23,13 +23,9 @@ pub(crate) fn measure_new(
     ensures within { Within o (o + n + n) area.old area.new }
 {
     let mut len: usize = 0;
-    let mut k: usize = 0;
-    let mut left = n;
-    while 0 < left {
+    for k in 0..n {
         let new = hash_tables::enter(values, elements, estart, a, n, k, area, o);
-        len += new as usize;
-        k += 1;
-        left -= 1;
+        len += usize::from(new);
     }
     len
 }
@@ -49,17 +45,13 @@ pub(crate) fn write_new(
     ensures table { Table (lent_elem values elements estart) a n n o area.new }
     ensures within { Within o (o + n + n) area.old area.new }
 {
-    let mut k: usize = 0;
-    let mut left = n;
     let mut p = at;
-    while 0 < left {
+    for k in 0..n {
         if hash_tables::enter(values, elements, estart, a, n, k, area, o) {
             let i = a + k;
             elements::write_elem(values, elements, estart, i, out_values, out_elements, p);
             p += 1;
         }
-        k += 1;
-        left -= 1;
     }
     p
 }

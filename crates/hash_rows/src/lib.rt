@@ -71,6 +71,7 @@ fn write_set<'a>(
 
 // The length of what an operation makes of the n elements from element a on and the m others from element b on.
 #[rattlefmt::skip]
+#[tactic(auto, unfolding(hash_checks::specs::Area::row_need, hash_checks::specs::Area::hash_elems))]
 pub fn measure_row<'a>(
     op: HashOp, lvalues: &'a [i64], lelements: &[u8], lstart: usize, a: usize, n: usize,
     rvalues: &'a [i64], relements: &[u8], rstart: usize, b: usize, m: usize, area: &mut [u32],
@@ -92,6 +93,7 @@ pub fn measure_row<'a>(
 
 // Writes it.
 #[rattlefmt::skip]
+#[tactic(auto, unfolding(hash_checks::specs::Area::row_need, hash_checks::specs::Area::hash_elems))]
 pub fn write_row<'a>(
     op: HashOp, lvalues: &'a [i64], lelements: &[u8], lstart: usize, a: usize, n: usize,
     rvalues: &'a [i64], relements: &[u8], rstart: usize, b: usize, m: usize,

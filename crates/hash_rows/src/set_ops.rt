@@ -56,13 +56,9 @@ fn measure_kept(
     ensures within { Within (m + m) (m + m + n + n) area.old area.new }
 {
     let mut len: usize = 0;
-    let mut k: usize = 0;
-    let mut left = n;
-    while 0 < left {
+    for k in 0..n {
         let new = is_kept(values, elements, estart, a, n, k, others, oelements, ostart, b, m, shared, area);
-        len += new as usize;
-        k += 1;
-        left -= 1;
+        len += usize::from(new);
     }
     len
 }
@@ -85,17 +81,13 @@ fn write_kept(
     ensures writes { Writes (kept shared (lent_elems others oelements ostart b m) [] (lent_elems values elements estart a n)) at out_values out_elements result }
     ensures within { Within (m + m) (m + m + n + n) area.old area.new }
 {
-    let mut k: usize = 0;
-    let mut left = n;
     let mut p = at;
-    while 0 < left {
+    for k in 0..n {
         if is_kept(values, elements, estart, a, n, k, others, oelements, ostart, b, m, shared, area) {
             let i = a + k;
             elements::write_elem(values, elements, estart, i, out_values, out_elements, p);
             p += 1;
         }
-        k += 1;
-        left -= 1;
     }
     p
 }

@@ -1,14 +1,14 @@
--- Laws of heads, and of clearing slots.
+-- Laws of heads, and of clean slots.
 use mathlib.Core.Path.{◌≡◌, refl, sym, ◌∙◌}
 use mathlib.Core.Bool.{Bool, true, false}
 use mathlib.Core.List.{List}
-use Prim.Native.Nat.{ℕ, ◌+◌, ◌*◌, ◌/◌, ◌%◌, ◌≤◌, ◌<◌}
-use native.Mathlib.Nat.{mul-le-mul, mul-lt-mul_of_pos_right, div-lt_iff_lt-mul}
+use Prim.Native.Nat.{ℕ, ◌*◌, ◌/◌, ◌≤◌, ◌<◌}
+use native.Mathlib.Nat.{mul-lt-mul_of_pos_right, div-lt_iff_lt-mul}
 use native.Mathlib.Omega.{arith}
 use borrow.Author.Tests.{eqb-true, eqb-false, ltb-true, ltb-false}
 use lib.Dec.{eqb, ltb}
-use lib.ListN.{length, get_or, set, replicate, length-replicate, get_or-replicate, get_or-eq_default}
-use lib.Seq.{get_or-set_same, get_or-set_other, ext_get_or}
+use lib.ListN.{length, replicate, length-replicate, get_or-replicate, get_or-eq_default}
+use lib.Seq.{ext_get_or}
 use mir.Syntax.{w64}
 use mir.Val.{of_z}
 use Rattle.model.specs.Column.{Elem, nul, val}
@@ -35,49 +35,15 @@ either {P} a b f g = by (ltb a b) refl
 scaled_lt : (h n : ℕ) → h < 4294967296 → 0 < n → h * n / 4294967296 < n
 scaled_lt h n p q = (div-lt_iff_lt-mul {k = 4294967296} {x = h * n} {y = n} (omega arith)).1 (omega (arith, mul-lt-mul_of_pos_right {m = h} {n = 4294967296} {k = n} p q))
 
-pub scaled_fits : (h n : ℕ) → h < 4294967296 → n < 4294967296 → h * n < 18446744073709551616
-scaled_fits h n p q = omega (arith, mul-le-mul {n₁ = h} {m₁ = n} {n₂ = 4294967295} {m₂ = 4294967295} (omega arith) (omega arith))
-
 pub fold_lt : (s : ℕ) → folded s < 4294967296
 fold_lt s = omega arith
-
-pub fold_fits : (x : ℕ) → x < 18446744073709551616 → summed x % 4294967296 + summed x / 4294967296 < 18446744073709551616
-fold_fits x p = let q : summed x < 18446744073709551616 = omega arith in small (summed x) q
-  where
-    small : (s : ℕ) → s < 18446744073709551616 → s % 4294967296 + s / 4294967296 < 18446744073709551616
-    small s q = omega arith
 
 pub head_of_lt : (n : ℕ) (e : Elem) → 0 < n → head_of n e < n
 unfolding head_of
 head_of_lt n nul q = q
 head_of_lt n (val v) q = scaled_lt (folded (summed (of_z w64 v))) n (fold_lt (summed (of_z w64 v))) q
 
--- ---- clearing
-
--- the slots below k, and those from n on, are 0
-unfoldable pub Cleared : ℕ → List ℕ → ℕ → Type 0
-Cleared n t k = ((i : ℕ) → i < k → get_or t i 0 ≡ 0) × ((i : ℕ) → n ≤ i → get_or t i 0 ≡ 0)
-
-pub cleared_begun : (n : ℕ) (t : List ℕ) → ((i : ℕ) → n ≤ i → get_or t i 0 ≡ 0) → Cleared n t 0
-unfolding Cleared
-cleared_begun n t h = (λ i p. let z : ⊥ = omega arith in absurd z, h)
-
-pub cleared_more : (n : ℕ) (t : List ℕ) (k : ℕ) → k < n → k < length t → Cleared n t k → Cleared n (set t k 0) (k + 1)
-unfolding Cleared
-cleared_more n t k p q c = (
-  λ i r. decide i k (λ e. rw e (get_or-set_same t k 0 0 q)) (λ h. get_or-set_other t k i 0 0 h ∙ c.0 i (omega arith)),
-  λ i r. get_or-set_other t k i 0 0 (λ (z : i ≡ k). omega arith) ∙ c.1 i r,
-)
-
-pub cleared_done : (n : ℕ) (t : List ℕ) (k : ℕ) → n ≤ k → Cleared n t k → CleanFrom 0 t
-unfolding Cleared
-cleared_done n t k p c i q = either i k (λ r. c.0 i r) (λ r. c.1 i (omega arith))
-
 -- ---- a clean area, as a list
-
--- no slot is there from the length on
-pub clean_past : (t : List ℕ) → CleanFrom (length t) t
-clean_past t i p = get_or-eq_default t 0 {n = i} p
 
 pub clean_zeros : (t : List ℕ) → CleanFrom 0 t → t ≡ replicate (length t) 0
 clean_zeros t c =

@@ -16,17 +16,19 @@ pub fn wide(x: u32) -> usize
 }
 
 // The head of a value among n heads: its two halves multiplied by odd numbers and summed, the sum's halves summed, and that scaled to n.
+#[tactic(auto, unfolding(crate::specs::Slots::head_of))]
 fn head_of_value(v: i64, n: usize) -> usize
     requires { n < 4294967296 }
     ensures { result ≡ head_of n (val v) }
 {
-    let x = wire::from_i64(v);
+    let x = v.cast_unsigned();
     let s = x % 4294967296 * 1640531527 + x / 4294967296 * 1327217885;
     let h = (s % 4294967296 + s / 4294967296) % 4294967296;
     (h as usize) * n / 4294967296
 }
 
 // The head of element i among n heads: a null's is the first, whatever number lies under it.
+#[tactic(auto, using(column::proofs::RowLaws::elem_valid, column::proofs::RowLaws::elem_null), unfolding(crate::specs::Slots::head_of))]
 pub fn head_of(values: &[i64], elements: &[u8], estart: usize, i: usize, n: usize) -> usize
     requires there { i < length values.now }
     requires bits { Covers (now_bits elements estart) (length values.now) }
@@ -48,22 +50,8 @@ pub fn link(area: &mut [u32], n: usize, o: usize, k: usize, b: usize)
     ensures { area.new ≡ entered n o k b area.old }
 {
     let h = o + b;
-    let older = area[h];
-    area[o + n + k] = older;
+    area[o + n + k] = area[h];
     area[h] = (k + 1) as u32;
-}
-
-// Sets the first n slots to 0.
-fn clear(area: &mut [u32], n: usize)
-    requires room { n ≤ length area.old }
-    requires rest { CleanFrom n area.old }
-    ensures { CleanFrom 0 area.new }
-{
-    let mut k: usize = 0;
-    while k < n {
-        area[k] = 0;
-        k += 1;
-    }
 }
 
 // Sets the slots of two tables, of n and of m elements, to 0: heads and links of both.
@@ -72,13 +60,12 @@ pub fn clear_tables(area: &mut [u32], n: usize, m: usize)
     requires rest { CleanFrom (n + n + m + m) area.old }
     ensures { CleanFrom 0 area.new }
 {
-    clear(area, n + n + m + m);
+    area[..n + n + m + m].fill(0);
 }
 
 // Sets all slots to 0, whatever they held.
 pub fn clear_area(area: &mut [u32])
     ensures { area.new ≡ replicate (length area.old) 0 }
 {
-    let n = area.len();
-    clear(area, n);
+    area.fill(0);
 }

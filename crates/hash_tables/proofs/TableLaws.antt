@@ -2,7 +2,7 @@
 use mathlib.Core.Path.{◌≡◌, refl, sym, ap, subst, ◌∙◌}
 use mathlib.Core.Bool.{Bool, true, false, not, ◌||◌, or_comm, or-false}
 use mathlib.Core.List.{List}
-use Prim.Native.Nat.{ℕ, zero, suc, ◌+◌, ◌-◌, ◌≤◌, ◌<◌}
+use Prim.Native.Nat.{ℕ, zero, suc, ◌+◌, ◌≤◌, ◌<◌}
 use native.Mathlib.Numerals.{add-one}
 use native.Mathlib.Omega.{arith}
 use lib.ListN.{length, get_or, set, length-set}
@@ -41,9 +41,8 @@ module _ (E : ℕ → Elem) (a n o : ℕ) (t : List ℕ) (e : Elem) where
       let l = d i r in
       ap (λ (b : Bool). same_elem e (E (a + i)) || b) (chained_fuel d i (get_or t (o + n + i) 0) (get_or t (o + n + i) 0) (omega arith) (omega arith) (omega arith))
 
-  pub chained-step : Down n o t → (s : ℕ) → 0 < s → s ≤ n → chained E a n o t e s s ≡ same_elem e (E (a + (s - 1))) || chained E a n o t e (get_or t (o + n + (s - 1)) 0) (get_or t (o + n + (s - 1)) 0)
-  chained-step d zero p r = let z : ⊥ = omega arith in absurd z
-  chained-step d (suc i) p r = let e : suc i - 1 ≡ i = omega arith in rw e (chained-suc d i r)
+  pub chained-step : Down n o t → (j : ℕ) {s : ℕ} → s ≡ j + 1 → s ≤ n → chained E a n o t e s s ≡ same_elem e (E (a + j)) || chained E a n o t e (get_or t (o + n + j) 0) (get_or t (o + n + j) 0)
+  chained-step d j q r = rw (q, add-one j) (chained-suc d j (omega arith))
 
   pub chained-none : (s : ℕ) → s ≤ 0 → chained E a n o t e s s ≡ false
   chained-none zero p = chained-end 0
@@ -204,12 +203,8 @@ module _ (E : ℕ → Elem) (a n k o : ℕ) (t : List ℕ) (T : Table E a n k o 
   pub listed_lt : b < n
   listed_lt = rw p (head_of_lt n e z)
 
-  module _ {s : ℕ} (q : s ≡ get_or t (o + b) 0) where
-    pub listed_le : s ≤ n
-    listed_le = rw q (omega (arith, T.heads b listed_lt))
-
-    pub listed : {r : Bool} → r ≡ chained E a n o t e s s → r ≡ is_in e (tab E a k)
-    listed f = f ∙ rw (q, p) (T.finds e z)
+  pub listed_le : {s : ℕ} → s ≡ get_or t (o + b) 0 → s ≤ n
+  listed_le q = rw q (omega (arith, T.heads b listed_lt))
 
 -- ---- slots that are 0 are the table of no elements
 
@@ -225,9 +220,6 @@ table_none E a n o t r c = record {
 -- two tables, one after the other: the first one stays
 pub table_before : {E : ℕ → Elem} {a n hi : ℕ} {t u : List ℕ} → Table E a n n 0 t → Within (n + n) hi t u → length u ≡ length t → Table E a n n 0 u
 table_before T w l = table_kept T (omega arith) _ (omega (arith, T.room, l)) (λ i p q. w.below i (omega arith))
-
-pub clean_after : {o lo hi : ℕ} {t u : List ℕ} → CleanFrom o t → Within lo hi t u → o ≤ hi → CleanFrom hi u
-clean_after c w l i p = w.above i p ∙ c i (omega arith)
 
 -- the table of k elements, k being n
 pub table_all : {E : ℕ → Elem} {a n k o : ℕ} {t : List ℕ} → Table E a n k o t → k ≡ n → Table E a n n o t

@@ -1,6 +1,6 @@
 -- A table of a row's elements in a work area: from slot o on n heads, then n links. A head or a link is one more than the place of an
 -- element in its row, or 0.
-use Rattle.std.specs.Prelude.{ℕ, zero, suc, ◌+◌, ◌≤◌, ◌<◌, ◌≡◌, Bool, true, false, ◌||◌, List, length, get_or}
+use Rattle.std.specs.Prelude.{ℕ, zero, suc, ◌+◌, ◌≤◌, ◌<◌, ◌≡◌, Bool, false, ◌||◌, List, length, get_or}
 use Rattle.model.specs.Basics.{tab}
 use Rattle.model.specs.Column.{Elem}
 use Rattle.model.specs.Elements.{same_elem, is_in}

@@ -33,8 +33,7 @@ fn is_chained(
     ensures { result ≡ chained (lent_elem others oelements ostart) b m o area.now (lent_elem values elements estart i) head head }
 {
     let mut s = head;
-    while 0 < s {
-        let j = s - 1;
+    while let Some(j) = s.checked_sub(1) {
         if set_elements::same_elem(
             values,
             elements,

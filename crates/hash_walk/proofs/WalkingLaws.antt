@@ -10,26 +10,27 @@ use lib.Dec.{ltb}
 use lib.ListN.{length}
 use Rattle.model.specs.Basics.{tab, pick}
 use Rattle.model.specs.Bitmap.{Bits, valid_at}
-use Rattle.model.specs.Column.{Elem, Row, null_row, list_row, Column, rows_of, row_at, offset_at, row_count}
+use Rattle.model.specs.Column.{Elem, Row, null_row, list_row, Column, rows_of, row_at, elem_at, offset_at, row_count}
 use Rattle.model.specs.Elements.{distinct, unary_elems}
-use Rattle.model.specs.Form.{Room, flat}
-use Rattle.model.specs.Hash.{Hashed, distinct_of, set_of, plain_of, on_hashed, lists_hashed, short_area, hashed_shown, hashed_outcome}
+use Rattle.model.specs.Form.{Room, elems_of, flat}
+use Rattle.model.specs.Hash.{distinct_of, set_of, plain_of, on_hashed, lists_hashed, short_area, hashed_shown, hashed_outcome}
 use Rattle.model.specs.Limits.{Limits, narrow}
 use Rattle.model.specs.Rows.{unary, on_row, on_rows, on_call, lists_in, arguments_in, makes, made_of, at_row, row_of, rows_in, row_by_row, row_made, rows_made}
 use Rattle.model.specs.Refusals.{unequal, first_of, refusal_of, sums_refusal, rows_refusal}
 use Rattle.model.specs.Rows as Rows
 use Rattle.model.specs.Outcome.{refused, gate, columns_refusal, fitted, after_three, early_refusal}
 use Rattle.model.specs.declared.SetOp.{SetOp}
-use Rattle.model.specs.declared.SetOp.TheVariants as K
 use Rattle.model.specs.declared.Unary.TheVariants as U
 use Rattle.model.proofs.TabLaws.{length-tab, map-tab, tab_ext}
 use Rattle.model.proofs.ColumnLaws.{length-rows, row_at_lem}
 use Rattle.model.proofs.EarlyLaws.{gates}
 use Rattle.model.proofs.OutcomeLaws.{gate_open, gate_shut}
 use Rattle.column.specs.Put.{RoomInˡ}
+use Rattle.column.specs.Rows.{row_from}
+use Rattle.column.proofs.WalkLaws.{Summing, sum_more}
 use Rattle.set_rows.proofs.SetLaws.{firsts-kept, kept_le}
-use Rattle.set_walk.specs.Pairs.{bound_of, pair_rows}
-use Rattle.set_walk.proofs.SetLaws.{made_le, bound_grows, bound_small, set_after, united}
+use Rattle.set_walk.specs.Pairs.{pair_rows}
+use Rattle.set_walk.proofs.SetLaws.{made_le, pair_le, same_pair, bound_grows, bound_small, set_after, united}
 use Rattle.hash_checks.specs.Area.{hash_elems, row_need, need_from, need_at, most_needed, op_refusal}
 use Rattle.hash_checks.specs.declared.HashOp.{HashOp}
 use Rattle.hash_checks.specs.declared.HashOp.TheVariants.{Distinct, Pair}
@@ -167,3 +168,19 @@ module _ (op : SetOp) (c d : Column) (slots : ℕ) (l : Room) where
         by_early
         ∙ gate_open _ _ (sym e ∙ h)
         ∙ rw (set_after op c d narrow l q, needed_pair op c d q)
+
+-- ---- the measuring walk after one more pair of rows
+
+pub hash_more : (op : HashOp) (c d : Column) (n r k p q u w : ℕ) {found : ℕ} → Summing (hash_at op c d) n (hash_bound op (offset_at c.offsets r) (offset_at d.offsets r)) (hash_bound op narrow.offset narrow.offset) found r (n - r) → r < n
+    → p ≡ offset_at c.offsets r → q ≡ offset_at c.offsets (r + 1) → u ≡ offset_at d.offsets r → w ≡ offset_at d.offsets (r + 1) → p ≤ q → u ≤ w → q ≤ narrow.offset → w ≤ narrow.offset
+    → k ≡ length (elems_of (on_rows (hash_elems op) (row_from c.rows (elem_at c.values c.elements) r p q) (row_from d.rows (elem_at d.values d.elements) r u w)))
+    → Summing (hash_at op c d) n (hash_bound op (offset_at c.offsets (r + 1)) (offset_at d.offsets (r + 1))) (hash_bound op narrow.offset narrow.offset) (found + k) (r + 1) (n - (r + 1))
+hash_more op c d n r k p q u w s h hp hq hu hw i j x y e =
+    let m : n - (r + 1) ≡ n - r - 1 = omega arith in
+    let E = elem_at c.values c.elements in
+    let F = elem_at d.values d.elements in
+    rw (m, ← hq, ← hw)
+    (sum_more (hash_at op c d) n (hash_bound op narrow.offset narrow.offset) k (hash_bound op p u) (hash_bound op q w) s (omega arith)
+    (e ∙ ap (λ (z : Row). length (elems_of z)) (same_pair (hash_elems op) c d r p q u w hp hq hu hw))
+    (rw e (pair_le (hash_elems op) c.rows d.rows E F r p q u w _ (hash_le op E F p q u w i j)))
+    (hash_grows op i j) (hash_same op hp hu) (hash_grows op x y))

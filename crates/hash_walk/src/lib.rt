@@ -18,7 +18,7 @@ ghost use Rattle.model.specs.Rows.{on_rows};
 
 use column::offsets;
 use hash_checks::HashOp;
-use model::ListAnswer;
+use model::{ListAnswer, Refusal};
 
 // The number of elements that the operation makes of the rows r, which lie from a to b and from c to d.
 #[rattlefmt::skip]
@@ -92,9 +92,7 @@ fn measure_pairs<'a>(
 {
     let n = offsets::row_count(loffsets);
     let mut found: usize = 0;
-    let mut r: usize = 0;
-    let mut left = n;
-    while 0 < left {
+    for r in 0..n {
         let a = offsets::offset_at(loffsets, r);
         let b = offsets::offset_at(loffsets, r + 1);
         let c = offsets::offset_at(roffsets, r);
@@ -105,8 +103,6 @@ fn measure_pairs<'a>(
             c, d, n, r, area,
         );
         found += len;
-        r += 1;
-        left -= 1;
     }
     found
 }
@@ -131,10 +127,8 @@ fn write_pairs<'a>(
 {
     let n = offsets::row_count(loffsets);
     offsets::put_offset(out_offsets, 0, 0);
-    let mut r: usize = 0;
     let mut at: usize = 0;
-    let mut left = n;
-    while 0 < left {
+    for r in 0..n {
         let a = offsets::offset_at(loffsets, r);
         let b = offsets::offset_at(loffsets, r + 1);
         let c = offsets::offset_at(roffsets, r);
@@ -146,12 +140,10 @@ fn write_pairs<'a>(
             at, area,
         );
         offsets::put_offset(out_offsets, r + 1, at);
-        r += 1;
-        left -= 1;
     }
 }
 
-// Writes what the operation makes of columns that refusals 1, 2 and 3 do not apply to.
+// Writes what the operation makes of columns that can be read, row beside row.
 #[rattlefmt::skip]
 pub fn after_three<'a>(
     op: HashOp,
@@ -172,7 +164,7 @@ pub fn after_three<'a>(
         roffsets, rrows, r_rstart, rvalues, relements, r_estart,
     );
     if hash_checks::is_short(area.len(), longest) {
-        return ListAnswer::Refused(14);
+        return Err(Refusal::ShortArea);
     }
     let m = measure_pairs(
         op,
@@ -180,10 +172,7 @@ pub fn after_three<'a>(
         roffsets, rrows, r_rstart, rvalues, relements, r_estart,
         area,
     );
-    let long = hash_checks::op_refusal(op, m);
-    if long != 0 {
-        return ListAnswer::Refused(long);
-    }
+    hash_checks::op_refusal(op, m)?;
     let n = offsets::row_count(loffsets);
     if !checks::has_room(
         n,
@@ -193,7 +182,7 @@ pub fn after_three<'a>(
         out_values.len(),
         out_elements.len(),
     ) {
-        return ListAnswer::Refused(9);
+        return Err(Refusal::ShortOutput);
     }
     write_pairs(
         op,

@@ -7,14 +7,15 @@ use lib.ListN.{length, replicate}
 use Rattle.model.specs.Column.{Row}
 use Rattle.model.specs.Contract.{ListMeets, HashMeets}
 use Rattle.model.specs.Outcome.{Outcome, refused}
-use Rattle.model.specs.declared.ListAnswer.{ListAnswer}
-use Rattle.model.specs.declared.ListAnswer.TheVariants as L
+use Rattle.std.specs.Prelude.{Err}
+use Rattle.model.specs.Answers.{ListAnswer, number_of}
+use Rattle.model.specs.declared.Refusal.{Refusal}
 use Rattle.column.proofs.AnswerLaws.{list-refused}
 use Rattle.hash_slots.specs.Slots.{CleanFrom}
 use Rattle.hash_slots.proofs.SlotLaws.{clean_zeros, zeros_clean}
 
 -- a refusal changes no output, and leaves the area as it was cleared
-pub refused_cleared : {x : Outcome (List Row)} (k : ℕ) {n : ℕ} {o v : List ℤ} {r e w : List ℕ} → x ≡ refused k → w ≡ replicate n 0 → HashMeets x n (L.Refused k) o o r r v v e e w
+pub refused_cleared : {x : Outcome (List Row)} (k : Refusal) {n : ℕ} {o v : List ℤ} {r e w : List ℕ} → x ≡ refused (number_of k) → w ≡ replicate n 0 → HashMeets x n (Err k) o o r r v v e e w
 refused_cleared k h z = record { list = list-refused k h; area = z }
 
 -- what the walk gave; y is the call's own outcome, and n the length of the area as it was lent

@@ -17,10 +17,7 @@ pub fn general_array_distinct_hashed(
     ensures { HashAnswers (hashed_outcome narrow (distinct_of (lent_from offsets rows rows_start values elements elements_start))) result out_offsets out_rows out_values out_elements area }
 {
     hash_slots::clear_area(area);
-    let k = checks::list_refusal(offsets, rows, rows_start, values, elements, elements_start, Width::Narrow, values);
-    if k != 0 {
-        return ListAnswer::Refused(k);
-    }
+    checks::list_refusal(offsets, rows, rows_start, values, elements, elements_start, Width::Narrow, values)?;
     hash_walk::after_three(
         HashOp::Distinct,
         offsets, rows, rows_start, values, elements, elements_start,
@@ -40,14 +37,11 @@ pub fn generic_set_lists_hashed<'a>(
     ensures { HashAnswers (hashed_outcome narrow (set_of set_op (lent_from l_offsets l_rows l_rows_start l_values l_elements l_elements_start) (lent_from r_offsets r_rows r_rows_start r_values r_elements r_elements_start))) result out_offsets out_rows out_values out_elements area }
 {
     hash_slots::clear_area(area);
-    let k = set_walk::early(
+    set_walk::early(
         l_offsets, l_rows, l_rows_start, l_values, l_elements, l_elements_start,
         r_offsets, r_rows, r_rows_start, r_values, r_elements, r_elements_start,
         Width::Narrow, l_values, r_values,
-    );
-    if k != 0 {
-        return ListAnswer::Refused(k);
-    }
+    )?;
     hash_walk::after_three(
         HashOp::Pair(set_op),
         l_offsets, l_rows, l_rows_start, l_values, l_elements, l_elements_start,

@@ -10,10 +10,11 @@ use borrow.Author.Tests.{ltb-true, ltb-false, lt-ltb, le-ltb, leb-true, le-leb, 
 use mir.Syntax.{Width}
 use mir.Val.{SFits, hbits}
 use Rattle.model.specs.Basics.{pick}
-use Rattle.model.specs.Limits.{Limits}
+use Rattle.model.specs.Limits.{Limits, narrow}
 use Rattle.model.specs.Column.{count}
 use Rattle.model.specs.Slice.{fits, in_row, place, outside}
-use Rattle.index.specs.Place.{index_place, index_bound, place_in, place_or}
+use Rattle.std.proofs.Common.{w32, OkIff, is_ok, None, Some, Result, Ok, Err}
+use Rattle.index.specs.Place.{index_place, index_bound, place_in, place_of}
 use Rattle.index.proofs.SignedLaws.{difference_cases}
 use Rattle.model.proofs.BoolLaws.{never_true}
 
@@ -21,19 +22,17 @@ use Rattle.model.proofs.BoolLaws.{never_true}
 
 -- where not every number fits
 module _ (L : Limits) (e : L.every ≡ false) where
-  pub fits_low : (z : ℤ) → lt_z z (negsuc L.offset) ≡ true → false ≡ fits L z
-  unfolding fits
-  fits_low (pos i) t = never_true (sym t)
-  fits_low (negsuc i) t = let l = ltb-true L.offset i t in rw e (sym (lt-leb i L.offset l))
-
-  pub fits_high : (z : ℤ) → lt_z z (negsuc L.offset) ≡ false → le_z z (pos L.offset) ≡ fits L z
-  unfolding fits
-  fits_high (pos i) t = rw e
-  fits_high (negsuc i) t = let l = ltb-false L.offset i t in rw e (sym (le-leb i L.offset l))
-
   pub fits_signed : (w : Width) → L.offset < 2 ^ hbits w → (z : ℤ) → fits L z ≡ true → SFits w z
   unfolding fits
   fits_signed w h z t = let l = leb-true (mag z) L.offset (rw e at t) in record { sfits = omega arith }
+
+too_far : (m : ℕ) → (m < 2147483648 → ⊥) → 2147483647 < m
+too_far m h = omega (arith, h)
+
+pub fits_told : {E : Type 0} (r : Result ℤ E) (z v : ℤ) → OkIff r (SFits w32 z) v → is_ok r ≡ fits narrow z
+unfolding fits
+fits_told (Ok x) z v k = let s = k.0.sfits in sym (le-leb (mag z) narrow.offset (omega arith))
+fits_told (Err e) z v k = sym (lt-leb (mag z) narrow.offset (too_far (mag z) (λ h. k (record { sfits = h }))))
 
 -- ---- the place of an index that fits
 
@@ -58,35 +57,35 @@ index_start (negsuc i) n t = never_true t
 -- ---- the place that is answered
 
 module _ (L : Limits) (n : ℕ) (z : ℤ) where
-  pub answer-unfit : fits L z ≡ false → n ≡ place_or (index_bound L n z) n
-  unfolding index_bound place_or
+  pub answer-unfit : fits L z ≡ false → None ≡ place_of (index_bound L n z)
+  unfolding index_bound place_of
   answer-unfit t = rw t
 
-  answer_is : (x : ℤ) → fits L z ≡ true → place_in n x ≡ index_place n z → place_or (index_bound L n z) n ≡ place_or (place_in n x) n
+  answer_is : (x : ℤ) → fits L z ≡ true → place_in n x ≡ index_place n z → place_of (index_bound L n z) ≡ place_of (place_in n x)
   unfolding index_bound
   answer_is x t e = rw (t, e)
 
-told_before : (x : ℤ) (n : ℕ) → lt_z x (pos 0) ≡ true → n ≡ place_or (place_in n x) n
-unfolding place_in place_or
+told_before : (x : ℤ) (n : ℕ) → lt_z x (pos 0) ≡ true → None ≡ place_of (place_in n x)
+unfolding place_in place_of
 told_before (pos i) n t = let l = ltb-true i 0 t in let e : ⊥ = omega arith in absurd e
 told_before (negsuc i) n t = refl
 
-told-inside : (x : ℤ) (n : ℕ) → T (non_neg x) → lt_z x (pos n) ≡ true → nat_abs x ≡ place_or (place_in n x) n
-unfolding place_in place_or in_row
+told-inside : (x : ℤ) (n : ℕ) → T (non_neg x) → lt_z x (pos n) ≡ true → Some (nat_abs x) ≡ place_of (place_in n x)
+unfolding place_in place_of in_row
 told-inside (pos i) n h t = rw t
 told-inside (negsuc i) n h t = absurd h
 
-told_past : (x : ℤ) (n : ℕ) → lt_z x (pos n) ≡ false → n ≡ place_or (place_in n x) n
-unfolding place_in place_or in_row
+told_past : (x : ℤ) (n : ℕ) → lt_z x (pos n) ≡ false → None ≡ place_of (place_in n x)
+unfolding place_in place_of in_row
 told_past (pos i) n t = rw t
 told_past (negsuc i) n t = refl
 
 module _ (L : Limits) (n : ℕ) (z x : ℤ) (f : fits L z ≡ true) (e : place_in n x ≡ index_place n z) where
-  pub answer_before : lt_z x (pos 0) ≡ true → n ≡ place_or (index_bound L n z) n
+  pub answer_before : lt_z x (pos 0) ≡ true → None ≡ place_of (index_bound L n z)
   answer_before t = told_before x n t ∙ sym (answer_is L n z x f e)
 
-  pub answer-inside : T (non_neg x) → lt_z x (pos n) ≡ true → nat_abs x ≡ place_or (index_bound L n z) n
+  pub answer-inside : T (non_neg x) → lt_z x (pos n) ≡ true → Some (nat_abs x) ≡ place_of (index_bound L n z)
   answer-inside h t = told-inside x n h t ∙ sym (answer_is L n z x f e)
 
-  pub answer_past : lt_z x (pos n) ≡ false → n ≡ place_or (index_bound L n z) n
+  pub answer_past : lt_z x (pos n) ≡ false → None ≡ place_of (index_bound L n z)
   answer_past t = told_past x n t ∙ sym (answer_is L n z x f e)

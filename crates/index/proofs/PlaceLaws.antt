@@ -14,8 +14,9 @@ use Rattle.model.specs.Limits.{Limits}
 use Rattle.model.specs.Column.{Elem, nul}
 use Rattle.model.specs.Elements.{element_at}
 use Rattle.model.specs.Slice.{Bound, unfit, outside, place, in_row, fits, to_place}
-use Rattle.index.specs.Place.{index_place, index_bound, place_or, taken}
+use Rattle.index.specs.Place.{index_place, index_bound, place_of, place_or, taken}
 use Rattle.model.proofs.BoolLaws.{never_true}
+use Rattle.std.proofs.Common.{unwrap_or}
 
 pub pick_cases : {A : Type 0} (t : Bool) (x y : A) (P : A → Type 0) → (t ≡ true → P x) → (t ≡ false → P y) → P (pick t x y)
 pick_cases true x y P f g = f refl
@@ -50,6 +51,13 @@ pub element-taken : (L : Limits) (es : List Elem) (z : ℤ) → length es ≤ L.
 unfolding index_bound taken
 element-taken L es z h =
     pick_cases (fits L z) (index_place (length es) z) unfit (λ b. element_at es z ≡ taken b es) (λ t. place-taken es z) (λ t. far_null L.offset es z h (unfit_far L z t))
+
+-- the place of a bound, or the length, by the place that it has
+pub place_or_told : (b : Bound) (n : ℕ) → unwrap_or (place_of b) n ≡ place_or b n
+unfolding place_of place_or
+place_or_told unfit n = refl
+place_or_told outside n = refl
+place_or_told (place p) n = refl
 
 -- ---- a place is inside the row
 

@@ -12,9 +12,11 @@ use mir.Val.{SFits, of_z}
 use Rattle.model.specs.Basics.{pick}
 use Rattle.model.specs.Limits.{Limits}
 use Rattle.model.specs.Column.{count}
-use Rattle.model.specs.Slice.{Bound, unfit, outside, place, fits, in_row, from_place, from_bound, to_place, to_bound, against, is_zero, step_count, strided, between, slice_plan, empty, refuse}
-use Rattle.index.specs.Plan.{plan_of, place_told, IsPlace, Suits}
-use Rattle.index.specs.declared.slice.SlicePlan.TheVariants as P
+use Rattle.model.specs.Slice.{Bound, unfit, outside, place, fits, in_row, from_place, from_bound, to_place, to_bound, against, is_zero, step_count, strided, between, slice_plan, empty, refuse, Plan, places}
+use Rattle.index.specs.Plan.{plan_of, refusal_of, stride_in, place_told, IsPlace, Suits}
+use Rattle.std.proofs.Common.{subst, Bool, eqb, unwrap_or, Option, None, Some, Ok, Err}
+use Rattle.model.specs.Answers.{number_of}
+use Rattle.model.specs.declared.Refusal.TheVariants.{WideIndex, ZeroStride, WideStride}
 use Rattle.index.proofs.SignedLaws.{difference_natural, difference_below-zero, difference_not_below-zero, difference_cases, less_one}
 use Rattle.index.proofs.PlaceLaws.{pick_cases, to-place-inside}
 use Rattle.model.proofs.BoolLaws.{never, never_true}
@@ -114,19 +116,19 @@ against_up L (negsuc a) b (pos k) p q t = absurd p.natural
 -- ---- the plan between two places
 
 module _ (L : Limits) (a b : ℕ) (s : ℤ) where
-  pub stride_zero : is_zero s ≡ true → P.Refused 5 ≡ plan_of (strided L a b s)
-  unfolding strided plan_of
-  stride_zero t = rw t
+  pub stride_zero : is_zero s ≡ true → Err ZeroStride ≡ plan_of (strided L a b s)
+  unfolding strided plan_of refusal_of
+  stride_zero t = rw t refl
 
-  pub stride_against : is_zero s ≡ false → against a b s ≡ true → P.Empty ≡ plan_of (strided L a b s)
+  pub stride_against : is_zero s ≡ false → against a b s ≡ true → Ok None ≡ plan_of (strided L a b s)
   unfolding strided plan_of
   stride_against t u = rw (t, u)
 
-  pub stride_unfit : is_zero s ≡ false → against a b s ≡ false → fits L s ≡ false → P.Refused 6 ≡ plan_of (strided L a b s)
-  unfolding strided plan_of
-  stride_unfit t u v = rw (t, u, v)
+  pub stride_unfit : is_zero s ≡ false → against a b s ≡ false → fits L s ≡ false → Err WideStride ≡ plan_of (strided L a b s)
+  unfolding strided plan_of refusal_of
+  stride_unfit t u v = rw (t, u, v) refl
 
-pub stride_steps : (L : Limits) (a b s : ℤ) → Suits L a b s → fits L s ≡ true → P.Steps (nat_abs a) s (step_count (count a) (count b) s) ≡ plan_of (strided L (count a) (count b) s)
+pub stride_steps : (L : Limits) (a b s : ℤ) → Suits L a b s → fits L s ≡ true → Ok (Some (record { start = nat_abs a; stride = s; count = step_count (count a) (count b) s })) ≡ plan_of (strided L (count a) (count b) s)
 unfolding strided plan_of count
 stride_steps L (pos a) b s h f = rw (h.some, h.direction, f)
 stride_steps L (negsuc a) b s h f = absurd h.from.natural
@@ -173,18 +175,18 @@ told-natural (pos i) h = refl
 told-natural (negsuc i) h = absurd h
 
 module _ (L : Limits) (n : ℕ) (f t s : ℤ) where
-  pub plan_empty_row : n ≡ 0 → P.Empty ≡ plan_of (slice_plan L n f t s)
+  pub plan_empty_row : n ≡ 0 → Ok None ≡ plan_of (slice_plan L n f t s)
   unfolding slice_plan plan_of
   plan_empty_row e = rw (eq-eqb n 0 e)
 
   module _ (h : 0 < n) where
-    pub plan_from-unfit : fits L f ≡ false → P.Refused 4 ≡ plan_of (slice_plan L n f t s)
-    unfolding slice_plan from_bound between plan_of
-    plan_from-unfit e = rw (ne_eqb n 0 (λ z. omega arith), e)
+    pub plan_from-unfit : fits L f ≡ false → Err WideIndex ≡ plan_of (slice_plan L n f t s)
+    unfolding slice_plan from_bound between plan_of refusal_of
+    plan_from-unfit e = rw (ne_eqb n 0 (λ z. omega arith), e) refl
 
-    pub plan_to-unfit : fits L t ≡ false → P.Refused 4 ≡ plan_of (slice_plan L n f t s)
-    unfolding slice_plan to_bound plan_of
-    plan_to-unfit e = rw (ne_eqb n 0 (λ z. omega arith), e, before_unfit L (from_bound L n f) s)
+    pub plan_to-unfit : fits L t ≡ false → Err WideIndex ≡ plan_of (slice_plan L n f t s)
+    unfolding slice_plan to_bound plan_of refusal_of
+    plan_to-unfit e = rw (ne_eqb n 0 (λ z. omega arith), e, before_unfit L (from_bound L n f) s) refl
 
     -- both bounds fit: the places that the code found for them
     module _ (p : fits L f ≡ true) (q : fits L t ≡ true) (x y : ℤ) (d : x ≡ pos (from_place n f)) (e : place_told y ≡ to_place n t) where
@@ -192,13 +194,13 @@ module _ (L : Limits) (n : ℕ) (f t s : ℤ) where
       unfolding slice_plan from_bound to_bound
       fitting = rw (ne_eqb n 0 (λ z. omega arith), p, q)
 
-      pub plan_from_past : le_z (pos n) x ≡ true → P.Empty ≡ plan_of (slice_plan L n f t s)
+      pub plan_from_past : le_z (pos n) x ≡ true → Ok None ≡ plan_of (slice_plan L n f t s)
       unfolding in_row plan_of
       plan_from_past u =
           let l = leb-true n (from_place n f) (rw d at u) in
           rw (fitting, le-ltb (from_place n f) n l, before_outside L (to_place n t) s (to-place-fits n t))
 
-      pub plan_to_before : lt_z y (pos 0) ≡ true → P.Empty ≡ plan_of (slice_plan L n f t s)
+      pub plan_to_before : lt_z y (pos 0) ≡ true → Ok None ≡ plan_of (slice_plan L n f t s)
       unfolding plan_of
       plan_to_before u = rw (fitting, ← e, told_below y u, after-outside L (in_row n (from_place n f)) s (row_fits n (from_place n f)))
 
@@ -217,3 +219,41 @@ pub last_placed : (L : Limits) (n : ℕ) (t y : ℤ) → n ≤ L.offset → plac
 unfolding place_told
 last_placed L n t (pos b) h e v = let l = to-place-inside n t b (sym e) in record { natural = tt; small = omega arith }
 last_placed L n t (negsuc b) h e v = absurd v
+
+-- ---- the refusals of a slice have numbers that their names tell
+
+Told : Plan → Type 0
+Told (refuse k) = number_of (refusal_of k) ≡ k
+Told empty = Unit
+Told (places a s n) = Unit
+
+pick_told : (b : Bool) (p q : Plan) → Told p → Told q → Told (pick b p q)
+pick_told true p q h k = h
+pick_told false p q h k = k
+
+strided_told : (L : Limits) (a b : ℕ) (s : ℤ) → Told (strided L a b s)
+unfolding strided refusal_of Told
+strided_told L a b s = pick_told (is_zero s) (refuse 5) (pick (against a b s) empty (pick (fits L s) (places a s (step_count a b s)) (refuse 6))) refl (pick_told (against a b s) empty (pick (fits L s) (places a s (step_count a b s)) (refuse 6)) tt (pick_told (fits L s) (places a s (step_count a b s)) (refuse 6) tt refl))
+
+between_told : (L : Limits) (a b : Bound) (s : ℤ) → Told (between L a b s)
+unfolding between refusal_of Told
+between_told L unfit b s = refl
+between_told L outside unfit s = refl
+between_told L outside outside s = tt
+between_told L outside (place b) s = tt
+between_told L (place a) unfit s = refl
+between_told L (place a) outside s = tt
+between_told L (place a) (place b) s = strided_told L a b s
+
+slice_told : (L : Limits) (n : ℕ) (f t s : ℤ) → Told (slice_plan L n f t s)
+unfolding slice_plan Told
+slice_told L n f t s = pick_told (eqb n 0) empty (between L (from_bound L n f) (to_bound L n t) s) tt (between_told L (from_bound L n f) (to_bound L n t) s)
+
+pub refusal_told : (L : Limits) (n : ℕ) (f t s : ℤ) (k : ℕ) → slice_plan L n f t s ≡ refuse k → number_of (refusal_of k) ≡ k
+unfolding Told
+refusal_told L n f t s k e = subst Told e (slice_told L n f t s)
+
+pub stride_told : (x : Option ℤ) → unwrap_or x (pos 1) ≡ stride_in x
+unfolding stride_in
+stride_told None = refl
+stride_told (Some s) = refl

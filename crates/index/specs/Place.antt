@@ -1,5 +1,5 @@
--- Where an index points in a row. Document 01, "Element:" under what each row becomes.
-use Rattle.std.specs.Prelude.{ℕ, zero, suc, ◌+◌, ◌-◌, List, ltb, ℤ, pos, negsuc, get_or}
+-- Where an index points in a row.
+use Rattle.std.specs.Prelude.{ℕ, zero, suc, ◌+◌, ◌-◌, List, ltb, ℤ, pos, negsuc, get_or, Option, None, Some}
 use Rattle.model.specs.Basics.{pick}
 use Rattle.model.specs.Limits.{Limits}
 use Rattle.model.specs.Column.{Elem, nul}
@@ -18,6 +18,12 @@ index_bound L n z = pick (fits L z) (index_place n z) unfit
 unfoldable pub place_in : ℕ → ℤ → Bound
 place_in n (pos p) = in_row n p
 place_in n (negsuc p) = outside
+
+-- the place of a bound that has one
+unfoldable pub place_of : Bound → Option ℕ
+place_of unfit = None
+place_of outside = None
+place_of (place p) = Some p
 
 -- the place of a bound, or n where it has none
 unfoldable pub place_or : Bound → ℕ → ℕ

@@ -1,24 +1,31 @@
--- The plan of a slice and its stride as the code has them, and what the code's inner functions ask and tell. Document 01, "Slice:".
-use Rattle.std.specs.Prelude.{◌<◌, Bool, true, false, ◌≡◌, T, ℤ, pos, negsuc, nat_abs}
+-- The plan of a slice and its stride as the code has them, and what the code's inner functions ask and tell.
+use Rattle.std.specs.Prelude.{ℕ, ◌<◌, eqb, Option, None, Some, Result, Ok, Err, Bool, true, false, ◌≡◌, T, ℤ, pos, negsuc, nat_abs}
 use Rattle.std.specs.Int.Signed.{non_neg}
 use Rattle.model.specs.Limits.{Limits}
 use Rattle.model.specs.Column.{count}
 use Rattle.model.specs.Slice.{Bound, outside, place, Plan, refuse, empty, places, against, is_zero}
-use Rattle.index.specs.declared.slice.SlicePlan.{SlicePlan}
-use Rattle.index.specs.declared.slice.SlicePlan.TheVariants as P
-use Rattle.index.specs.declared.slice.Stride.{Stride}
-use Rattle.index.specs.declared.slice.Stride.TheVariants as S
+use Rattle.model.specs.Basics.{pick}
+use Rattle.model.specs.declared.Refusal.{Refusal}
+use Rattle.model.specs.declared.Refusal.TheVariants.{WideIndex, ZeroStride, WideStride}
+use Rattle.index.specs.declared.slice.Steps.{Steps}
+
+abbrev pub SlicePlan : Type 0
+SlicePlan = Result (Option Steps) Refusal
+
+-- the refusals of a slice by their numbers: 4, 5 and 6
+unfoldable pub refusal_of : ℕ → Refusal
+refusal_of k = pick (eqb k 4) WideIndex (pick (eqb k 5) ZeroStride WideStride)
 
 -- the plan as the code answers it
 unfoldable pub plan_of : Plan → SlicePlan
-plan_of (refuse k) = P.Refused k
-plan_of empty = P.Empty
-plan_of (places a s n) = P.Steps a s n
+plan_of (refuse k) = Err (refusal_of k)
+plan_of empty = Ok None
+plan_of (places a s n) = Ok (Some (record { start = a; stride = s; count = n }))
 
 -- "absent stride is 1"
-unfoldable pub stride_in : Stride → ℤ
-stride_in S.Absent = pos 1
-stride_in (S.By s) = s
+unfoldable pub stride_in : Option ℤ → ℤ
+stride_in None = pos 1
+stride_in (Some s) = s
 
 -- the bound that a signed number tells: below 0 it is outside the row
 unfoldable pub place_told : ℤ → Bound

@@ -5,7 +5,7 @@
 pub mod slice;
 
 ghost use Rattle.std.specs.Prelude.{◌≤◌, T, ◌≡◌};
-ghost use Rattle.index.specs.Place.{index_bound, index_place, place_in, place_or};
+ghost use Rattle.index.specs.Place.{index_bound, index_place, place_in, place_of};
 ghost use Rattle.model.specs.Column.{count};
 ghost use Rattle.model.specs.Limits.{narrow};
 ghost use Rattle.model.specs.Slice.{fits};
@@ -14,10 +14,7 @@ ghost use Rattle.std.specs.Int.Signed.{non_neg};
 pub fn fits_i32(x: i64) -> bool
     ensures { result ≡ fits narrow x }
 {
-    if x < -2147483648 {
-        return false;
-    }
-    x <= 2147483647
+    i32::try_from(x).is_ok()
 }
 
 // The place of an index that fits, below 0 or at least len where it is outside the row.
@@ -31,21 +28,21 @@ fn index_place(index: i32, len: i32) -> i32
     index - 1
 }
 
-// The place that an index points at, 1 the first and -1 the last, or len where it is outside the row or does not fit.
-pub fn adjusted_array_index(index: i64, len: usize) -> usize
+// The place that an index points at, 1 the first and -1 the last; none where it is outside the row or does not fit.
+pub fn adjusted_array_index(index: i64, len: usize) -> Option<usize>
     requires { len ≤ narrow.offset }
-    ensures { result ≡ place_or (index_bound narrow len index) len }
+    ensures { result ≡ place_of (index_bound narrow len index) }
 {
     if !fits_i32(index) {
-        return len;
+        return None;
     }
     let n = len as i32;
     let at = index_place(index as i32, n);
     if at < 0 {
-        return len;
+        return None;
     }
     if at < n {
-        return at as usize;
+        return Some(at as usize);
     }
-    len
+    None
 }

@@ -6,23 +6,18 @@ ghost use Rattle.model.specs.Column.{count};
 ghost use Rattle.model.specs.Limits.{narrow};
 ghost use Rattle.model.specs.Slice.{against, from_place, slice_plan, step_count, strided, to_place};
 
-// No places, so many from a start on by a stride, or the number of a refusal.
-#[derive(Clone, Copy)]
-pub enum SlicePlan {
-    Empty,
-    Steps {
-        start: usize,
-        stride: i64,
-        count: usize,
-    },
-    Refused(u8),
+use model::Refusal;
+
+// So many places from a start on by a stride.
+#[derive(Clone, Copy, PartialEq, Eq)]
+pub struct Steps {
+    pub start: usize,
+    pub stride: i64,
+    pub count: usize,
 }
 
-#[derive(Clone, Copy)]
-pub enum Stride {
-    Absent,
-    By(i64),
-}
+// The places, none where the slice is empty, or why it is refused.
+pub type SlicePlan = Result<Option<Steps>, Refusal>;
 
 // The place of a from, which may still be past the end: from 0 or 1 is the first place, and so is a from below minus the length.
 fn adjusted_from_index(index: i32, len: i32) -> i32
@@ -124,54 +119,51 @@ fn plan_steps(from: i32, to: i32, stride: i64) -> SlicePlan
     ensures { result ≡ plan_of (strided narrow (count from) (count to) stride) }
 {
     if stride == 0 {
-        return SlicePlan::Refused(5);
+        return Err(Refusal::ZeroStride);
     }
     if is_against(from, to, stride) {
-        return SlicePlan::Empty;
+        return Ok(None);
     }
     if !crate::fits_i32(stride) {
-        return SlicePlan::Refused(6);
+        return Err(Refusal::WideStride);
     }
     let count = count_steps(from, to, stride as i32);
-    SlicePlan::Steps {
+    Ok(Some(Steps {
         start: from as usize,
         stride,
         count: count as usize,
-    }
+    }))
 }
 
 // An absent stride is 1.
-pub fn stride_of(stride: Stride) -> i64
+pub fn stride_of(stride: Option<i64>) -> i64
     ensures { result ≡ stride_in stride }
 {
-    match stride {
-        Stride::Absent => 1,
-        Stride::By(s) => s,
-    }
+    stride.unwrap_or(1)
 }
 
 // The places that a slice takes of a row of len elements.
-pub fn compute_slice_plan(len: usize, from: i64, to: i64, stride: Stride) -> SlicePlan
+pub fn compute_slice_plan(len: usize, from: i64, to: i64, stride: Option<i64>) -> SlicePlan
     requires { len ≤ narrow.offset }
     ensures { result ≡ plan_of (slice_plan narrow len from to (stride_in stride)) }
 {
     if len == 0 {
-        return SlicePlan::Empty;
+        return Ok(None);
     }
     if !crate::fits_i32(from) {
-        return SlicePlan::Refused(4);
+        return Err(Refusal::WideIndex);
     }
     if !crate::fits_i32(to) {
-        return SlicePlan::Refused(4);
+        return Err(Refusal::WideIndex);
     }
     let n = len as i32;
     let first = adjusted_from_index(from as i32, n);
     let last = adjusted_to_index(to as i32, n);
     if n <= first {
-        return SlicePlan::Empty;
+        return Ok(None);
     }
     if last < 0 {
-        return SlicePlan::Empty;
+        return Ok(None);
     }
     plan_steps(first, last, stride_of(stride))
 }

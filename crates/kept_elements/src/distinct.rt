@@ -12,10 +12,8 @@ pub fn measure_distinct(values: &[i64], elements: &[u8], estart: usize, a: usize
     requires column { ReadableElems values elements estart a n }
     ensures { result ≡ length (distinct (lent_elems values elements estart a n)) }
 {
-    let mut len: usize = 0;
-    let mut k: usize = 0;
-    let mut left = n;
-    while 0 < left {
+    let mut len = 0;
+    for k in 0..n {
         let new = !set_elements::is_among(
             values,
             elements,
@@ -27,9 +25,7 @@ pub fn measure_distinct(values: &[i64], elements: &[u8], estart: usize, a: usize
             a,
             k,
         );
-        len += new as usize;
-        k += 1;
-        left -= 1;
+        len += usize::from(new);
     }
     len
 }
@@ -49,17 +45,13 @@ pub fn write_distinct(
     requires room { RoomForElems (distinct (now_elems values elements estart a n)) at out_values out_elements }
     ensures { Writes (distinct (lent_elems values elements estart a n)) at out_values out_elements result }
 {
-    let mut k: usize = 0;
-    let mut left = n;
     let mut p = at;
-    while 0 < left {
+    for k in 0..n {
         let i = a + k;
         if !set_elements::is_among(values, elements, estart, i, values, elements, estart, a, k) {
             elements::write_elem(values, elements, estart, i, out_values, out_elements, p);
             p += 1;
         }
-        k += 1;
-        left -= 1;
     }
     p
 }

@@ -32,10 +32,7 @@ pub fn is_kept(
     let found = set_elements::is_among(
         values, elements, estart, i, others, oelements, ostart, b, m,
     );
-    if shared {
-        return found;
-    }
-    !found
+    if shared { found } else { !found }
 }
 
 // The longer of two rows' values, the left one on equal lengths: the part that intersect walks.
@@ -43,7 +40,8 @@ pub fn longer<'a>(left: &'a [i64], right: &'a [i64]) -> &'a [i64]
     ensures { result.now ≡ pick (ltb (length left.now) (length right.now)) right.now left.now }
 {
     if left.len() < right.len() {
-        return right;
+        right
+    } else {
+        left
     }
-    left
 }

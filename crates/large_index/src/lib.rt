@@ -5,7 +5,7 @@
 pub mod slice;
 
 ghost use Rattle.std.specs.Prelude.{◌≤◌, T, ◌≡◌};
-ghost use Rattle.index.specs.Place.{index_bound, index_place, place_in, place_or};
+ghost use Rattle.index.specs.Place.{index_bound, index_place, place_in, place_of};
 ghost use Rattle.model.specs.Column.{count};
 ghost use Rattle.model.specs.Limits.{wide};
 ghost use Rattle.std.specs.Int.Signed.{non_neg};
@@ -21,18 +21,18 @@ fn index_place(index: i64, len: i64) -> i64
     index - 1
 }
 
-// The place that an index points at, 1 the first and -1 the last, or len where it is outside the row.
-pub fn adjusted_array_index(index: i64, len: usize) -> usize
+// The place that an index points at, 1 the first and -1 the last; none where it is outside the row.
+pub fn adjusted_array_index(index: i64, len: usize) -> Option<usize>
     requires { len ≤ wide.offset }
-    ensures { result ≡ place_or (index_bound wide len index) len }
+    ensures { result ≡ place_of (index_bound wide len index) }
 {
     let n = len as i64;
     let at = index_place(index, n);
     if at < 0 {
-        return len;
+        return None;
     }
     if at < n {
-        return at as usize;
+        return Some(at as usize);
     }
-    len
+    None
 }

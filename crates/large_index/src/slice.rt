@@ -6,7 +6,8 @@ ghost use Rattle.model.specs.Column.{count};
 ghost use Rattle.model.specs.Limits.{wide};
 ghost use Rattle.model.specs.Slice.{against, from_place, slice_plan, step_count, strided, to_place};
 
-use index::slice::{SlicePlan, Stride};
+use index::slice::{SlicePlan, Steps};
+use model::Refusal;
 
 // The place of a from, which may still be past the end: from 0 or 1 is the first place, and so is a from below minus the length.
 fn adjusted_from_index(index: i64, len: i64) -> i64
@@ -108,35 +109,35 @@ fn plan_steps(from: i64, to: i64, stride: i64) -> SlicePlan
     ensures { result ≡ plan_of (strided wide (count from) (count to) stride) }
 {
     if stride == 0 {
-        return SlicePlan::Refused(5);
+        return Err(Refusal::ZeroStride);
     }
     if is_against(from, to, stride) {
-        return SlicePlan::Empty;
+        return Ok(None);
     }
     let count = count_steps(from, to, stride);
-    SlicePlan::Steps {
+    Ok(Some(Steps {
         start: from as usize,
         stride,
         count: count as usize,
-    }
+    }))
 }
 
 // The places that a slice takes of a row of len elements.
-pub fn compute_slice_plan(len: usize, from: i64, to: i64, stride: Stride) -> SlicePlan
+pub fn compute_slice_plan(len: usize, from: i64, to: i64, stride: Option<i64>) -> SlicePlan
     requires { len ≤ wide.offset }
     ensures { result ≡ plan_of (slice_plan wide len from to (stride_in stride)) }
 {
     if len == 0 {
-        return SlicePlan::Empty;
+        return Ok(None);
     }
     let n = len as i64;
     let first = adjusted_from_index(from, n);
     let last = adjusted_to_index(to, n);
     if n <= first {
-        return SlicePlan::Empty;
+        return Ok(None);
     }
     if last < 0 {
-        return SlicePlan::Empty;
+        return Ok(None);
     }
     plan_steps(first, last, index::slice::stride_of(stride))
 }

@@ -7,7 +7,7 @@ ghost use Rattle.large_recipes.specs.Recipes.{recipe_lent};
 ghost use Rattle.tally.specs.Tallies.{tally_of};
 ghost use Rattle.std.specs.Prelude.{◌≡◌};
 
-use column::large;
+use column::offsets;
 use model::Width;
 use tally::{RecipeAnswer, Tally};
 
@@ -34,7 +34,7 @@ pub fn run_recipe<'a>(
     let mut two_none = [0i32; 0];
     let mut out_none = [0i32; 0];
     let answer = attempt::attempt(
-        station, 0, large::row_count(offsets), numbers, columns,
+        station, 0, offsets::row_count(offsets), numbers, columns,
         &none, rows, rows_start, values, elements, elements_start,
         &none, second_rows, second_rows_start, second_values, second_elements, second_elements_start,
         arguments, argument_bits, argument_start,

@@ -2,6 +2,7 @@
 use Prim.Native.Nat.{ℕ}
 use mathlib.Core.Path.{◌≡◌, refl, sym, ◌∙◌}
 use mathlib.Core.Bool.{true, false}
+use mathlib.Core.Logic.{◌⊎◌, inl, inr}
 use lib.ListN.{length}
 use Rattle.model.specs.Column.{Column, Arguments, row_count}
 use Rattle.model.specs.Form.{flat}
@@ -13,8 +14,7 @@ use Rattle.ops.specs.declared.ListOp.{ListOp}
 use Rattle.ops.specs.declared.ListOp.TheVariants as L
 use Rattle.arguments.specs.Taken.{Served}
 use Rattle.sums.specs.Sums.{resize_measure}
-use Rattle.sums.specs.declared.Measure.{Measure}
-use Rattle.sums.specs.declared.Measure.TheVariants as M
+use Rattle.model.specs.Outcome.{Outcome, made}
 use Rattle.made_rows.specs.Made.{call_rows, rows_measure, call_measure}
 use Rattle.plain_walk.specs.Plain.{plain_rows}
 use Rattle.plain_walk.proofs.PlainLaws.{plain-any, plain_measure}
@@ -23,21 +23,15 @@ use Rattle.match_rows.proofs.MatchLaws.{third-served, third-rows, replace-measur
 
 -- ---- which kind an operation is of
 
-pub is_slice_lem : (op : ListOp) → op ≡ L.Slice → is_slice op ≡ true
+pub is_slice_lem : (op : ListOp) → (op ≡ L.Slice) ⊎ (op ≡ L.SliceBy) → is_slice op ≡ true
 unfolding is_slice
-is_slice_lem op e = rw e
+is_slice_lem op (inl e) = rw e
+is_slice_lem op (inr e) = rw e
 
-pub is_strided : (op : ListOp) → op ≡ L.SliceBy → is_slice op ≡ true
-unfolding is_slice
-is_strided op e = rw e
-
-pub is_resize_lem : (op : ListOp) → op ≡ L.Resize → is_resize op ≡ true
+pub is_resize_lem : (op : ListOp) → (op ≡ L.Resize) ⊎ (op ≡ L.ResizeWith) → is_resize op ≡ true
 unfolding table
-is_resize_lem op e = rw e
-
-pub is_filled : (op : ListOp) → op ≡ L.ResizeWith → is_resize op ≡ true
-unfolding table
-is_filled op e = rw e
+is_resize_lem op (inl e) = rw e
+is_resize_lem op (inr e) = rw e
 
 no_resize : (op : ListOp) → is_slice op ≡ true → is_resize op ≡ false
 unfolding is_slice table
@@ -63,23 +57,23 @@ module _ (N : Limits) (op : ListOp) (c : Column) (x y z : Arguments) where
 
   -- ---- how much
 
-  pub plain-total : (u : Unary) (m : ℕ) → op ≡ L.Plain u → m ≡ length (flat (plain_rows N u c)) → M.Sum m ≡ call_measure N op c x y z
+  pub plain-total : (u : Unary) (m : ℕ) → op ≡ L.Plain u → m ≡ length (flat (plain_rows N u c)) → made m ≡ call_measure N op c x y z
   unfolding call_measure table
   plain-total u m e l = rw (e, l) (sym (plain_measure N u c x y z))
 
-  pub slice-total : {m : Measure} → is_slice op ≡ true → m ≡ rows_measure N op c x y z → m ≡ call_measure N op c x y z
+  pub slice-total : {m : Outcome ℕ} → is_slice op ≡ true → m ≡ rows_measure N op c x y z → m ≡ call_measure N op c x y z
   unfolding call_measure
   slice-total e h = rw (no_resize op e) h
 
-  pub resize-total : {m : Measure} → is_resize op ≡ true → m ≡ resize_measure N c.rows x (row_count c.offsets) → m ≡ call_measure N op c x y z
+  pub resize-total : {m : Outcome ℕ} → is_resize op ≡ true → m ≡ resize_measure N c.rows x (row_count c.offsets) → m ≡ call_measure N op c x y z
   unfolding call_measure
   resize-total e h = rw e h
 
-  pub replace-total : (m : ℕ) → op ≡ L.Replace → m ≡ length (flat (call_rows N L.Replace c x y z)) → M.Sum m ≡ call_measure N op c x y z
+  pub replace-total : (m : ℕ) → op ≡ L.Replace → m ≡ length (flat (call_rows N L.Replace c x y z)) → made m ≡ call_measure N op c x y z
   unfolding call_measure table
   replace-total m e l = rw (e, l) (sym (replace-measured N c x y z))
 
-  pub remove-total : (m : ℕ) → op ≡ L.Remove → m ≡ length (flat (call_rows N L.Remove c x y none)) → M.Sum m ≡ call_measure N op c x y z
+  pub remove-total : (m : ℕ) → op ≡ L.Remove → m ≡ length (flat (call_rows N L.Remove c x y none)) → made m ≡ call_measure N op c x y z
   unfolding call_measure table
   remove-total m e l = rw (e, l) (sym (remove-measured N c x y z ∙ rw (third-rows x y z none N c)))
 

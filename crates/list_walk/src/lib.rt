@@ -10,6 +10,7 @@ ghost use Rattle.made_rows.specs.Made.{Begun, call_rows};
 ghost use Rattle.arguments.specs.Taken.{Served};
 ghost use Rattle.column.specs.Outputs.{FillsAt, RoomAt};
 ghost use Rattle.column.specs.Put.{Readable};
+ghost use Rattle.model.specs.Answers.{refused_by};
 ghost use Rattle.model.specs.Asked.{asked_list};
 ghost use Rattle.model.specs.Column.{row_count, rows_of, shown_by};
 ghost use Rattle.model.specs.Contract.{ListAnswers};
@@ -23,9 +24,8 @@ ghost use Rattle.ops.specs.Ops.{call_of};
 
 use arguments::taken;
 use column::widths;
-use model::{ListAnswer, ListLengths, Width};
+use model::{ListAnswer, ListLengths, Refusal, Width};
 use ops::ListOp;
-use sums::Measure;
 
 // Writes the rows that the operation makes, in result form: one walk for each kind of operation.
 #[rattlefmt::skip]
@@ -51,7 +51,7 @@ fn write_rows(
             out_offsets, out_rows, out_values, out_elements,
             width, large, out_large,
         ),
-        ListOp::Slice => slice_walk::write_rows(
+        ListOp::Slice | ListOp::SliceBy => slice_walk::write_rows(
             op,
             offsets, rows, rstart, values, elements, estart,
             xs, xbits, xstart,
@@ -60,25 +60,7 @@ fn write_rows(
             out_offsets, out_rows, out_values, out_elements,
             width, large, out_large,
         ),
-        ListOp::SliceBy => slice_walk::write_rows(
-            op,
-            offsets, rows, rstart, values, elements, estart,
-            xs, xbits, xstart,
-            ys, ybits, ystart,
-            zs, zbits, zstart,
-            out_offsets, out_rows, out_values, out_elements,
-            width, large, out_large,
-        ),
-        ListOp::Resize => resize_walk::write_rows(
-            op,
-            offsets, rows, rstart, values, elements, estart,
-            xs, xbits, xstart,
-            ys, ybits, ystart,
-            zs, zbits, zstart,
-            out_offsets, out_rows, out_values, out_elements,
-            width, large, out_large,
-        ),
-        ListOp::ResizeWith => resize_walk::write_rows(
+        ListOp::Resize | ListOp::ResizeWith => resize_walk::write_rows(
             op,
             offsets, rows, rstart, values, elements, estart,
             xs, xbits, xstart,
@@ -132,7 +114,7 @@ fn write_fitting(
         out_values.len(),
         out_elements.len(),
     ) {
-        return ListAnswer::Refused(9);
+        return Err(Refusal::ShortOutput);
     }
     write_rows(
         op,
@@ -161,30 +143,27 @@ pub fn after_three(
     requires arguments { Served op (row_count (used width offsets.now large.now)) (now_arguments xs xbits xstart) (now_arguments ys ybits ystart) (now_arguments zs zbits zstart) }
     ensures { ListAnswersAt width (after_three (limits_at width) (call_of op (rows_of (lent_at width offsets large rows rstart values elements estart)) (shown_by (lent_arguments_from xs xbits xstart)) (shown_by (lent_arguments_from ys ybits ystart)) (shown_by (lent_arguments_from zs zbits zstart)))) result out_offsets out_large out_rows out_values out_elements }
 {
-    let total = totals::total(
+    let m = totals::total(
         op,
         offsets, rows, rstart, values, elements, estart,
         xs, xbits, xstart,
         ys, ybits, ystart,
         zs, zbits, zstart,
         width, large,
-    );
-    match total {
-        Measure::Refused(k) => ListAnswer::Refused(k),
-        Measure::Sum(m) => write_fitting(
-            op,
-            offsets, rows, rstart, values, elements, estart,
-            xs, xbits, xstart,
-            ys, ybits, ystart,
-            zs, zbits, zstart,
-            m,
-            out_offsets, out_rows, out_values, out_elements,
-            width, large, out_large,
-        ),
-    }
+    )?;
+    write_fitting(
+        op,
+        offsets, rows, rstart, values, elements, estart,
+        xs, xbits, xstart,
+        ys, ybits, ystart,
+        zs, zbits, zstart,
+        m,
+        out_offsets, out_rows, out_values, out_elements,
+        width, large, out_large,
+    )
 }
 
-// Refusals 13, 1, 2 and 3 of an operation on one list; 0 where none applies, and its columns can be read.
+// Refusals 13, 1, 2 and 3 of an operation on one list; where none applies, its columns can be read.
 #[rattlefmt::skip]
 fn early(
     op: ListOp,
@@ -193,17 +172,14 @@ fn early(
     ys: &[i64], ybits: &[u8], ystart: usize,
     zs: &[i64], zbits: &[u8], zstart: usize,
     width: Width, large: &[i64],
-) -> u8
-    ensures value { result ≡ early_refusal (call_of op (lent_at width offsets large rows rstart values elements estart) (lent_arguments_from xs xbits xstart) (lent_arguments_from ys ybits ystart) (lent_arguments_from zs zbits zstart)) }
-    ensures begun { result ≡ 0 → Begun op (lent_at width offsets large rows rstart values elements estart) (lent_arguments_from xs xbits xstart) (lent_arguments_from ys ybits ystart) (lent_arguments_from zs zbits zstart) }
+) -> Result<(), Refusal>
+    ensures value { refused_by result ≡ early_refusal (call_of op (lent_at width offsets large rows rstart values elements estart) (lent_arguments_from xs xbits xstart) (lent_arguments_from ys ybits ystart) (lent_arguments_from zs zbits zstart)) }
+    ensures begun { refused_by result ≡ 0 → Begun op (lent_at width offsets large rows rstart values elements estart) (lent_arguments_from xs xbits xstart) (lent_arguments_from ys ybits ystart) (lent_arguments_from zs zbits zstart) }
 {
     if taken::is_start_over(op, xstart, ystart, zstart) {
-        return 13;
+        return Err(Refusal::BadStartingBit);
     }
-    let k = checks::list_refusal(offsets, rows, rstart, values, elements, estart, width, large);
-    if k != 0 {
-        return k;
-    }
+    checks::list_refusal(offsets, rows, rstart, values, elements, estart, width, large)?;
     taken::arguments_refusal(
         op,
         widths::row_count(width, offsets, large),
@@ -225,29 +201,23 @@ pub(crate) fn lengths_at(
 ) -> ListLengths
     ensures { asked_list result ≡ list_lengths (limits_at width) (call_of op (lent_at width offsets large rows rstart values elements estart) (lent_arguments_from xs xbits xstart) (lent_arguments_from ys ybits ystart) (lent_arguments_from zs zbits zstart)) }
 {
-    let k = early(
+    early(
         op,
         offsets, rows, rstart, values, elements, estart,
         xs, xbits, xstart,
         ys, ybits, ystart,
         zs, zbits, zstart,
         width, large,
-    );
-    if k != 0 {
-        return ListLengths::Refused(k);
-    }
-    let total = totals::total(
+    )?;
+    let m = totals::total(
         op,
         offsets, rows, rstart, values, elements, estart,
         xs, xbits, xstart,
         ys, ybits, ystart,
         zs, zbits, zstart,
         width, large,
-    );
-    match total {
-        Measure::Refused(j) => ListLengths::Refused(j),
-        Measure::Sum(m) => checks::lengths_for(widths::row_count(width, offsets, large), m),
-    }
+    )?;
+    checks::lengths_for(widths::row_count(width, offsets, large), m)
 }
 
 // Checks the columns and the outputs, and writes what the operation makes.
@@ -263,17 +233,14 @@ pub(crate) fn run_at(
 ) -> ListAnswer
     ensures { ListAnswersAt width (list_outcome (limits_at width) (call_of op (lent_at width offsets large rows rstart values elements estart) (lent_arguments_from xs xbits xstart) (lent_arguments_from ys ybits ystart) (lent_arguments_from zs zbits zstart))) result out_offsets out_large out_rows out_values out_elements }
 {
-    let k = early(
+    early(
         op,
         offsets, rows, rstart, values, elements, estart,
         xs, xbits, xstart,
         ys, ybits, ystart,
         zs, zbits, zstart,
         width, large,
-    );
-    if k != 0 {
-        return ListAnswer::Refused(k);
-    }
+    )?;
     after_three(
         op,
         offsets, rows, rstart, values, elements, estart,

@@ -6,12 +6,11 @@ ghost use Rattle.column.specs.Put.{Readable};
 ghost use Rattle.model.specs.Column.{row_count};
 ghost use Rattle.model.specs.Inner.{lent_arguments_from, lent_at, now_arguments, now_column_at};
 ghost use Rattle.model.specs.Widths.{limits_at, used};
-ghost use Rattle.sums.specs.Sums.{let_through};
+ghost use Rattle.sums.specs.Sums.{let_through, measured};
 
 use column::widths;
-use model::Width;
+use model::{Refusal, Width};
 use ops::ListOp;
-use sums::Measure;
 
 // How many elements the operation makes, or the refusal of its rows.
 #[rattlefmt::skip]
@@ -22,19 +21,19 @@ pub(crate) fn total(
     ys: &[i64], ybits: &[u8], ystart: usize,
     zs: &[i64], zbits: &[u8], zstart: usize,
     width: Width, large: &[i64],
-) -> Measure
+) -> Result<usize, Refusal>
     requires column { Readable (now_column_at width offsets large rows rstart values elements estart) }
     requires arguments { Served op (row_count (used width offsets.now large.now)) (now_arguments xs xbits xstart) (now_arguments ys ybits ystart) (now_arguments zs zbits zstart) }
-    ensures value { result ≡ call_measure (limits_at width) op (lent_at width offsets large rows rstart values elements estart) (lent_arguments_from xs xbits xstart) (lent_arguments_from ys ybits ystart) (lent_arguments_from zs zbits zstart) }
+    ensures value { measured result ≡ call_measure (limits_at width) op (lent_at width offsets large rows rstart values elements estart) (lent_arguments_from xs xbits xstart) (lent_arguments_from ys ybits ystart) (lent_arguments_from zs zbits zstart) }
     ensures result_bound { let_through result ≤ (limits_at width).offset }
 {
     match op {
-        ListOp::Plain(u) => Measure::Sum(plain_walk::measure_rows(
+        ListOp::Plain(u) => Ok(plain_walk::measure_rows(
             u,
             offsets, rows, rstart, values, elements, estart,
             width, large,
         )),
-        ListOp::Slice => slice_walk::measure_rows(
+        ListOp::Slice | ListOp::SliceBy => slice_walk::measure_rows(
             op,
             offsets, rows, rstart, values, elements, estart,
             xs, xbits, xstart,
@@ -42,24 +41,15 @@ pub(crate) fn total(
             zs, zbits, zstart,
             width, large,
         ),
-        ListOp::SliceBy => slice_walk::measure_rows(
-            op,
-            offsets, rows, rstart, values, elements, estart,
-            xs, xbits, xstart,
-            ys, ybits, ystart,
-            zs, zbits, zstart,
-            width, large,
-        ),
-        ListOp::Resize => sums::measure_resize(rows, rstart, widths::row_count(width, offsets, large), xs, xbits, xstart, width),
-        ListOp::ResizeWith => sums::measure_resize(rows, rstart, widths::row_count(width, offsets, large), xs, xbits, xstart, width),
-        ListOp::Replace => Measure::Sum(replace_walk::measure_rows(
+        ListOp::Resize | ListOp::ResizeWith => sums::measure_resize(rows, rstart, widths::row_count(width, offsets, large), xs, xbits, xstart, width),
+        ListOp::Replace => Ok(replace_walk::measure_rows(
             offsets, rows, rstart, values, elements, estart,
             xs, xbits, xstart,
             ys, ybits, ystart,
             zs, zbits, zstart,
             width, large,
         )),
-        ListOp::Remove => Measure::Sum(remove_walk::measure_rows(
+        ListOp::Remove => Ok(remove_walk::measure_rows(
             offsets, rows, rstart, values, elements, estart,
             xs, xbits, xstart,
             ys, ybits, ystart,

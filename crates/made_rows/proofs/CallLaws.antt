@@ -1,4 +1,5 @@
 -- What is made row by row is what the definitions make of the call.
+use Rattle.std.specs.Prelude.{None, Some}
 use Prim.Native.Nat.{ℕ, zero, suc, ◌+◌, ◌-◌, ◌<◌, ◌≤◌}
 use mathlib.Core.Path.{◌≡◌, refl, sym, ap, ◌∙◌, subst}
 use mathlib.Core.Bool.{Bool, true, false}
@@ -24,21 +25,16 @@ use Rattle.model.proofs.OutcomeLaws.{gate_open, gate_shut}
 use Rattle.model.proofs.TabLaws.{length-tab, map-tab, tab_ext}
 use Rattle.column.specs.Put.{RoomInˡ}
 use Rattle.fills.proofs.ResizeLaws.{length-resized}
-use Rattle.rows.specs.Cells.{elem_of, fill_elem}
-use Rattle.rows.specs.declared.Cell.{Cell}
-use Rattle.rows.specs.declared.Cell.TheVariants as C
-use Rattle.rows.specs.declared.Fill.{Fill}
-use Rattle.rows.specs.declared.Fill.TheVariants as F
+use Rattle.rows.specs.Cells.{Cell, Fill, elem_of, fill_elem}
 use Rattle.ops.specs.Ops.{is_resize, call_of, takes_of, second_limit, third_limit, row_op_of, valid_op, resize_op, op_elems, op_made, table}
 use Rattle.ops.proofs.OpLaws.{op_made_lem, elems_of_made}
 use Rattle.ops.specs.declared.ListOp.{ListOp}
 use Rattle.ops.specs.declared.ListOp.TheVariants as L
-use Rattle.ops.specs.declared.RowOp.{RowOp}
-use Rattle.ops.specs.declared.RowOp.TheVariants as R
+use Rattle.ops.specs.RowOp.{RowOp}
+use Rattle.ops.specs.RowOp as R
 use Rattle.arguments.specs.Taken.{taken_at, op_at, Serves, Served}
 use Rattle.made_rows.specs.Made.{made_from, made_at, row_made_at, refusal_at, call_rows, op_refusal, rows_measure, call_measure}
-use Rattle.sums.specs.Sums.{measure_of, count_if, count_at, last_test, resize_measure}
-use Rattle.sums.specs.declared.Measure.TheVariants as M
+use Rattle.sums.specs.Sums.{count_if, count_at, last_test, resize_measure}
 use Rattle.arguments.proofs.RefusalLaws.{call-shown}
 use Rattle.arguments.proofs.TakenLaws.{taken_own, at_row_lem}
 use Rattle.sums.proofs.SumLaws.{stays}
@@ -174,22 +170,22 @@ module _ (W : ℕ → Row) (K : ℕ → RowCount) where
 count_row : (v : Bool) (es : List Elem) (k : Cell) → row_count_of (pick v (list_row es) null_row) (elem_of k) ≡ count_if v k
 unfolding row_count_of count_if elem_of
 count_row false es k = refl
-count_row true es C.Null = refl
-count_row true es (C.Value n) = refl
+count_row true es None = refl
+count_row true es (Some n) = refl
 
 amount_made : (v : Bool) (k : Cell) (f : Fill) (es : List Elem) → length (op_elems (pick v (resize_op k f) R.Null) es) ≡ amount (count_if v k)
 unfolding op_elems resize_op count_if amount
 amount_made false k f es = refl
-amount_made true C.Null f es = refl
-amount_made true (C.Value n) f es = length-resized (count n) (fill_elem f) es
+amount_made true None f es = refl
+amount_made true (Some n) f es = length-resized (count n) (fill_elem f) es
 
 count-made : (N : Limits) (op : ListOp) (c : Column) (x y z : Arguments) → is_resize op ≡ true → (r : ℕ) → length (elems_of (row_made_at N op c x y z r)) ≡ amount (count_at c.rows x r)
 unfolding made_at made_from op_at row_op_of valid_op table
 count-made N (L.Plain u) c x y z h r = absurd (subst T (sym h) tt)
 count-made N L.Slice c x y z h r = absurd (subst T (sym h) tt)
 count-made N L.SliceBy c x y z h r = absurd (subst T (sym h) tt)
-count-made N L.Resize c x y z h r = ap length (elems_of_made _ _) ∙ amount_made (valid_at c.rows r) (taken_at true false x r) F.Absent _
-count-made N L.ResizeWith c x y z h r = ap length (elems_of_made _ _) ∙ amount_made (valid_at c.rows r) (taken_at true false x r) (F.Own (taken_at true false y r)) _
+count-made N L.Resize c x y z h r = ap length (elems_of_made _ _) ∙ amount_made (valid_at c.rows r) (taken_at true false x r) None _
+count-made N L.ResizeWith c x y z h r = ap length (elems_of_made _ _) ∙ amount_made (valid_at c.rows r) (taken_at true false x r) (Some (taken_at true false y r)) _
 count-made N L.Replace c x y z h r = absurd (subst T (sym h) tt)
 count-made N L.Remove c x y z h r = absurd (subst T (sym h) tt)
 
@@ -236,39 +232,39 @@ module _ (N : Limits) (op : ListOp) (c : Column) (x y z : Arguments) (s : Served
   abbrev refusal : ℕ
   refusal = rows_refusal N (call_of op (rows_of c) (shown_by x) (shown_by y) (shown_by z))
 
-  rows-measured : is_resize op ≡ false → rows_measure N op c x y z ≡ measure_of (gate refusal (made (length (flat (call_rows N op c x y z)))))
+  rows-measured : is_resize op ≡ false → rows_measure N op c x y z ≡ gate refusal (made (length (flat (call_rows N op c x y z))))
   unfolding rows_measure rows_refusal
   rows-measured h = rw (refusals_are N op c x y z s, no_sums N op (rows_of c) (shown_by x) (shown_by y) (shown_by z) h, or_none (first_of (tab (refusal_at N op c x y z) 0 (row_count c.offsets))))
 
-  resize-measured : is_resize op ≡ true → resize_measure N c.rows x (row_count c.offsets) ≡ measure_of (gate refusal (made (length (flat (call_rows N op c x y z)))))
+  resize-measured : is_resize op ≡ true → resize_measure N c.rows x (row_count c.offsets) ≡ gate refusal (made (length (flat (call_rows N op c x y z))))
   unfolding resize_measure resize_refusal call_rows
   resize-measured h =
       let t = comes (row_made_at N op c x y z) (count_at c.rows x) (count-made N op c x y z h) (row_count c.offsets) 0 0 in
       rw (resize-sums N op (rows_of c) (shown_by x) (shown_by y) (shown_by z) h, counts_are c x (counts-served op h s))
-      (ap measure_of (last N (sum_of (sum 0) (tab (count_at c.rows x) 0 (row_count c.offsets))) (length (flat (tab (row_made_at N op c x y z) 0 (row_count c.offsets)))) (rw (zero-add (length (flat (tab (row_made_at N op c x y z) 0 (row_count c.offsets))))) at t)))
+      (last N (sum_of (sum 0) (tab (count_at c.rows x) 0 (row_count c.offsets))) (length (flat (tab (row_made_at N op c x y z) 0 (row_count c.offsets)))) (rw (zero-add (length (flat (tab (row_made_at N op c x y z) 0 (row_count c.offsets))))) at t))
 
-  pub measured : call_measure N op c x y z ≡ measure_of (gate refusal (made (length (flat (call_rows N op c x y z)))))
+  pub measured : call_measure N op c x y z ≡ gate refusal (made (length (flat (call_rows N op c x y z))))
   unfolding call_measure
   measured = cases (is_resize op) refl
     where
-      cases : (t : Bool) → is_resize op ≡ t → pick t (resize_measure N c.rows x (row_count c.offsets)) (rows_measure N op c x y z) ≡ measure_of (gate refusal (made (length (flat (call_rows N op c x y z)))))
+      cases : (t : Bool) → is_resize op ≡ t → pick t (resize_measure N c.rows x (row_count c.offsets)) (rows_measure N op c x y z) ≡ gate refusal (made (length (flat (call_rows N op c x y z))))
       cases true h = resize-measured h
       cases false h = rows-measured h
 
 -- a measure tells what the gate does
-pub measure_refused : {A : Type 0} (k m j : ℕ) (o : Outcome A) → measure_of (gate k (made m)) ≡ M.Refused j → gate k o ≡ refused j
-unfolding gate measure_of
+pub measure_refused : {A : Type 0} (k m j : ℕ) (o : Outcome A) → gate k (made m) ≡ refused j → gate k o ≡ refused j
+unfolding gate
 measure_refused k m j o e = cases (eqb k 0) e
   where
-    cases : (t : Bool) → measure_of (pick t (made m) (refused k)) ≡ M.Refused j → pick t o (refused k) ≡ refused j
+    cases : (t : Bool) → pick t (made m) (refused k) ≡ refused j → pick t o (refused k) ≡ refused j
     cases true h = never cc
     cases false h = let q : k ≡ j = cc in rw q
 
-pub measure_sum : {A : Type 0} (k m j : ℕ) (o : Outcome A) → measure_of (gate k (made m)) ≡ M.Sum j → (gate k o ≡ o) × (j ≡ m)
-unfolding gate measure_of
+pub measure_sum : {A : Type 0} (k m j : ℕ) (o : Outcome A) → gate k (made m) ≡ made j → (gate k o ≡ o) × (j ≡ m)
+unfolding gate
 measure_sum k m j o e = cases (eqb k 0) e
   where
-    cases : (t : Bool) → measure_of (pick t (made m) (refused k)) ≡ M.Sum j → (pick t o (refused k) ≡ o) × (j ≡ m)
+    cases : (t : Bool) → pick t (made m) (refused k) ≡ made j → (pick t o (refused k) ≡ o) × (j ≡ m)
     cases true h = let q : j ≡ m = cc in (refl, q)
     cases false h = never cc
 

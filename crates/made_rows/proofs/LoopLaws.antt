@@ -6,14 +6,12 @@ use Rattle.model.specs.Basics.{tab}
 use Rattle.model.specs.Column.{Row, Column, Arguments, row_count}
 use Rattle.model.specs.Form.{flat}
 use Rattle.model.specs.Limits.{Limits}
-use Rattle.model.specs.Outcome.{made}
+use Rattle.model.specs.Outcome.{refused, made}
 use Rattle.model.specs.Refusals.{first_of}
 use Rattle.model.proofs.OutcomeLaws.{gate_open, gate_shut, first-refusal, later-refusal, no_refusal}
 use Rattle.column.proofs.WalkLaws.{Summing, sum_begun, sum_done}
 use Rattle.ops.specs.declared.ListOp.{ListOp}
 use Rattle.made_rows.specs.Made.{row_made_at, refusal_at, call_rows, rows_measure}
-use Rattle.sums.specs.Sums.{measure_of}
-use Rattle.sums.specs.declared.Measure.TheVariants as M
 
 pub record Measuring (W : ℕ → Row) (K : ℕ → ℕ) (n below top found r left : ℕ) : Type 0 where
   pub sums : Summing W n below top found r left
@@ -33,10 +31,10 @@ module _ (W : ℕ → Row) (K : ℕ → ℕ) {n below top found r left : ℕ} (m
   measuring_done h = (sym m.none ∙ no_refusal K r left h, sum_done W n top m.sums h)
 
 module _ (N : Limits) (op : ListOp) (c : Column) (x y z : Arguments) (n : ℕ) (e : n ≡ row_count c.offsets) where
-  pub rows_stop : (k : ℕ) → first_of (tab (refusal_at N op c x y z) 0 n) ≡ k → (k ≡ 0 → ⊥) → M.Refused k ≡ rows_measure N op c x y z
-  unfolding rows_measure measure_of
+  pub rows_stop : (k : ℕ) → first_of (tab (refusal_at N op c x y z) 0 n) ≡ k → (k ≡ 0 → ⊥) → refused k ≡ rows_measure N op c x y z
+  unfolding rows_measure
   rows_stop k q h = rw (← e, q, gate_shut k (made (length (flat (call_rows N op c x y z)))) h)
 
-  pub rows_end : (m : ℕ) → first_of (tab (refusal_at N op c x y z) 0 n) ≡ 0 → m ≡ length (flat (tab (row_made_at N op c x y z) 0 n)) → M.Sum m ≡ rows_measure N op c x y z
-  unfolding rows_measure measure_of call_rows
+  pub rows_end : (m : ℕ) → first_of (tab (refusal_at N op c x y z) 0 n) ≡ 0 → m ≡ length (flat (tab (row_made_at N op c x y z) 0 n)) → made m ≡ rows_measure N op c x y z
+  unfolding rows_measure call_rows
   rows_end m q h = rw (← e, q, gate_open 0 (made (length (flat (tab (row_made_at N op c x y z) 0 n)))) refl, h)

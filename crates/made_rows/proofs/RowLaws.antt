@@ -1,11 +1,12 @@
 -- Laws of one row: its refusal and its length.
+use Rattle.std.specs.Prelude.{Option, None, Some}
 use Prim.Native.Nat.{ℕ, ◌≤◌}
 use mathlib.Core.Path.{◌≡◌, refl, sym, ◌∙◌, subst}
 use mathlib.Core.Bool.{Bool, true, false, not}
 use mathlib.Core.List.{List}
 use native.Mathlib.Omega.{arith}
 use lib.Dec.{T}
-use lib.IntN.{ℤ, pos}
+use lib.IntN.{ℤ}
 use lib.ListN.{length}
 use Rattle.model.specs.Bitmap.{Bits, valid_at}
 use Rattle.model.specs.Column.{Elem, Arguments, count}
@@ -15,24 +16,18 @@ use Rattle.model.specs.Refusals.{refusal_of}
 use Rattle.model.specs.Rows.{row_made}
 use Rattle.model.specs.Slice.{Plan, refuse, empty, places, slice_plan}
 use Rattle.index.specs.Plan as I
-use Rattle.index.specs.declared.slice.Stride.{Stride}
-use Rattle.index.specs.declared.slice.Stride.TheVariants as S
 use Rattle.set_elements.proofs.ElementLaws.{unary_le}
 use Rattle.strides.proofs.PlanLaws.{plan_in_row, plan_walks}
 use Rattle.matches.proofs.RowOpLaws.{length-replaced, length_removed}
 use Rattle.strides.proofs.StrideLaws.{length-sliced}
-use Rattle.rows.specs.Cells.{elem_of}
-use Rattle.rows.specs.declared.Cell.{Cell}
-use Rattle.rows.specs.declared.Cell.TheVariants as C
-use Rattle.rows.specs.declared.Fill.{Fill}
-use Rattle.rows.specs.declared.Fill.TheVariants as F
+use Rattle.rows.specs.Cells.{Cell, Fill, elem_of}
 use Rattle.model.specs.declared.Unary.{Unary}
 use Rattle.ops.specs.Ops.{is_resize, plan_op, slice_op, stride_op, resize_op, replace_op, remove_op, valid_op, row_op_of, op_elems, op_null, op_made, table}
 use Rattle.row_ops.specs.Doable.{Doable}
 use Rattle.ops.specs.declared.ListOp.{ListOp}
 use Rattle.ops.specs.declared.ListOp.TheVariants as L
-use Rattle.ops.specs.declared.RowOp.{RowOp}
-use Rattle.ops.specs.declared.RowOp.TheVariants as R
+use Rattle.ops.specs.RowOp.{RowOp}
+use Rattle.ops.specs.RowOp as R
 use Rattle.arguments.specs.Taken.{op_at}
 use Rattle.made_rows.specs.Made.{op_refusal}
 
@@ -64,36 +59,36 @@ is_row-made (R.Removed f k) es n e = rw e
 
 -- what holds of every plan's operation, holds of a row's
 module _ (N : Limits) (n : ℕ) (P : RowOp → Type 0) (null : P R.Null) (plan : (f t s : ℤ) → P (plan_op (I.plan_of (slice_plan N n f t s)))) where
-  slice_all : (f t : Cell) (s : Stride) → P (slice_op N n f t s)
+  slice_all : (f t : Cell) (s : Option ℤ) → P (slice_op N n f t s)
   unfolding slice_op
-  slice_all C.Null t s = null
-  slice_all (C.Value f) C.Null s = null
-  slice_all (C.Value f) (C.Value t) s = plan f t (I.stride_in s)
+  slice_all None t s = null
+  slice_all (Some f) None s = null
+  slice_all (Some f) (Some t) s = plan f t (I.stride_in s)
 
   stride_all : (f t s : Cell) → P (stride_op N n f t s)
   unfolding stride_op
-  stride_all f t C.Null = null
-  stride_all f t (C.Value s) = slice_all f t (S.By s)
+  stride_all f t None = null
+  stride_all f t (Some s) = slice_all f t (Some s)
 
   module _ (plain : (u : Unary) → P (R.Plain u)) (replaced : (f t : Cell) (k : ℕ) → P (R.Replaced f t k)) (removed : (f : Cell) (k : ℕ) → P (R.Removed f k)) where
     replace_all : (f t k : Cell) → P (replace_op f t k)
     unfolding replace_op
-    replace_all f t C.Null = null
-    replace_all f t (C.Value k) = replaced f t (count k)
+    replace_all f t None = null
+    replace_all f t (Some k) = replaced f t (count k)
 
     remove_all : (f k : Cell) → P (remove_op f k)
     unfolding remove_op
-    remove_all C.Null k = null
-    remove_all (C.Value v) C.Null = null
-    remove_all (C.Value v) (C.Value k) = removed (C.Value v) (count k)
+    remove_all None k = null
+    remove_all (Some v) None = null
+    remove_all (Some v) (Some k) = removed (Some v) (count k)
 
     valid_all : (op : ListOp) → (is_resize op ≡ true → (x : Cell) (f : Fill) → P (resize_op x f)) → (x y z : Cell) → P (valid_op N op n x y z)
     unfolding valid_op table
     valid_all (L.Plain u) h x y z = plain u
-    valid_all L.Slice h x y z = slice_all x y S.Absent
+    valid_all L.Slice h x y z = slice_all x y None
     valid_all L.SliceBy h x y z = stride_all x y z
-    valid_all L.Resize h x y z = h refl x F.Absent
-    valid_all L.ResizeWith h x y z = h refl x (F.Own y)
+    valid_all L.Resize h x y z = h refl x None
+    valid_all L.ResizeWith h x y z = h refl x (Some y)
     valid_all L.Replace h x y z = replace_all x y z
     valid_all L.Remove h x y z = remove_all x y
 
@@ -105,8 +100,8 @@ plan_doable N n f t s (places a d k) h e = plan_walks N n f t s a d k h e
 
 resize_doable : (n : ℕ) (x : Cell) (f : Fill) → Doable (resize_op x f) n
 unfolding Doable resize_op
-resize_doable n C.Null f = tt
-resize_doable n (C.Value k) f = tt
+resize_doable n None f = tt
+resize_doable n (Some k) f = tt
 
 pub doable : (N : Limits) (op : ListOp) (valid : Bool) (n : ℕ) (x y z : Cell) → n ≤ 9223372036854775807 → Doable (row_op_of N op valid n x y z) n
 unfolding Doable row_op_of

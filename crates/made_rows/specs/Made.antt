@@ -5,17 +5,16 @@ use Rattle.model.specs.Bitmap.{Bits}
 use Rattle.model.specs.Column.{Elem, Row, Column, Arguments, elem_at, offset_at, length_at, row_count}
 use Rattle.model.specs.Form.{flat}
 use Rattle.model.specs.Limits.{Limits}
-use Rattle.model.specs.Outcome.{made, gate}
+use Rattle.model.specs.Outcome.{Outcome, made, gate}
 use Rattle.model.specs.Refusals.{refusal_of, first_of}
 use Rattle.model.specs.Rows.{Made, row_made}
 use Rattle.ops.specs.Ops.{is_resize, op_made}
 use Rattle.ops.specs.declared.ListOp.{ListOp}
-use Rattle.ops.specs.declared.RowOp.{RowOp}
-use Rattle.ops.specs.declared.RowOp.TheVariants as R
+use Rattle.ops.specs.RowOp.{RowOp}
+use Rattle.ops.specs.RowOp as R
 use Rattle.arguments.specs.Taken.{Served, op_at}
 use Rattle.column.specs.Put.{Readable}
-use Rattle.sums.specs.Sums.{measure_of, resize_measure}
-use Rattle.sums.specs.declared.Measure.{Measure}
+use Rattle.sums.specs.Sums.{resize_measure}
 
 -- the row that lies from a to b, and what is made of it
 unfoldable pub made_from : Limits → ListOp → Bits → Arguments → Arguments → Arguments → (ℕ → Elem) → ℕ → ℕ → ℕ → Made
@@ -45,10 +44,10 @@ op_refusal (R.Replaced f t k) = 0
 op_refusal (R.Removed f k) = 0
 
 -- by the first row that refuses
-unfoldable pub rows_measure : Limits → ListOp → Column → Arguments → Arguments → Arguments → Measure
-rows_measure N op c x y z = measure_of (gate (first_of (tab (refusal_at N op c x y z) 0 (row_count c.offsets))) (made (length (flat (call_rows N op c x y z)))))
+unfoldable pub rows_measure : Limits → ListOp → Column → Arguments → Arguments → Arguments → Outcome ℕ
+rows_measure N op c x y z = gate (first_of (tab (refusal_at N op c x y z) 0 (row_count c.offsets))) (made (length (flat (call_rows N op c x y z))))
 
-unfoldable pub call_measure : Limits → ListOp → Column → Arguments → Arguments → Arguments → Measure
+unfoldable pub call_measure : Limits → ListOp → Column → Arguments → Arguments → Arguments → Outcome ℕ
 call_measure N op c x y z = pick (is_resize op) (resize_measure N c.rows x (row_count c.offsets)) (rows_measure N op c x y z)
 
 -- refusals 13, 1, 2 and 3 have passed: the list can be read, and so can the argument columns that are taken

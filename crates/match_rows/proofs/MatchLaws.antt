@@ -1,6 +1,7 @@
 -- Laws of what replace and remove make: no row is refused, and remove takes no third column.
+use Rattle.std.specs.Prelude.{None, Some}
 use Prim.Native.Nat.{ℕ, zero, suc, ◌+◌, ◌-◌, ◌≤◌}
-use mathlib.Core.Path.{◌≡◌, refl, sym, ap, ◌∙◌, subst}
+use mathlib.Core.Path.{◌≡◌, refl, sym, ◌∙◌, subst}
 use mathlib.Core.Bool.{Bool, true, false}
 use mathlib.Core.List.{List}
 use native.Mathlib.Omega.{arith}
@@ -21,18 +22,14 @@ use Rattle.bitmap.specs.Push.{push_bit}
 use Rattle.column.specs.Put.{RoomForElemsˡ, Writesˡ}
 use Rattle.column.specs.Rows.{RoomForRowˡ, WritesRowˡ}
 use Rattle.column.proofs.WriteLaws.{begun, done}
-use Rattle.rows.specs.Cells.{elem_of}
-use Rattle.rows.specs.declared.Cell.{Cell}
-use Rattle.rows.specs.declared.Cell.TheVariants as C
+use Rattle.rows.specs.Cells.{Cell, elem_of}
 use Rattle.matches.proofs.RowOpLaws.{length-replaced}
 use Rattle.ops.specs.Ops.{replace_op, remove_op, valid_op, row_op_of, op_elems, op_made, table}
 use Rattle.ops.specs.declared.ListOp.{ListOp}
 use Rattle.ops.specs.declared.ListOp.TheVariants as L
-use Rattle.ops.specs.declared.RowOp.{RowOp}
-use Rattle.ops.specs.declared.RowOp.TheVariants as R
+use Rattle.ops.specs.RowOp.{RowOp}
+use Rattle.ops.specs.RowOp as R
 use Rattle.arguments.specs.Taken.{taken_at, op_at, Serves, Served}
-use Rattle.sums.specs.Sums.{measure_of}
-use Rattle.sums.specs.declared.Measure.TheVariants as M
 use Rattle.made_rows.specs.Made.{made_from, made_at, row_made_at, refusal_at, call_rows, op_refusal, rows_measure}
 use Rattle.made_rows.proofs.CallLaws.{row_of_lem, refusal_of_lem, length_of_lem, length_le}
 use Rattle.match_rows.specs.Limits.{limit_at, replaced_length}
@@ -64,17 +61,17 @@ module _ (x y z z' : Arguments) where
 
 -- ---- what is done to a row
 
-replace_valid : (v : Bool) (f t k : Cell) → replace_op f t (pick v k C.Null) ≡ pick v (replace_op f t k) R.Null
+replace_valid : (v : Bool) (f t k : Cell) → replace_op f t (pick v k None) ≡ pick v (replace_op f t k) R.Null
 unfolding replace_op
 replace_valid true f t k = refl
 replace_valid false f t k = refl
 
-remove_null : (f : Cell) → remove_op f C.Null ≡ R.Null
+remove_null : (f : Cell) → remove_op f None ≡ R.Null
 unfolding remove_op
-remove_null C.Null = refl
-remove_null (C.Value v) = refl
+remove_null None = refl
+remove_null (Some v) = refl
 
-remove_valid : (v : Bool) (f k : Cell) → remove_op f (pick v k C.Null) ≡ pick v (remove_op f k) R.Null
+remove_valid : (v : Bool) (f k : Cell) → remove_op f (pick v k None) ≡ pick v (remove_op f k) R.Null
 remove_valid true f k = refl
 remove_valid false f k = remove_null f
 
@@ -91,13 +88,13 @@ module _ (N : Limits) (rb : Bits) (x y z : Arguments) (r n : ℕ) where
 
 length-kept : (f t k : Cell) (es : List Elem) (n : ℕ) → length es ≡ n → replaced_length k n ≡ length (op_elems (replace_op f t k) es)
 unfolding replaced_length replace_op op_elems
-length-kept f t C.Null es n e = refl
-length-kept f t (C.Value v) es n e = sym (length-replaced (elem_of f) (elem_of t) (count v) es ∙ e)
+length-kept f t None es n e = refl
+length-kept f t (Some v) es n e = sym (length-replaced (elem_of f) (elem_of t) (count v) es ∙ e)
 
 kept_le : (k : Cell) (n : ℕ) → replaced_length k n ≤ n
 unfolding replaced_length
-kept_le C.Null n = omega arith
-kept_le (C.Value v) n = omega arith
+kept_le None n = omega arith
+kept_le (Some v) n = omega arith
 
 module _ (N : Limits) (c : Column) (x y z : Arguments) (r a b : ℕ) (ea : a ≡ offset_at c.offsets r) (eb : b ≡ offset_at c.offsets (r + 1)) where
   abbrev elems : List Elem
@@ -137,48 +134,48 @@ unfolding tab first_of
 first-none K h a zero = refl
 first-none K h a (suc n) = rw (h a) (first-none K h (suc a) n)
 
-all_made : (N : Limits) (op : ListOp) (c : Column) (x y z : Arguments) → ((r : ℕ) → refusal_at N op c x y z r ≡ 0) → rows_measure N op c x y z ≡ M.Sum (length (flat (call_rows N op c x y z)))
-unfolding rows_measure measure_of gate
+all_made : (N : Limits) (op : ListOp) (c : Column) (x y z : Arguments) → ((r : ℕ) → refusal_at N op c x y z r ≡ 0) → rows_measure N op c x y z ≡ made (length (flat (call_rows N op c x y z)))
+unfolding rows_measure gate
 all_made N op c x y z h = rw (first-none (refusal_at N op c x y z) h 0 _)
 
 replace-none : (f t k : Cell) → op_refusal (replace_op f t k) ≡ 0
 unfolding op_refusal replace_op
-replace-none f t C.Null = refl
-replace-none f t (C.Value v) = refl
+replace-none f t None = refl
+replace-none f t (Some v) = refl
 
 remove-none : (f k : Cell) → op_refusal (remove_op f k) ≡ 0
 unfolding op_refusal remove_op
-remove-none C.Null k = refl
-remove-none (C.Value v) C.Null = refl
-remove-none (C.Value v) (C.Value k) = refl
+remove-none None k = refl
+remove-none (Some v) None = refl
+remove-none (Some v) (Some k) = refl
 
 module _ (N : Limits) (c : Column) (x y z : Arguments) where
-  pub replace-measured : rows_measure N L.Replace c x y z ≡ M.Sum (length (flat (call_rows N L.Replace c x y z)))
+  pub replace-measured : rows_measure N L.Replace c x y z ≡ made (length (flat (call_rows N L.Replace c x y z)))
   replace-measured = all_made N L.Replace c x y z (λ r. sym (refusal_of_lem N L.Replace c x y z r _ _ _ refl refl (replace_op_lem N c.rows x y z r _ _ _ _ refl refl refl)) ∙ replace-none _ _ _)
 
-  pub remove-measured : rows_measure N L.Remove c x y z ≡ M.Sum (length (flat (call_rows N L.Remove c x y z)))
+  pub remove-measured : rows_measure N L.Remove c x y z ≡ made (length (flat (call_rows N L.Remove c x y z)))
   remove-measured = all_made N L.Remove c x y z (λ r. sym (refusal_of_lem N L.Remove c x y z r _ _ _ refl refl (remove_op_lem N c.rows x y z r _ _ _ refl refl)) ∙ remove-none _ _)
 
 -- ---- a row put, by what its arguments are
 
 module _ (f t k : Cell) (es : List Elem) where
-  pub replaced_null : k ≡ C.Null → row_made (op_made (replace_op f t k) es) ≡ null_row
+  pub replaced_null : k ≡ None → row_made (op_made (replace_op f t k) es) ≡ null_row
   unfolding row_made op_made replace_op
   replaced_null e = rw e
 
-  pub replaced-made : (n : ℤ) (m : ℕ) → k ≡ C.Value n → m ≡ count n → row_made (op_made (replace_op f t k) es) ≡ list_row (replaced m (elem_of f) (elem_of t) es)
+  pub replaced-made : (n : ℤ) (m : ℕ) → k ≡ Some n → m ≡ count n → row_made (op_made (replace_op f t k) es) ≡ list_row (replaced m (elem_of f) (elem_of t) es)
   unfolding row_made op_made op_elems replace_op
   replaced-made n m e q = rw (e, q)
 
 -- a null limit or element
-pub unlimited : (f k : Cell) → k ≡ C.Null → remove_op f k ≡ R.Null
+pub unlimited : (f k : Cell) → k ≡ None → remove_op f k ≡ R.Null
 unlimited f k e = rw e (remove_null f)
 
-pub unmatched : (f k : Cell) → f ≡ C.Null → remove_op f k ≡ R.Null
+pub unmatched : (f k : Cell) → f ≡ None → remove_op f k ≡ R.Null
 unfolding remove_op
 unmatched f k e = rw e
 
-pub matched : (f k : Cell) (v n : ℤ) (m : ℕ) → f ≡ C.Value v → k ≡ C.Value n → m ≡ count n → remove_op f k ≡ R.Removed f m
+pub matched : (f k : Cell) (v n : ℤ) (m : ℕ) → f ≡ Some v → k ≡ Some n → m ≡ count n → remove_op f k ≡ R.Removed f m
 unfolding remove_op
 matched f k v n m e q h = rw (e, q, h)
 

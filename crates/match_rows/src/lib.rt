@@ -30,7 +30,7 @@ pub fn limit_at(
     ensures { result ≡ limit_at (lent_bits rows rstart) (lent_arguments_from limits bits start) r }
 {
     if !bitmap::is_valid(rows, rstart, r, n) {
-        return Cell::Null;
+        return None;
     }
     taken::taken_at(true, true, limits, bits, start, n, r)
 }

@@ -22,10 +22,10 @@ pub fn measure_row(
     ensures { result ≡ length (op_elems (remove_op element limit) (lent_elems values elements estart a len)) }
 {
     match limit {
-        Cell::Null => 0,
-        Cell::Value(k) => match element {
-            Cell::Null => 0,
-            Cell::Value(_) => remove::measure_removed(
+        None => 0,
+        Some(k) => match element {
+            None => 0,
+            Some(_) => remove::measure_removed(
                 values,
                 elements,
                 estart,
@@ -59,16 +59,16 @@ pub fn put_row(
     ensures { WritesRow (row_made (op_made (remove_op element limit) (lent_elems values elements estart a len))) r at out_rows out_values out_elements result }
 {
     match limit {
-        Cell::Null => {
+        None => {
             bitmap::push_bit(out_rows, r, false);
             at
         }
-        Cell::Value(k) => match element {
-            Cell::Null => {
+        Some(k) => match element {
+            None => {
                 bitmap::push_bit(out_rows, r, false);
                 at
             }
-            Cell::Value(_) => {
+            Some(_) => {
                 let next = remove::write_removed(
                     values,
                     elements,

@@ -14,8 +14,8 @@ pub fn replaced_length(limit: Cell, len: usize) -> usize
     ensures { result ≡ replaced_length limit len }
 {
     match limit {
-        Cell::Null => 0,
-        Cell::Value(_) => len,
+        None => 0,
+        Some(_) => len,
     }
 }
 
@@ -41,11 +41,11 @@ pub fn put_row(
     ensures { WritesRow (row_made (op_made (replace_op needle to limit) (lent_elems values elements estart a len))) r at out_rows out_values out_elements result }
 {
     match limit {
-        Cell::Null => {
+        None => {
             bitmap::push_bit(out_rows, r, false);
             at
         }
-        Cell::Value(k) => {
+        Some(k) => {
             let next = replace::write_replaced(
                 values,
                 elements,

@@ -1,39 +1,33 @@
 -- The code's answer to how much to lend, told as a call's answer is: what a contract says of it makes the call a run (Run).
 use mathlib.Core.Path.{◌≡◌, refl, sym, ap, ◌∙◌}
+use Rattle.std.specs.Prelude.{Ok, Err}
 use Rattle.model.specs.Asked.{asked_list, asked_values, asked_repeat, asked_recipe}
 use Rattle.model.specs.Call.{answer_of, room_counts, value_room_counts, repeat_room_counts, limit_counts}
 use Rattle.model.specs.Contract.{told_lengths, told_value_lengths, told_repeat_lengths, told_limits, ListMeasures, ValueMeasures, RepeatMeasures, RecipeLimited}
 use Rattle.model.specs.Form.{Room, ValueRoom, RepeatRoom}
 use Rattle.model.specs.Lengths.{TrayLimits}
 use Rattle.model.specs.Outcome.{Outcome}
-use Rattle.model.specs.declared.ListLengths.{ListLengths}
-use Rattle.model.specs.declared.ListLengths.TheVariants as L
-use Rattle.model.specs.declared.ValueLengths.{ValueLengths}
-use Rattle.model.specs.declared.ValueLengths.TheVariants as V'
-use Rattle.model.specs.declared.RepeatLengths.{RepeatLengths}
-use Rattle.model.specs.declared.RepeatLengths.TheVariants as R
-use Rattle.model.specs.declared.RecipeLimits.{RecipeLimits}
-use Rattle.model.specs.declared.RecipeLimits.TheVariants as T
+use Rattle.model.specs.Answers.{ListLengths, ValueLengths, RepeatLengths, RecipeLimits}
 
 list-told : (a : ListLengths) → told_lengths a ≡ answer_of room_counts (asked_list a)
 unfolding told_lengths answer_of asked_list
-list-told (L.Of o r v e) = refl
-list-told (L.Refused k) = refl
+list-told (Ok c) = refl
+list-told (Err k) = refl
 
 values-told : (a : ValueLengths) → told_value_lengths a ≡ answer_of value_room_counts (asked_values a)
 unfolding told_value_lengths answer_of asked_values
-values-told (V'.Of v r) = refl
-values-told (V'.Refused k) = refl
+values-told (Ok c) = refl
+values-told (Err k) = refl
 
 repeat_told : (a : RepeatLengths) → told_repeat_lengths a ≡ answer_of repeat_room_counts (asked_repeat a)
 unfolding told_repeat_lengths answer_of asked_repeat
-repeat_told (R.Of o r i j v e) = refl
-repeat_told (R.Refused k) = refl
+repeat_told (Ok c) = refl
+repeat_told (Err k) = refl
 
 limits-told : (a : RecipeLimits) → told_limits a ≡ answer_of limit_counts (asked_recipe a)
 unfolding told_limits answer_of asked_recipe
-limits-told (T.Of x y z) = refl
-limits-told (T.Refused k) = refl
+limits-told (Ok c) = refl
+limits-told (Err k) = refl
 
 pub list_measures : {x : Outcome Room} {a : ListLengths} → asked_list a ≡ x → ListMeasures x a
 list_measures {a = a} h = record { answer = list-told a ∙ ap (answer_of room_counts) h }

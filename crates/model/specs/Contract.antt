@@ -1,5 +1,5 @@
 -- How a contract names a call: the outputs at entry and at exit. The columns that slices hold as the call begins are in Inner.
-use Rattle.std.specs.Prelude.{ℕ, ◌≡◌, List, [], ◌∷◌, map, length, replicate, ℤ, pos}
+use Rattle.std.specs.Prelude.{Ok, Err, ℕ, ◌≡◌, List, [], ◌∷◌, map, length, replicate, ℤ, pos}
 use Rattle.std.specs.Borrow.{Bor, MutBor}
 use denote.Triple.Both.{Both}
 use Rattle.model.specs.Bitmap.{pack}
@@ -10,25 +10,10 @@ use Rattle.model.specs.Lengths.{TrayLimits}
 use Rattle.model.specs.View.{ViewRoom, view_offsets, view_sizes}
 use Rattle.model.specs.Grade.{grades_of}
 use Rattle.model.specs.Call.{Answer, refusal, counts, answer_of, written, list_counts, value_counts, repeat_counts, row_counts, room_counts, value_room_counts, repeat_room_counts, limit_counts}
-use Rattle.model.specs.declared.ListAnswer.{ListAnswer}
-use Rattle.model.specs.declared.ListAnswer.TheVariants as L
+use Rattle.model.specs.Answers.{number_of, ListAnswer, GradeAnswer, RepeatAnswer, ValueAnswer, ListLengths, RecipeLimits, RepeatLengths, ValueLengths}
 use Rattle.model.specs.Basics.{Lent, absent, given}
 use Rattle.model.specs.declared.Optional.{Optional}
 use Rattle.model.specs.declared.Optional.TheVariants as O
-use Rattle.model.specs.declared.GradeAnswer.{GradeAnswer}
-use Rattle.model.specs.declared.GradeAnswer.TheVariants as G
-use Rattle.model.specs.declared.RepeatAnswer.{RepeatAnswer}
-use Rattle.model.specs.declared.RepeatAnswer.TheVariants as R
-use Rattle.model.specs.declared.ValueAnswer.{ValueAnswer}
-use Rattle.model.specs.declared.ValueAnswer.TheVariants as V'
-use Rattle.model.specs.declared.ListLengths.{ListLengths}
-use Rattle.model.specs.declared.ListLengths.TheVariants as LL
-use Rattle.model.specs.declared.RecipeLimits.{RecipeLimits}
-use Rattle.model.specs.declared.RecipeLimits.TheVariants as RM
-use Rattle.model.specs.declared.RepeatLengths.{RepeatLengths}
-use Rattle.model.specs.declared.RepeatLengths.TheVariants as RL
-use Rattle.model.specs.declared.ValueLengths.{ValueLengths}
-use Rattle.model.specs.declared.ValueLengths.TheVariants as VL
 
 -- a slice that is read, at entry and at exit
 abbrev pub Slice : Type 0 → Type 0
@@ -40,37 +25,37 @@ MutSlice A = Both (MutBor (List A)) (MutBor (List A))
 
 -- document 01's number and values for each case of an answer
 unfoldable pub told : ListAnswer → Answer
-told (L.Counts rows elements nulls null-elements) = counts (rows ∷ elements ∷ nulls ∷ null-elements ∷ [])
-told (L.Refused k) = refusal k
+told (Ok c) = counts (c.rows ∷ c.elements ∷ c.null_rows ∷ c.null_elements ∷ [])
+told (Err k) = refusal (number_of k)
 
 unfoldable pub told_value : ValueAnswer → Answer
-told_value (V'.Counts rows nulls) = counts (rows ∷ nulls ∷ [])
-told_value (V'.Refused k) = refusal k
+told_value (Ok c) = counts (c.rows ∷ c.null_rows ∷ [])
+told_value (Err k) = refusal (number_of k)
 
 unfoldable pub told_repeat : RepeatAnswer → Answer
-told_repeat (R.Counts rows elements nulls null-elements inner-rows null-inner) = counts (rows ∷ elements ∷ nulls ∷ null-elements ∷ inner-rows ∷ null-inner ∷ [])
-told_repeat (R.Refused k) = refusal k
+told_repeat (Ok c) = counts (c.rows ∷ c.elements ∷ c.null_rows ∷ c.null_elements ∷ c.inner_rows ∷ c.null_inner_rows ∷ [])
+told_repeat (Err k) = refusal (number_of k)
 
 unfoldable pub told_grade : GradeAnswer → Answer
-told_grade (G.Rows rows) = counts (rows ∷ [])
-told_grade (G.Refused k) = refusal k
+told_grade (Ok rows) = counts (rows ∷ [])
+told_grade (Err k) = refusal (number_of k)
 
 -- the lengths of a measure, and a recipe's limits
 unfoldable pub told_lengths : ListLengths → Answer
-told_lengths (LL.Of offsets rows values elements) = counts (offsets ∷ rows ∷ values ∷ elements ∷ [])
-told_lengths (LL.Refused k) = refusal k
+told_lengths (Ok l) = counts (l.offsets ∷ l.rows ∷ l.values ∷ l.elements ∷ [])
+told_lengths (Err k) = refusal (number_of k)
 
 unfoldable pub told_value_lengths : ValueLengths → Answer
-told_value_lengths (VL.Of values rows) = counts (values ∷ rows ∷ [])
-told_value_lengths (VL.Refused k) = refusal k
+told_value_lengths (Ok l) = counts (l.values ∷ l.rows ∷ [])
+told_value_lengths (Err k) = refusal (number_of k)
 
 unfoldable pub told_repeat_lengths : RepeatLengths → Answer
-told_repeat_lengths (RL.Of offsets rows inner-offsets inner-rows values elements) = counts (offsets ∷ rows ∷ inner-offsets ∷ inner-rows ∷ values ∷ elements ∷ [])
-told_repeat_lengths (RL.Refused k) = refusal k
+told_repeat_lengths (Ok l) = counts (l.offsets ∷ l.rows ∷ l.inner_offsets ∷ l.inner_rows ∷ l.values ∷ l.elements ∷ [])
+told_repeat_lengths (Err k) = refusal (number_of k)
 
 unfoldable pub told_limits : RecipeLimits → Answer
-told_limits (RM.Of one two output) = counts (one ∷ two ∷ output ∷ [])
-told_limits (RM.Refused k) = refusal k
+told_limits (Ok l) = counts (l.one ∷ l.two ∷ l.output ∷ [])
+told_limits (Err k) = refusal (number_of k)
 
 -- an output slice after the call: "Slots past the result keep their content.", and a refused call writes none
 abbrev pub after : {A B : Type 0} → (A → List B) → Outcome A → List B → List B

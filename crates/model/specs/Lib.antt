@@ -1,3 +1,4 @@
+pub mod Answers
 pub mod Basics
 pub mod Limits
 pub mod Bitmap

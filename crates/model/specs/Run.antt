@@ -1,6 +1,6 @@
 -- A run of a call: what a public function's contract says of its answer and its slices, and what the run ends in, read off that
 -- answer and the slices as the function returns.
-use Rattle.std.specs.Prelude.{ℕ, ◌+◌, List, [], ◌∷◌, take, ℤ, ◌≡◌}
+use Rattle.std.specs.Prelude.{Ok, Err, ℕ, ◌+◌, List, [], ◌∷◌, take, ℤ, ◌≡◌}
 use Rattle.model.specs.Basics.{Lent, absent, given}
 use Rattle.model.specs.Bitmap.{bytes_for}
 use Rattle.model.specs.Limits.{Limits}
@@ -17,40 +17,29 @@ use Rattle.model.specs.Recipe.{Recipe, recipe_outcome, stationed}
 use Rattle.model.specs.Window.{window_outcome}
 use Rattle.model.specs.Tally.{Tally, tallied, moved, move_of}
 use Rattle.model.specs.Grade.{graded, grade_outcome, graded_move}
-use Rattle.model.specs.declared.ListAnswer.{ListAnswer}
-use Rattle.model.specs.declared.ListAnswer.TheVariants as L
-use Rattle.model.specs.declared.GradeAnswer.{GradeAnswer}
-use Rattle.model.specs.declared.GradeAnswer.TheVariants as G
-use Rattle.model.specs.declared.RepeatAnswer.{RepeatAnswer}
-use Rattle.model.specs.declared.RepeatAnswer.TheVariants as R
-use Rattle.model.specs.declared.ValueAnswer.{ValueAnswer}
-use Rattle.model.specs.declared.ValueAnswer.TheVariants as V'
-use Rattle.model.specs.declared.ListLengths.{ListLengths}
-use Rattle.model.specs.declared.RecipeLimits.{RecipeLimits}
-use Rattle.model.specs.declared.RepeatLengths.{RepeatLengths}
-use Rattle.model.specs.declared.ValueLengths.{ValueLengths}
+use Rattle.model.specs.Answers.{number_of, ListAnswer, GradeAnswer, RepeatAnswer, ValueAnswer, ListLengths, RecipeLimits, RepeatLengths, ValueLengths}
 
 -- "The written results are the slots of each output slice before those; a refused call has none.": as many slots of the offsets,
 -- row bitmap, values and element bitmap as the answer counts
 unfoldable pub list_run_end : ListAnswer → List ℤ → List ℕ → List ℤ → List ℕ → End
-list_run_end (L.Refused k) o r v e = operation_end (refusal k) ([] ∷ [] ∷ []) ([] ∷ [] ∷ [])
-list_run_end (L.Counts n m p q) o r v e =
-    operation_end (counts (n ∷ m ∷ p ∷ q ∷ [])) (take (n + 1) o ∷ take m v ∷ []) (take (bytes_for n) r ∷ take (bytes_for m) e ∷ [])
+list_run_end (Err k) o r v e = operation_end (refusal (number_of k)) ([] ∷ [] ∷ []) ([] ∷ [] ∷ [])
+list_run_end (Ok c) o r v e =
+    operation_end (counts (c.rows ∷ c.elements ∷ c.null_rows ∷ c.null_elements ∷ [])) (take (c.rows + 1) o ∷ take c.elements v ∷ []) (take (bytes_for c.rows) r ∷ take (bytes_for c.elements) e ∷ [])
 
 unfoldable pub value_run_end : ValueAnswer → List ℤ → List ℕ → End
-value_run_end (V'.Refused k) v r = operation_end (refusal k) ([] ∷ []) ([] ∷ [])
-value_run_end (V'.Counts n p) v r = operation_end (counts (n ∷ p ∷ [])) (take n v ∷ []) (take (bytes_for n) r ∷ [])
+value_run_end (Err k) v r = operation_end (refusal (number_of k)) ([] ∷ []) ([] ∷ [])
+value_run_end (Ok c) v r = operation_end (counts (c.rows ∷ c.null_rows ∷ [])) (take c.rows v ∷ []) (take (bytes_for c.rows) r ∷ [])
 
 unfoldable pub repeat_run_end : RepeatAnswer → List ℤ → List ℕ → List ℤ → List ℕ → List ℤ → List ℕ → End
-repeat_run_end (R.Refused k) o r io ir v e = operation_end (refusal k) ([] ∷ [] ∷ [] ∷ []) ([] ∷ [] ∷ [] ∷ [])
-repeat_run_end (R.Counts n m p q i j) o r io ir v e =
-    operation_end (counts (n ∷ m ∷ p ∷ q ∷ i ∷ j ∷ [])) (take (n + 1) o ∷ take (i + 1) io ∷ take m v ∷ []) (take (bytes_for n) r ∷ take (bytes_for i) ir ∷ take (bytes_for m) e ∷ [])
+repeat_run_end (Err k) o r io ir v e = operation_end (refusal (number_of k)) ([] ∷ [] ∷ [] ∷ []) ([] ∷ [] ∷ [] ∷ [])
+repeat_run_end (Ok c) o r io ir v e =
+    operation_end (counts (c.rows ∷ c.elements ∷ c.null_rows ∷ c.null_elements ∷ c.inner_rows ∷ c.null_inner_rows ∷ [])) (take (c.rows + 1) o ∷ take (c.inner_rows + 1) io ∷ take c.elements v ∷ []) (take (bytes_for c.rows) r ∷ take (bytes_for c.inner_rows) ir ∷ take (bytes_for c.elements) e ∷ [])
 
 -- a view's: its offsets, sizes and values, and the two bitmaps
 unfoldable pub view_run_end : ListAnswer → List ℤ → List ℤ → List ℕ → List ℤ → List ℕ → End
-view_run_end (L.Refused k) o s r v e = operation_end (refusal k) ([] ∷ [] ∷ [] ∷ []) ([] ∷ [] ∷ [])
-view_run_end (L.Counts n m p q) o s r v e =
-    operation_end (counts (n ∷ m ∷ p ∷ q ∷ [])) (take n o ∷ take n s ∷ take m v ∷ []) (take (bytes_for n) r ∷ take (bytes_for m) e ∷ [])
+view_run_end (Err k) o s r v e = operation_end (refusal (number_of k)) ([] ∷ [] ∷ [] ∷ []) ([] ∷ [] ∷ [])
+view_run_end (Ok c) o s r v e =
+    operation_end (counts (c.rows ∷ c.elements ∷ c.null_rows ∷ c.null_elements ∷ [])) (take c.rows o ∷ take c.rows s ∷ take c.elements v ∷ []) (take (bytes_for c.rows) r ∷ take (bytes_for c.elements) e ∷ [])
 
 -- a recipe's: the list answer and output, then the trays, all their slots, and the tally that came back, if one did
 unfoldable pub recipe_run_end : ListAnswer → List ℤ → List ℕ → List ℤ → List ℕ → List ℤ → List ℕ → List ℤ → List ℕ → List ℤ → List ℕ → List ℤ → List ℕ → Lent Tally → End
@@ -69,13 +58,13 @@ recipe_run_end a o r v e ao ar av ae bo br bv be t =
 
 -- a graded column's: as many grades as its answer counts rows
 unfoldable pub grade_run_end : GradeAnswer → List ℕ → End
-grade_run_end (G.Refused k) g = grades_end (refusal k) []
-grade_run_end (G.Rows n) g = grades_end (counts (n ∷ [])) (take n g)
+grade_run_end (Err k) g = grades_end (refusal (number_of k)) []
+grade_run_end (Ok n) g = grades_end (counts (n ∷ [])) (take n g)
 
 -- a graded recipe's: its recipe's, and as many grades as its answer counts rows
 unfoldable pub grades_taken : ListAnswer → List ℕ → List ℕ
-grades_taken (L.Refused k) g = []
-grades_taken (L.Counts n m p q) g = take n g
+grades_taken (Err k) g = []
+grades_taken (Ok c) g = take c.rows g
 
 unfoldable pub graded_run_end : ListAnswer → List ℤ → List ℕ → List ℤ → List ℕ → List ℤ → List ℕ → List ℤ → List ℕ → List ℤ → List ℕ → List ℤ → List ℕ → Tally → List ℕ → End
 graded_run_end a o r v e ao ar av ae bo br bv be t g =

@@ -6,8 +6,7 @@ use Rattle.model.specs.Contract.{Slice, MutSlice, ListMeets, RepeatMeets, Zeroed
 use Rattle.model.specs.Form.{Room, RepeatRoom, Outer}
 use Rattle.model.specs.Limits.{Limits, narrow, wide}
 use Rattle.model.specs.Outcome.{Outcome}
-use Rattle.model.specs.declared.ListAnswer.{ListAnswer}
-use Rattle.model.specs.declared.RepeatAnswer.{RepeatAnswer}
+use Rattle.model.specs.Answers.{ListAnswer, RepeatAnswer}
 use Rattle.model.specs.declared.Width.{Width}
 use Rattle.model.specs.declared.Width.TheVariants as W
 

@@ -1,16 +1,16 @@
 -- The marks of a word, its bits turned over: taken from the lowest on, each a null slot's place.
 use mathlib.Core.Bool.{Bool, true, false, not}
-use mathlib.Core.List.{List, [], ◌∷◌, ◌++◌, map, map-append, reverse, reverse-append, reverse-cons}
+use mathlib.Core.List.{List, [], ◌∷◌, map, reverse, reverse-cons}
 use mathlib.Core.Path.{◌≡◌, refl, sym, ap, ap₂, ◌∙◌}
-use Prim.Native.Nat.{ℕ, zero, suc, ◌+◌, ◌-◌, ◌/◌, ◌%◌, ◌^◌, ◌≤◌, ◌<◌}
+use Prim.Native.Nat.{ℕ, zero, suc, min, ◌+◌, ◌-◌, ◌*◌, ◌/◌, ◌%◌, ◌^◌, ◌≤◌, ◌<◌}
+use lib.Bits.{bit_and, and_step, and_self, and_le_r}
+use Rattle.model.specs.Basics.{pick}
 use native.Mathlib.Nat.{pow-suc}
-use native.Mathlib.Numerals.{add-one}
 use native.Mathlib.Omega.{arith}
 use lib.Count.{count_trailing_zeros, under}
 use lib.Dec.{eqb}
 use lib.IntN.{ℤ}
-use lib.ListN.{length, set, replicate, length-set, length-reverse, length-replicate, replicate-append-replicate}
-use lib.Pow.{shr-shr}
+use lib.ListN.{length, set, replicate, length-reverse, replicate-append-replicate}
 use Rattle.bit_words.proofs.WordLaws.{length_low}
 use Rattle.bit_words.specs.Words.{low_bits}
 use Rattle.model.proofs.TabLaws.{length-map}
@@ -42,101 +42,111 @@ low_flipped (suc m) (suc w) x h b =
     let t = turned_bit (x % 2) ((2 ^ suc w - 1 - x) % 2) (omega arith) (omega arith) in
     rw q (ap₂ (λ (c : Bool) (r : List Bool). c ∷ r) t (low_flipped m w (x / 2) (omega arith) (omega arith)))
 
--- ---- the lowest mark of a word
+-- all the bits of a word, where there are none above them
+pub low_all : (m x : ℕ) → x ≡ 0 → map not (low_bits x m) ≡ replicate m true
+low_all m x z = rw z (ap (map not) (low_zero m) ∙ map_same not false m)
 
--- after j bits that are 0 one that is 1, and the others
-pub record Lowest (x left j : ℕ) : Type 0 where
-  pub inside : j < left
-  pub bits : low_bits x left ≡ replicate j false ++ (true ∷ low_bits (x / 2 ^ j / 2) (left - (j + 1)))
-  pub fewer : x / 2 ^ j / 2 < 2 ^ (left - (j + 1))
+-- ---- the lowest mark taken from a word
 
-lowest_by : (r w x left : ℕ) → x % 2 ≡ r → (x / 2 < 2 ^ left) → ((0 < x / 2) → Lowest (x / 2) left (count_trailing_zeros w (x / 2))) → 0 < x → Lowest x (suc left) (under r (count_trailing_zeros w (x / 2)))
-unfolding low_bits
-lowest_by zero w x left e b ih p =
-    let l = ih (omega arith) in
-    let j = count_trailing_zeros w (x / 2) in
-    let v : 1 + j ≡ suc j = omega arith in
-    let c : x / 2 / 2 ^ j ≡ x / 2 ^ suc j = rw v at (shr-shr x 1 j) in
-    let d : suc left - (suc j + 1) ≡ left - (j + 1) = omega arith in
-    record {
-      inside = omega (arith, l.inside);
-      bits = rw (e, d, ← c) (ap (λ (r : List Bool). false ∷ r) l.bits);
-      fewer = rw (d, ← c) l.fewer;
-    }
-lowest_by (suc zero) w x left e b ih p =
-    let o : x / 1 ≡ x = omega arith in
-    let d : suc left - (0 + 1) ≡ left = omega arith in
-    record { inside = omega arith; bits = rw (e, o, d); fewer = rw (o, d) b }
-lowest_by (suc (suc r)) w x left e b ih p = let z : ⊥ = omega arith in absurd z
+abbrev taken : ℕ → ℕ
+taken x = bit_and x (x - 1)
 
-pub lowest : (w x left : ℕ) → left ≤ w → 0 < x → x < 2 ^ left → Lowest x left (count_trailing_zeros w x)
+taken_lt : (x : ℕ) → 0 < x → taken x < x
+taken_lt x p = let l = and_le_r x (x - 1) in omega arith
+
+taken_odd : (x : ℕ) → x % 2 ≡ 1 → (taken x % 2 ≡ 0) × (taken x / 2 ≡ x / 2)
+taken_odd x e =
+    let half : (x - 1) / 2 ≡ x / 2 = omega arith in
+    let low : min (x % 2) ((x - 1) % 2) ≡ 0 = omega arith in
+    let is : taken x ≡ x / 2 * 2 + 0 = and_step x (x - 1) ∙ ap₂ (λ (u v : ℕ). u * 2 + v) (ap (bit_and (x / 2)) half ∙ and_self (x / 2)) low in
+    (omega arith, omega arith)
+
+taken_even : (x : ℕ) → 0 < x → x % 2 ≡ 0 → (taken x % 2 ≡ 0) × (taken x / 2 ≡ taken (x / 2))
+taken_even x p e =
+    let half : (x - 1) / 2 ≡ x / 2 - 1 = omega arith in
+    let low : min (x % 2) ((x - 1) % 2) ≡ 0 = omega arith in
+    let is : taken x ≡ taken (x / 2) * 2 + 0 = and_step x (x - 1) ∙ ap₂ (λ (u v : ℕ). u * 2 + v) (ap (bit_and (x / 2)) half) low in
+    (omega arith, omega arith)
+
+-- the place of the lowest mark
+lowest_by : (r w x m : ℕ) → x % 2 ≡ r → (0 < x / 2 → count_trailing_zeros w (x / 2) < m) → 0 < x → under r (count_trailing_zeros w (x / 2)) < suc m
+lowest_by zero w x m e ih p = omega (arith, ih (omega arith))
+lowest_by (suc r) w x m e ih p = omega arith
+
+pub lowest : (w x m : ℕ) → m ≤ w → 0 < x → x < 2 ^ m → count_trailing_zeros w x < m
 unfolding count_trailing_zeros
-lowest w x zero h p b = let z : ⊥ = omega arith in absurd z
-lowest zero x (suc left) h p b = let z : ⊥ = omega arith in absurd z
-lowest (suc w) x (suc left) h p b =
-    let s = pow-suc 2 left in
-    let k : x / 2 < 2 ^ left = omega arith in
-    lowest_by (x % 2) w x left refl k (λ q. lowest w (x / 2) left (omega arith) q k) p
+lowest w x zero h p b = absurd (omega arith)
+lowest zero x (suc m) h p b = absurd (omega arith)
+lowest (suc w) x (suc m) h p b = lowest_by (x % 2) w x m refl (λ q. lowest w (x / 2) m (omega arith) q (omega (arith, pow-suc 2 m))) p
+
+-- what a null slot holds is written at its place, and the other marks are left
+abbrev Forth : ℕ → ℕ → ℕ → ℕ → List ℤ → ℕ → Type 0
+Forth j y x m d at = nulled (set d (at + j) under_null) at (map not (low_bits y m)) ≡ nulled d at (map not (low_bits x m))
+
+forth_by : (r w x m : ℕ) (d : List ℤ) (at : ℕ) → x % 2 ≡ r → (0 < x / 2 → Forth (count_trailing_zeros w (x / 2)) (taken (x / 2)) (x / 2) m d (suc at)) → 0 < x
+    → Forth (under r (count_trailing_zeros w (x / 2))) (taken x) x (suc m) d at
+unfolding nulled low_bits
+forth_by zero w x m d at e ih p =
+    let t = taken_even x p e in
+    let j = count_trailing_zeros w (x / 2) in
+    let a : at + suc j ≡ suc at + j = omega arith in
+    rw (t.0, t.1, e, a) (ih (omega arith))
+forth_by (suc zero) w x m d at e ih p =
+    let t = taken_odd x e in
+    let a : at + 0 ≡ at = omega arith in
+    rw (t.0, t.1, e, a)
+forth_by (suc (suc r)) w x m d at e ih p = absurd (omega arith)
+
+forth : (w x m : ℕ) (d : List ℤ) (at : ℕ) → m ≤ w → 0 < x → x < 2 ^ m → Forth (count_trailing_zeros w x) (taken x) x m d at
+unfolding count_trailing_zeros
+forth w x zero d at h p b = absurd (omega arith)
+forth zero x (suc m) d at h p b = absurd (omega arith)
+forth (suc w) x (suc m) d at h p b = forth_by (x % 2) w x m d at refl (λ q. forth w (x / 2) m d (suc at) (omega arith) q (omega (arith, pow-suc 2 m))) p
+
+-- the same from the last place on
+abbrev Back : ℕ → ℕ → ℕ → ℕ → List ℤ → ℕ → Type 0
+Back j y x m d at = nulled (set d (at + (m - 1 - j)) under_null) at (reverse (map not (low_bits y m))) ≡ nulled d at (reverse (map not (low_bits x m)))
+
+-- one bit more in front stands at the end of the reversed bits
+back_bit : (b : Bool) (x m : ℕ) (d : List ℤ) (at : ℕ) → nulled d at (reverse (b ∷ map not (low_bits x m))) ≡ pick b (nulled d at (reverse (map not (low_bits x m)))) (set (nulled d at (reverse (map not (low_bits x m)))) (at + m) under_null)
+unfolding nulled
+back_bit b x m d at =
+    let bs = map not (low_bits x m) in
+    let k : length (reverse bs) ≡ m = length-reverse bs ∙ length-map not (low_bits x m) ∙ length_low x m in
+    ap (λ (r : List Bool). nulled d at r) (reverse-cons b bs)
+    ∙ nulled-append (reverse bs) (b ∷ []) d at
+    ∙ ap (λ (r : ℕ). pick b (nulled d at (reverse bs)) (set (nulled d at (reverse bs)) (at + r) under_null)) k
+
+back_by : (r w x m : ℕ) (d : List ℤ) (at : ℕ) → x % 2 ≡ r → (0 < x / 2 → Back (count_trailing_zeros w (x / 2)) (taken (x / 2)) (x / 2) m d at) → 0 < x
+    → Back (under r (count_trailing_zeros w (x / 2))) (taken x) x (suc m) d at
+unfolding low_bits
+back_by zero w x m d at e ih p =
+    let t = taken_even x p e in
+    let j = count_trailing_zeros w (x / 2) in
+    let a : suc m - 1 - suc j ≡ m - 1 - j = omega arith in
+    rw (t.0, t.1, e, a, back_bit true (taken (x / 2)) m, back_bit true (x / 2) m) (ih (omega arith))
+back_by (suc zero) w x m d at e ih p =
+    let t = taken_odd x e in
+    let a : suc m - 1 - 0 ≡ m = omega arith in
+    rw (t.0, t.1, e, a, back_bit true (x / 2) m, back_bit false (x / 2) m) (sym (nulled-set (reverse (map not (low_bits (x / 2) m))) d at (at + m)))
+back_by (suc (suc r)) w x m d at e ih p = absurd (omega arith)
+
+back : (w x m : ℕ) (d : List ℤ) (at : ℕ) → m ≤ w → 0 < x → x < 2 ^ m → Back (count_trailing_zeros w x) (taken x) x m d at
+unfolding count_trailing_zeros
+back w x zero d at h p b = absurd (omega arith)
+back zero x (suc m) d at h p b = absurd (omega arith)
+back (suc w) x (suc m) d at h p b = back_by (x % 2) w x m d at refl (λ q. back w (x / 2) m d at (omega arith) q (omega (arith, pow-suc 2 m))) p
 
 -- ---- a word's marks taken from the lowest on
 
--- what is left to write of the m bits bs from place at on: the marks from place k on
-pub record Marking (d₀ : List ℤ) (at m : ℕ) (bs : List Bool) (d : List ℤ) (marks k : ℕ) : Type 0 where
-  pub written : nulled d k (map not (low_bits marks (at + m - k))) ≡ nulled d₀ at bs
-  pub within : k ≤ at + m
-  pub above : at ≤ k
-  pub few : marks < 2 ^ (at + m - k)
-  pub same : length d ≡ length d₀
+-- what is left to write of the m bits bs from place at on
+pub record Marking (d₀ : List ℤ) (at m : ℕ) (bs : List Bool) (d : List ℤ) (marks : ℕ) : Type 0 where
+  pub written : nulled d at (map not (low_bits marks m)) ≡ nulled d₀ at bs
+  pub few : marks < 2 ^ m
 
--- the bits that a mark stands for, from the lowest mark on
-marked : (x left j : ℕ) → Lowest x left j → map not (low_bits x left) ≡ replicate j true ++ (false ∷ map not (low_bits (x / 2 ^ j / 2) (left - (j + 1))))
-marked x left j l = ap (map not) l.bits ∙ map-append not (replicate j false) (true ∷ low_bits (x / 2 ^ j / 2) (left - (j + 1))) ∙ ap (λ (r : List Bool). r ++ (false ∷ map not (low_bits (x / 2 ^ j / 2) (left - (j + 1))))) (map_same not false j)
-
-module _ {d₀ : List ℤ} {at m : ℕ} {bs : List Bool} where
-  pub marks_begun : (x : ℕ) → map not (low_bits x m) ≡ bs → x < 2 ^ m → Marking d₀ at m bs d₀ x at
-  marks_begun x e b =
-      let z : at + m - at ≡ m = omega arith in
-      record { written = rw z (ap (λ (r : List Bool). nulled d₀ at r) e); within = omega arith; above = omega arith; few = rw z b; same = refl }
-
-  module _ {d : List ℤ} {x k : ℕ} (s : Marking d₀ at m bs d x k) where
-    module _ (h : m ≤ 64) (n : x ≡ 0 → ⊥) where
-      pub mark_here : Lowest x (at + m - k) (count_trailing_zeros 64 x)
-      mark_here = lowest 64 x (at + m - k) (omega (arith, s.above)) (omega arith) s.few
-
-      pub mark_more : Marking d₀ at m bs (set d (k + count_trailing_zeros 64 x) under_null) (x / 2 ^ count_trailing_zeros 64 x / 2) (k + count_trailing_zeros 64 x + 1)
-      unfolding nulled
-      mark_more =
-          let j = count_trailing_zeros 64 x in
-          let l = mark_here in
-          let e : at + m - (k + j + 1) ≡ at + m - k - (j + 1) = omega arith in
-          let g : k + length (replicate j true) ≡ k + j = ap (λ (r : ℕ). k + r) (length-replicate j true) in
-          let rest = map not (low_bits (x / 2 ^ j / 2) (at + m - k - (j + 1))) in
-          let w : nulled d k (map not (low_bits x (at + m - k))) ≡ nulled (set d (k + j) under_null) (suc (k + j)) rest =
-          ap (λ (r : List Bool). nulled d k r) (marked x (at + m - k) j l)
-          ∙ nulled-append (replicate j true) (false ∷ rest) d k
-          ∙ rw (nulled-trues j d k, g) in
-          record {
-            written = rw (e, add-one (k + j)) (sym w ∙ s.written);
-            within = omega (arith, l.inside);
-            above = omega (arith, s.above);
-            few = rw e l.fewer;
-            same = length-set d (k + j) under_null ∙ s.same;
-          }
-
-    pub marks_done : x ≡ 0 → d ≡ nulled d₀ at bs
-    marks_done z =
-        sym (nulled-trues (at + m - k) d k)
-        ∙ ap (λ (r : List Bool). nulled d k r) (sym (map_same not false (at + m - k)) ∙ ap (map not) (sym (low_zero (at + m - k))))
-        ∙ (rw z at s.written)
-
--- ---- the same from the last place on
-
-pub record MarkingBack (d₀ : List ℤ) (at m : ℕ) (bs : List Bool) (d : List ℤ) (marks k : ℕ) : Type 0 where
-  pub written : nulled d at (reverse (map not (low_bits marks (k - at)))) ≡ nulled d₀ at (reverse bs)
-  pub within : k ≤ at + m
-  pub above : at ≤ k
-  pub few : marks < 2 ^ (k - at)
-  pub same : length d ≡ length d₀
+pub record MarkingBack (d₀ : List ℤ) (at m : ℕ) (bs : List Bool) (d : List ℤ) (marks : ℕ) : Type 0 where
+  pub written : nulled d at (reverse (map not (low_bits marks m))) ≡ nulled d₀ at (reverse bs)
+  pub few : marks < 2 ^ m
 
 reverse_same : {A : Type 0} (n : ℕ) (x : A) → reverse (replicate n x) ≡ replicate n x
 reverse_same zero x = refl
@@ -144,49 +154,15 @@ reverse_same (suc n) x =
     let e : n + 1 ≡ suc n = omega arith in
     reverse-cons x (replicate n x) ∙ rw (reverse_same n x, replicate-append-replicate n 1 x, e)
 
--- marks the last first: the lowest one's place is the last of those that are left
-back_marked : (xs : List Bool) (j : ℕ) (d : List ℤ) (at : ℕ) → nulled d at (reverse (replicate j true ++ (false ∷ xs))) ≡ nulled (set d (at + length xs) under_null) at (reverse xs)
-unfolding nulled
-back_marked xs j d at =
-    ap (λ (r : List Bool). nulled d at r) (reverse-append (replicate j true) (false ∷ xs))
-    ∙ nulled-append (reverse (false ∷ xs)) (reverse (replicate j true)) d at
-    ∙ rw (reverse_same j true, nulled-trues j)
-    (ap (λ (r : List Bool). nulled d at r) (reverse-cons false xs)
-    ∙ nulled-append (reverse xs) (false ∷ []) d at
-    ∙ rw (length-reverse xs) (nulled-set (reverse xs) d at (at + length xs)))
+module _ {d₀ : List ℤ} {at m : ℕ} {bs : List Bool} {d : List ℤ} {x : ℕ} where
+  pub mark_more : Marking d₀ at m bs d x → m ≤ 64 → 0 < x → Marking d₀ at m bs (set d (at + count_trailing_zeros 64 x) under_null) (bit_and x (x - 1))
+  mark_more s h p = record { written = forth 64 x m d at h p s.few ∙ s.written; few = omega (arith, taken_lt x p, s.few) }
 
-module _ {d₀ : List ℤ} {at m : ℕ} {bs : List Bool} where
-  pub back_begun : (x : ℕ) → map not (low_bits x m) ≡ bs → x < 2 ^ m → MarkingBack d₀ at m bs d₀ x (at + m)
-  back_begun x e b =
-      let z : at + m - at ≡ m = omega arith in
-      record { written = rw z (ap (λ (r : List Bool). nulled d₀ at (reverse r)) e); within = omega arith; above = omega arith; few = rw z b; same = refl }
+  pub marks_done : Marking d₀ at m bs d x → x ≡ 0 → d ≡ nulled d₀ at bs
+  marks_done s z = sym (nulled-trues m d at) ∙ ap (λ (r : List Bool). nulled d at r) (sym (low_all m x z)) ∙ s.written
 
-  module _ {d : List ℤ} {x k : ℕ} (s : MarkingBack d₀ at m bs d x k) where
-    module _ (h : m ≤ 64) (n : x ≡ 0 → ⊥) where
-      pub back_here : Lowest x (k - at) (count_trailing_zeros 64 x)
-      back_here = lowest 64 x (k - at) (omega (arith, s.within)) (omega arith) s.few
+  pub back_more : MarkingBack d₀ at m bs d x → m ≤ 64 → 0 < x → MarkingBack d₀ at m bs (set d (at + (m - 1 - count_trailing_zeros 64 x)) under_null) (bit_and x (x - 1))
+  back_more s h p = record { written = back 64 x m d at h p s.few ∙ s.written; few = omega (arith, taken_lt x p, s.few) }
 
-      pub back_more : MarkingBack d₀ at m bs (set d (k - (count_trailing_zeros 64 x + 1)) under_null) (x / 2 ^ count_trailing_zeros 64 x / 2) (k - (count_trailing_zeros 64 x + 1))
-      back_more =
-          let j = count_trailing_zeros 64 x in
-          let l = back_here in
-          let rest = map not (low_bits (x / 2 ^ j / 2) (k - at - (j + 1))) in
-          let e : k - (j + 1) - at ≡ k - at - (j + 1) = omega arith in
-          let p : at + length rest ≡ k - (j + 1) = omega (arith, l.inside, length-map not (low_bits (x / 2 ^ j / 2) (k - at - (j + 1))), length_low (x / 2 ^ j / 2) (k - at - (j + 1))) in
-          let w : nulled d at (reverse (map not (low_bits x (k - at)))) ≡ nulled (set d (k - (j + 1)) under_null) at (reverse rest) =
-          ap (λ (r : List Bool). nulled d at (reverse r)) (marked x (k - at) j l)
-          ∙ back_marked rest j d at
-          ∙ ap (λ (r : ℕ). nulled (set d r under_null) at (reverse rest)) p in
-          record {
-            written = rw e (sym w ∙ s.written);
-            within = omega (arith, s.within);
-            above = omega (arith, l.inside);
-            few = rw e l.fewer;
-            same = length-set d (k - (j + 1)) under_null ∙ s.same;
-          }
-
-    pub back_done : x ≡ 0 → d ≡ nulled d₀ at (reverse bs)
-    back_done z =
-        sym (nulled-trues (k - at) d at)
-        ∙ ap (λ (r : List Bool). nulled d at r) (sym (reverse_same (k - at) true) ∙ ap (λ (r : List Bool). reverse r) (sym (map_same not false (k - at)) ∙ ap (map not) (sym (low_zero (k - at)))))
-        ∙ (rw z at s.written)
+  pub back_done : MarkingBack d₀ at m bs d x → x ≡ 0 → d ≡ nulled d₀ at (reverse bs)
+  back_done s z = sym (nulled-trues m d at) ∙ ap (λ (r : List Bool). nulled d at r) (sym (reverse_same m true) ∙ ap (λ (r : List Bool). reverse r) (sym (low_all m x z))) ∙ s.written

@@ -6,7 +6,7 @@ use Prim.Native.Nat.{ℕ, zero, suc, ◌+◌, ◌-◌, ◌*◌, ◌≤◌, ◌<�
 use native.Mathlib.Omega.{arith}
 use borrow.Author.Tests.{ne_eqb}
 use lib.IntN.{ℤ, pos}
-use lib.ListN.{length, get_or, set, replicate, length-set}
+use lib.ListN.{length, get_or, set, replicate}
 use lib.Seq.{sets, set-set, set_comm}
 use Rattle.bit_words.specs.Words.{low_bits}
 use Rattle.bitmap.specs.Push.{push_bits}
@@ -15,7 +15,7 @@ use Rattle.column.proofs.RowLaws.{is_val_elem, value_elem}
 use Rattle.column.specs.Put.{Writesˡ}
 use Rattle.model.proofs.TabLaws.{length-tab, map-tab, tab_ext, tab_split}
 use Rattle.model.specs.Basics.{pick, tab}
-use Rattle.model.specs.Bitmap.{from, bit_at, bytes_for, valid_at}
+use Rattle.model.specs.Bitmap.{from, bit_at, valid_at}
 use Rattle.model.specs.Column.{Elem, elem_at}
 use Rattle.model.specs.Form.{is_val, value_of, under_null}
 use Rattle.null_slots.specs.Nulled.{nulled}
@@ -23,15 +23,6 @@ use Rattle.runs.proofs.PlainLaws.{both_written, map_back}
 use Rattle.stores.proofs.StoreLaws.{length_back}
 
 -- ---- bit after bit
-
-pub length-pick : (b : Bool) (d : List ℤ) (k : ℕ) → length (pick b d (set d k under_null)) ≡ length d
-length-pick true d k = refl
-length-pick false d k = length-set d k under_null
-
-pub length-nulled : (bs : List Bool) (d : List ℤ) (k : ℕ) → length (nulled d k bs) ≡ length d
-unfolding nulled
-length-nulled [] d k = refl
-length-nulled (b ∷ bs) d k = length-nulled bs (pick b d (set d k under_null)) (suc k) ∙ length-pick b d k
 
 -- bits after bits
 pub nulled-append : (xs ys : List Bool) (d : List ℤ) (k : ℕ) → nulled d k (xs ++ ys) ≡ nulled (nulled d k xs) (k + length xs) ys
@@ -74,110 +65,65 @@ nulled_both [] xs d k i = refl
 nulled_both (true ∷ ys) xs d k i = nulled_both ys xs d k (suc i)
 nulled_both (false ∷ ys) xs d k i = rw (nulled-set xs d k i) (nulled_both ys xs (set d i under_null) k (suc i))
 
--- ---- so many bits at a time, whole bytes of them
-
--- what is left to write of the n bits from bit s of byte k on: left bits from bit s of byte j on, from place p on
-pub record Nulling (bits : List ℕ) (k s n : ℕ) (d₀ : List ℤ) (at : ℕ) (d : List ℤ) (j p left : ℕ) : Type 0 where
-  pub written : nulled d p (tab (bit_at bits) (8 * j + s) left) ≡ nulled d₀ at (tab (bit_at bits) (8 * k + s) n)
-  pub source : 8 * j + left ≡ 8 * k + n
-  pub place : p + left ≡ at + n
-  pub same : length d ≡ length d₀
+-- ---- so many bits at a time
 
 -- the next bits, and those after them
-tab-next : {A : Type 0} (f : ℕ → A) (j s e left : ℕ) → 8 * e ≤ left → tab f (8 * j + s) left ≡ tab f (8 * j + s) (8 * e) ++ tab f (8 * (j + e) + s) (left - 8 * e)
-tab-next f j s e left h =
-    let a : 8 * e + (left - 8 * e) ≡ left = omega arith in
-    let b : 8 * j + s + 8 * e ≡ 8 * (j + e) + s = omega arith in
-    ap (λ (r : ℕ). tab f (8 * j + s) r) (sym a)
-    ∙ tab_split f (8 * j + s) (8 * e) (left - 8 * e)
-    ∙ ap (λ (r : ℕ). tab f (8 * j + s) (8 * e) ++ tab f r (left - 8 * e)) b
+tab-next : {A : Type 0} (f : ℕ → A) (q n done w : ℕ) → done + w ≤ n → tab f (q + done) (n - done) ≡ tab f (q + done) w ++ tab f (q + (done + w)) (n - (done + w))
+tab-next f q n done w h =
+    let a : n - done ≡ w + (n - (done + w)) = omega arith in
+    let b : q + (done + w) ≡ q + done + w = omega arith in
+    rw (a, b, tab_split f (q + done) w (n - (done + w)))
 
-module _ {bits : List ℕ} {k s n : ℕ} {d₀ : List ℤ} {at : ℕ} where
-  pub nulling_begun : Nulling bits k s n d₀ at d₀ k at n
-  nulling_begun = record { written = refl; source = refl; place = refl; same = refl }
+-- what is left to write of the n bits from bit q on, where so many are done
+pub record Nulling (bits : List ℕ) (q n : ℕ) (d₀ : List ℤ) (at : ℕ) (d : List ℤ) (done : ℕ) : Type 0 where
+  pub written : nulled d (at + done) (tab (bit_at bits) (q + done) (n - done)) ≡ nulled d₀ at (tab (bit_at bits) q n)
 
-  module _ {d : List ℤ} {j p left : ℕ} (o : Nulling bits k s n d₀ at d j p left) where
-    pub nulling_bytes : bytes_for (8 * k + s + n) ≤ length bits → bytes_for (8 * j + s + left) ≤ length bits
-    nulling_bytes h = let e : 8 * j + s + left ≡ 8 * k + s + n = omega (arith, o.source) in rw e h
+module _ {bits : List ℕ} {q n : ℕ} {d₀ : List ℤ} {at : ℕ} {d : List ℤ} {done : ℕ} (o : Nulling bits q n d₀ at d done) where
+  -- w bits more are written
+  pub nulling_more : (w x : ℕ) {p r more : ℕ} {d' : List ℤ} → done + w ≤ n → p ≡ at + done → r ≡ q + done → more ≡ done + w
+      → d' ≡ nulled d p (low_bits x w) → low_bits x w ≡ tab (bit_at bits) r w → Nulling bits q n d₀ at d' more
+  nulling_more w x {d' = d'} h a b c e v =
+      let f = bit_at bits in
+      let m : at + (done + w) ≡ at + done + w = omega arith in
+      let z : d' ≡ nulled d (at + done) (tab f (q + done) w) = rw (a, v, b) at e in
+      record {
+        written = rw (c, m)
+            (ap₂ (λ (r : List ℤ) (i : ℕ). nulled r (at + done + i) (tab f (q + (done + w)) (n - (done + w)))) z (sym (length-tab f (q + done) w))
+            ∙ sym (nulled-append (tab f (q + done) w) (tab f (q + (done + w)) (n - (done + w))) d (at + done))
+            ∙ ap (λ (r : List Bool). nulled d (at + done) r) (sym (tab-next f q n done w h))
+            ∙ o.written);
+      }
 
-    pub nulling_room : at + n ≤ length d₀ → p + left ≤ length d
-    nulling_room h = omega (arith, o.place, o.same)
-
-    -- the bits of e bytes are written
-    pub nulling_more : (e x : ℕ) {d' : List ℤ} → 8 * e ≤ left → d' ≡ nulled d p (low_bits x (8 * e)) → low_bits x (8 * e) ≡ tab (bit_at bits) (8 * j + s) (8 * e)
-        → Nulling bits k s n d₀ at d' (j + e) (p + 8 * e) (left - 8 * e)
-    nulling_more e x {d'} h w b =
-        let f = bit_at bits in
-        let q : d' ≡ nulled d p (tab f (8 * j + s) (8 * e)) = w ∙ ap (λ (r : List Bool). nulled d p r) b in
-        record {
-          written =
-              ap₂ (λ (r : List ℤ) (i : ℕ). nulled r (p + i) (tab f (8 * (j + e) + s) (left - 8 * e))) q (sym (length-tab f (8 * j + s) (8 * e)))
-              ∙ sym (nulled-append (tab f (8 * j + s) (8 * e)) (tab f (8 * (j + e) + s) (left - 8 * e)) d p)
-              ∙ ap (λ (r : List Bool). nulled d p r) (sym (tab-next f j s e left h))
-              ∙ o.written;
-          source = omega (arith, o.source);
-          place = omega (arith, o.place);
-          same = ap length q ∙ length-nulled (tab f (8 * j + s) (8 * e)) d p ∙ o.same;
-        }
-
-    -- those that are left are written
-    pub nulling_rest : {d' : List ℤ} → d' ≡ nulled d p (tab (bit_at bits) (8 * j + s) left) → d' ≡ nulled d₀ at (tab (bit_at bits) (8 * k + s) n)
-    nulling_rest w = w ∙ o.written
-
-    pub nulling_last : (x : ℕ) {d' : List ℤ} → d' ≡ nulled d p (low_bits x left) → low_bits x left ≡ tab (bit_at bits) (8 * j + s) left → d' ≡ nulled d₀ at (tab (bit_at bits) (8 * k + s) n)
-    nulling_last x w b = nulling_rest (w ∙ ap (λ (r : List Bool). nulled d p r) b)
-
-    pub nulling_none : left ≡ 0 → d ≡ nulled d₀ at (tab (bit_at bits) (8 * k + s) n)
-    unfolding nulled tab
-    nulling_none z = rw z at o.written
+  pub nulling_done : done ≡ n → d ≡ nulled d₀ at (tab (bit_at bits) q n)
+  unfolding nulled tab
+  nulling_done z = let k : n - done ≡ 0 = omega arith in rw k at o.written
 
 -- the same, the last place first
-pub record NullingBack (bits : List ℕ) (k s n : ℕ) (d₀ : List ℤ) (at : ℕ) (d : List ℤ) (j left : ℕ) : Type 0 where
-  pub written : nulled d at (reverse (tab (bit_at bits) (8 * j + s) left)) ≡ nulled d₀ at (reverse (tab (bit_at bits) (8 * k + s) n))
-  pub source : 8 * j + left ≡ 8 * k + n
-  pub fewer : left ≤ n
-  pub same : length d ≡ length d₀
+pub record NullingBack (bits : List ℕ) (q n : ℕ) (d₀ : List ℤ) (at : ℕ) (d : List ℤ) (done : ℕ) : Type 0 where
+  pub written : nulled d at (reverse (tab (bit_at bits) (q + done) (n - done))) ≡ nulled d₀ at (reverse (tab (bit_at bits) q n))
 
-module _ {bits : List ℕ} {k s n : ℕ} {d₀ : List ℤ} {at : ℕ} where
-  pub turning_begun : NullingBack bits k s n d₀ at d₀ k n
-  turning_begun = record { written = refl; source = refl; fewer = omega arith; same = refl }
+module _ {bits : List ℕ} {q n : ℕ} {d₀ : List ℤ} {at : ℕ} {d : List ℤ} {done : ℕ} (o : NullingBack bits q n d₀ at d done) where
+  pub turning_more : (w x : ℕ) {p r more : ℕ} {d' : List ℤ} → done + w ≤ n → p ≡ at + (n - (done + w)) → r ≡ q + done → more ≡ done + w
+      → d' ≡ nulled d p (reverse (low_bits x w)) → low_bits x w ≡ tab (bit_at bits) r w → NullingBack bits q n d₀ at d' more
+  turning_more w x {d' = d'} h a b c e v =
+      let f = bit_at bits in
+      let left = n - (done + w) in
+      let xs = tab f (q + done) w in
+      let ys = tab f (q + (done + w)) left in
+      let z : d' ≡ nulled d (at + left) (reverse xs) = rw (a, v, b) at e in
+      record {
+        written = rw c
+            (ap (λ (r : List ℤ). nulled r at (reverse ys)) z
+            ∙ sym (nulled_both (reverse xs) (reverse ys) d at (at + left))
+            ∙ ap (λ (r : ℕ). nulled (nulled d at (reverse ys)) (at + r) (reverse xs)) (sym (length_back f (q + (done + w)) left))
+            ∙ sym (nulled-append (reverse ys) (reverse xs) d at)
+            ∙ ap (λ (r : List Bool). nulled d at r) (sym (reverse-append xs ys) ∙ ap (λ (r : List Bool). reverse r) (sym (tab-next f q n done w h)))
+            ∙ o.written);
+      }
 
-  module _ {d : List ℤ} {j left : ℕ} (o : NullingBack bits k s n d₀ at d j left) where
-    pub turning_bytes : bytes_for (8 * k + s + n) ≤ length bits → bytes_for (8 * j + s + left) ≤ length bits
-    turning_bytes h = let e : 8 * j + s + left ≡ 8 * k + s + n = omega (arith, o.source) in rw e h
-
-    pub turning_room : at + n ≤ length d₀ → at + left ≤ length d
-    turning_room h = omega (arith, o.fewer, o.same)
-
-    pub turning_more : (e x : ℕ) {d' : List ℤ} → 8 * e ≤ left → d' ≡ nulled d (at + (left - 8 * e)) (reverse (low_bits x (8 * e))) → low_bits x (8 * e) ≡ tab (bit_at bits) (8 * j + s) (8 * e)
-        → NullingBack bits k s n d₀ at d' (j + e) (left - 8 * e)
-    turning_more e x {d'} h w b =
-        let f = bit_at bits in
-        let xs = tab f (8 * j + s) (8 * e) in
-        let ys = tab f (8 * (j + e) + s) (left - 8 * e) in
-        let q : d' ≡ nulled d (at + (left - 8 * e)) (reverse xs) = w ∙ ap (λ (r : List Bool). nulled d (at + (left - 8 * e)) (reverse r)) b in
-        record {
-          written =
-              ap (λ (r : List ℤ). nulled r at (reverse ys)) q
-              ∙ sym (nulled_both (reverse xs) (reverse ys) d at (at + (left - 8 * e)))
-              ∙ ap (λ (r : ℕ). nulled (nulled d at (reverse ys)) (at + r) (reverse xs)) (sym (length_back f (8 * (j + e) + s) (left - 8 * e)))
-              ∙ sym (nulled-append (reverse ys) (reverse xs) d at)
-              ∙ ap (λ (r : List Bool). nulled d at r) (sym (reverse-append xs ys) ∙ ap (λ (r : List Bool). reverse r) (sym (tab-next f j s e left h)))
-              ∙ o.written;
-          source = omega (arith, o.source);
-          fewer = omega (arith, o.fewer);
-          same = ap length q ∙ length-nulled (reverse xs) d (at + (left - 8 * e)) ∙ o.same;
-        }
-
-    pub turning_rest : {d' : List ℤ} → d' ≡ nulled d at (reverse (tab (bit_at bits) (8 * j + s) left)) → d' ≡ nulled d₀ at (reverse (tab (bit_at bits) (8 * k + s) n))
-    turning_rest w = w ∙ o.written
-
-    pub turning_last : (x : ℕ) {d' : List ℤ} → d' ≡ nulled d at (reverse (low_bits x left)) → low_bits x left ≡ tab (bit_at bits) (8 * j + s) left → d' ≡ nulled d₀ at (reverse (tab (bit_at bits) (8 * k + s) n))
-    turning_last x w b = turning_rest (w ∙ ap (λ (r : List Bool). nulled d at (reverse r)) b)
-
-    pub turning_none : left ≡ 0 → d ≡ nulled d₀ at (reverse (tab (bit_at bits) (8 * k + s) n))
-    unfolding nulled tab
-    turning_none z = rw z at o.written
+  pub turning_done : done ≡ n → d ≡ nulled d₀ at (reverse (tab (bit_at bits) q n))
+  unfolding nulled tab
+  turning_done z = let k : n - done ≡ 0 = omega arith in rw k at o.written
 
 -- ---- values stored, and then what null slots hold
 

@@ -15,10 +15,7 @@ fn flipped(word: u64, m: usize) -> u64
     ensures m_value { map not (low_bits result m) ≡ low_bits word m }
     ensures upper_bound { result < 2 ^ m }
 {
-    if m == 64 {
-        return !word;
-    }
-    (!word) & ((1u64 << (m as u64)) - 1)
+    !word & !u64::MAX.unbounded_shl(m as u32)
 }
 
 // Writes what a null slot holds at each of the m places from place at on whose bit is 0.
@@ -28,29 +25,25 @@ pub fn put_few(word: u64, m: usize, out: &mut [i64], at: usize)
     ensures { out.new ≡ nulled out.old at (low_bits word m) }
 {
     let mut marks = flipped(word, m);
-    let mut k = at;
+    // For speed the loop visits the nulls alone, and not each of the m places.
     while marks != 0 {
-        let j = u64::trailing_zeros(marks);
-        k += j as usize;
-        out[k] = elements::UNDER_NULL;
-        k += 1;
-        marks = (marks >> (j as u64)) >> 1;
+        let j = marks.trailing_zeros() as usize;
+        out[at + j] = elements::UNDER_NULL;
+        marks &= marks - 1;
     }
 }
 
-// The same, the last bit's place first.
+// The same, the last bit's place first; one body for both, given the place by a closure, is no plainer.
 fn put_few_back(word: u64, m: usize, out: &mut [i64], at: usize)
     requires m_bound { m ≤ 64 }
     requires m_in_bounds { at + m ≤ length out.old }
     ensures { out.new ≡ nulled out.old at (reverse (low_bits word m)) }
 {
     let mut marks = flipped(word, m);
-    let mut k = at + m;
     while marks != 0 {
-        let j = u64::trailing_zeros(marks);
-        k -= j as usize + 1;
-        out[k] = elements::UNDER_NULL;
-        marks = (marks >> (j as u64)) >> 1;
+        let j = marks.trailing_zeros() as usize;
+        out[at + (m - 1 - j)] = elements::UNDER_NULL;
+        marks &= marks - 1;
     }
 }
 
@@ -61,19 +54,17 @@ fn put_eights(bits: &[u8], k: usize, s: usize, n: usize, out: &mut [i64], at: us
     requires n_in_bounds_2 { at + n ≤ length out.old }
     ensures { out.new ≡ nulled out.old at (tab (bit_at bits.now) (8 * k + s) n) }
 {
-    let mut j = k;
-    let mut p = at;
-    let mut left = n;
-    while 8 < left {
-        put_few(bit_runs::few_at(bits, j, s, 8) as u64, 8, out, p);
-        j += 1;
-        p += 8;
-        left -= 8;
+    let eights = n / 8;
+    for i in 0..eights {
+        let few = bit_runs::few_at(bits, k + i, s, 8);
+        put_few(u64::from(few), 8, out, at + 8 * i);
     }
+    let left = n % 8;
     if left == 0 {
         return;
     }
-    put_few(bit_runs::few_at(bits, j, s, left) as u64, left, out, p);
+    let few = bit_runs::few_at(bits, k + eights, s, left);
+    put_few(u64::from(few), left, out, at + 8 * eights);
 }
 
 // The same, sixty-four bits at a time, and then eight.
@@ -83,16 +74,12 @@ pub fn put_nulls(bits: &[u8], k: usize, s: usize, n: usize, out: &mut [i64], at:
     requires n_in_bounds_2 { at + n ≤ length out.old }
     ensures { out.new ≡ nulled out.old at (tab (bit_at bits.now) (8 * k + s) n) }
 {
-    let mut j = k;
-    let mut p = at;
-    let mut left = n;
-    while 64 <= left {
-        put_few(bit_words::word_from(bits, j, s), 64, out, p);
-        j += 8;
-        p += 64;
-        left -= 64;
+    let words = n / 64;
+    for i in 0..words {
+        let word = bit_words::word_from(bits, k + 8 * i, s);
+        put_few(word, 64, out, at + 64 * i);
     }
-    put_eights(bits, j, s, left, out, p);
+    put_eights(bits, k + 8 * words, s, n % 64, out, at + 64 * words);
 }
 
 // The places of nulls from place at on where the bits stand last first, eight bits at a time.
@@ -102,17 +89,17 @@ fn put_eights_back(bits: &[u8], k: usize, s: usize, n: usize, out: &mut [i64], a
     requires n_in_bounds_2 { at + n ≤ length out.old }
     ensures { out.new ≡ nulled out.old at (reverse (tab (bit_at bits.now) (8 * k + s) n)) }
 {
-    let mut j = k;
-    let mut left = n;
-    while 8 < left {
-        left -= 8;
-        put_few_back(bit_runs::few_at(bits, j, s, 8) as u64, 8, out, at + left);
-        j += 1;
+    let eights = n / 8;
+    for i in 0..eights {
+        let few = bit_runs::few_at(bits, k + i, s, 8);
+        put_few_back(u64::from(few), 8, out, at + (n - 8 - 8 * i));
     }
+    let left = n % 8;
     if left == 0 {
         return;
     }
-    put_few_back(bit_runs::few_at(bits, j, s, left) as u64, left, out, at);
+    let few = bit_runs::few_at(bits, k + eights, s, left);
+    put_few_back(u64::from(few), left, out, at);
 }
 
 // The same, sixty-four bits at a time, and then eight.
@@ -122,12 +109,10 @@ pub fn put_nulls_back(bits: &[u8], k: usize, s: usize, n: usize, out: &mut [i64]
     requires n_in_bounds_2 { at + n ≤ length out.old }
     ensures { out.new ≡ nulled out.old at (reverse (tab (bit_at bits.now) (8 * k + s) n)) }
 {
-    let mut j = k;
-    let mut left = n;
-    while 64 <= left {
-        left -= 64;
-        put_few_back(bit_words::word_from(bits, j, s), 64, out, at + left);
-        j += 8;
+    let words = n / 64;
+    for i in 0..words {
+        let next = bit_words::word_from(bits, k + 8 * i, s);
+        put_few_back(next, 64, out, at + (n - 64 - 64 * i));
     }
-    put_eights_back(bits, j, s, left, out, at);
+    put_eights_back(bits, k + 8 * words, s, n % 64, out, at);
 }

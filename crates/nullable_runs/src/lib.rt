@@ -37,7 +37,7 @@ fn put_short(
     ensures out_elements_after { out_elements.new ≡ push_bits out_elements.old at (tab (bit_at bits.now) (8 * k + s) n) }
 {
     let few = bit_runs::few_at(bits, k, s, n);
-    null_slots::put_few(few as u64, n, out_values, at);
+    null_slots::put_few(u64::from(few), n, out_values, at);
     bit_runs::push_few(out_elements, at, few, n);
 }
 

@@ -20,10 +20,7 @@ fn column_values(used: bool, args: &[i64], a: usize, n: usize) -> &[i64]
     requires { a + pick used n 0 ≤ length args.now }
     ensures { result.now ≡ take (pick used n 0) (drop a args.now) }
 {
-    if used {
-        return &args[a..a + n];
-    }
-    &args[a..a]
+    if used { &args[a..a + n] } else { &args[a..a] }
 }
 
 // An operation on the carried list of n rows, its argument columns cut out of the one slice that they lie in, pitch values apart.
@@ -42,8 +39,7 @@ pub fn one_list(
     requires uses { Uses op pitch n first second third (length args.now) }
     ensures { ListAnswersAt width (after_three (limits_at width) (call_of op (rows_of (lent_at width offsets large rows rstart values elements estart)) (column_at (shown_by (lent_arguments_from args bits start)) pitch n first) (column_at (shown_by (lent_arguments_from args bits start)) pitch n second) (column_at (shown_by (lent_arguments_from args bits start)) pitch n third))) result out_offsets out_large out_rows out_values out_elements }
 {
-    let t = ops::takes(op);
-    let k = t.columns;
+    let k = ops::takes(op).columns;
     let a = first * pitch;
     let b = second * pitch;
     let c = third * pitch;

@@ -1,1 +1,2 @@
+pub mod RowOp
 pub mod Ops

@@ -1,25 +1,18 @@
 -- The operations on one list, and what each does to one row once the row's arguments are read.
-use Rattle.std.specs.Prelude.{ℕ, Bool, true, false, List, [], eqb, pos}
+use Rattle.std.specs.Prelude.{ℤ, Option, None, Some, Ok, Err, ℕ, Bool, true, false, List, [], eqb}
+use Rattle.model.specs.Answers.{number_of}
 use Rattle.model.specs.Basics.{pick, absent, given}
 use Rattle.model.specs.Column.{Elem, null_row, list_row, count}
 use Rattle.model.specs.Elements.{unary_elems, resized, replaced, removed}
 use Rattle.model.specs.Limits.{Limits}
 use Rattle.model.specs.Rows.{ListCall, unary, slice, resize, replace, remove, Made, refuses, makes}
 use Rattle.model.specs.Slice.{slice_plan, sliced}
-use Rattle.index.specs.Plan.{plan_of, stride_in}
-use Rattle.index.specs.declared.slice.SlicePlan.{SlicePlan}
-use Rattle.index.specs.declared.slice.SlicePlan.TheVariants as P
-use Rattle.index.specs.declared.slice.Stride.{Stride}
-use Rattle.index.specs.declared.slice.Stride.TheVariants as S
-use Rattle.rows.specs.Cells.{elem_of, fill_elem}
-use Rattle.rows.specs.declared.Cell.{Cell}
-use Rattle.rows.specs.declared.Cell.TheVariants as C
-use Rattle.rows.specs.declared.Fill.{Fill}
-use Rattle.rows.specs.declared.Fill.TheVariants as F
+use Rattle.index.specs.Plan.{SlicePlan, plan_of, stride_in}
+use Rattle.rows.specs.Cells.{Cell, Fill, elem_of, fill_elem}
 use Rattle.ops.specs.declared.ListOp.{ListOp}
 use Rattle.ops.specs.declared.ListOp.TheVariants as L
-use Rattle.ops.specs.declared.RowOp.{RowOp}
-use Rattle.ops.specs.declared.RowOp.TheVariants as R
+use Rattle.ops.specs.RowOp.{RowOp}
+use Rattle.ops.specs.RowOp as R
 use Rattle.ops.specs.declared.Arity.{Arity}
 
 -- the call that an operation makes of a list and of the argument columns that it takes
@@ -59,39 +52,39 @@ abbrev pub is_resize : ListOp → Bool
 is_resize op = (table op).resize
 
 unfoldable pub plan_op : SlicePlan → RowOp
-plan_op P.Empty = R.Empty
-plan_op (P.Steps a s n) = R.Steps a s n
-plan_op (P.Refused k) = R.Refused k
+plan_op (Ok None) = R.Empty
+plan_op (Ok (Some s)) = R.Steps s.start s.stride s.count
+plan_op (Err k) = R.Refused (number_of k)
 
-unfoldable pub slice_op : Limits → ℕ → Cell → Cell → Stride → RowOp
-slice_op lim n C.Null t s = R.Null
-slice_op lim n (C.Value f) C.Null s = R.Null
-slice_op lim n (C.Value f) (C.Value t) s = plan_op (plan_of (slice_plan lim n f t (stride_in s)))
+unfoldable pub slice_op : Limits → ℕ → Cell → Cell → Option ℤ → RowOp
+slice_op lim n None t s = R.Null
+slice_op lim n (Some f) None s = R.Null
+slice_op lim n (Some f) (Some t) s = plan_op (plan_of (slice_plan lim n f t (stride_in s)))
 
 unfoldable pub stride_op : Limits → ℕ → Cell → Cell → Cell → RowOp
-stride_op lim n f t C.Null = R.Null
-stride_op lim n f t (C.Value s) = slice_op lim n f t (S.By s)
+stride_op lim n f t None = R.Null
+stride_op lim n f t (Some s) = slice_op lim n f t (Some s)
 
 unfoldable pub resize_op : Cell → Fill → RowOp
-resize_op C.Null f = R.Null
-resize_op (C.Value n) f = R.Resized (count n) f
+resize_op None f = R.Null
+resize_op (Some n) f = R.Resized (count n) f
 
 unfoldable pub replace_op : Cell → Cell → Cell → RowOp
-replace_op f t C.Null = R.Null
-replace_op f t (C.Value n) = R.Replaced f t (count n)
+replace_op f t None = R.Null
+replace_op f t (Some n) = R.Replaced f t (count n)
 
 unfoldable pub remove_op : Cell → Cell → RowOp
-remove_op C.Null n = R.Null
-remove_op (C.Value v) C.Null = R.Null
-remove_op (C.Value v) (C.Value n) = R.Removed (C.Value v) (count n)
+remove_op None n = R.Null
+remove_op (Some v) None = R.Null
+remove_op (Some v) (Some n) = R.Removed (Some v) (count n)
 
 -- what is done to a valid row of n elements
 unfoldable pub valid_op : Limits → ListOp → ℕ → Cell → Cell → Cell → RowOp
 valid_op lim (L.Plain u) n x y z = R.Plain u
-valid_op lim L.Slice n x y z = slice_op lim n x y S.Absent
+valid_op lim L.Slice n x y z = slice_op lim n x y None
 valid_op lim L.SliceBy n x y z = stride_op lim n x y z
-valid_op lim L.Resize n x y z = resize_op x F.Absent
-valid_op lim L.ResizeWith n x y z = resize_op x (F.Own y)
+valid_op lim L.Resize n x y z = resize_op x None
+valid_op lim L.ResizeWith n x y z = resize_op x (Some y)
 valid_op lim L.Replace n x y z = replace_op x y z
 valid_op lim L.Remove n x y z = remove_op x y
 

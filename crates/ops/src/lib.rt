@@ -5,7 +5,6 @@ ghost use Rattle.ops.specs.Ops.{table};
 ghost use Rattle.std.specs.Prelude.{◌≡◌};
 
 use model::Unary;
-use rows::{Cell, Fill};
 
 // The operations on one list, by the arguments that they take.
 #[derive(Clone, Copy)]
@@ -25,34 +24,6 @@ pub enum ListOp {
     Remove,
 }
 
-// What is done to a row.
-#[derive(Clone, Copy)]
-pub enum RowOp {
-    // The row becomes null.
-    Null,
-    Refused(u8),
-    Plain(Unary),
-    Empty,
-    Steps {
-        start: usize,
-        stride: i64,
-        count: usize,
-    },
-    Resized {
-        count: usize,
-        fill: Fill,
-    },
-    Replaced {
-        from: Cell,
-        to: Cell,
-        limit: usize,
-    },
-    Removed {
-        element: Cell,
-        limit: usize,
-    },
-}
-
 // What an operation takes of its argument columns.
 #[derive(Clone, Copy)]
 pub struct Arity {
@@ -65,6 +36,7 @@ pub struct Arity {
 }
 
 // The table of what each operation takes.
+#[tactic(auto, unfolding(crate::specs::Ops::table))]
 pub fn takes(op: ListOp) -> Arity
     ensures { result ≡ table op }
 {

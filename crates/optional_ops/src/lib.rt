@@ -7,6 +7,7 @@ ghost use Rattle.std.specs.Prelude.{◌≡◌};
 use model::Optional;
 use ops::ListOp;
 
+#[tactic(auto, unfolding(crate::specs::Made::slice_by))]
 pub fn slice_by(stride: Optional) -> ListOp
     ensures { result ≡ slice_by stride }
 {
@@ -16,6 +17,7 @@ pub fn slice_by(stride: Optional) -> ListOp
     }
 }
 
+#[tactic(auto, unfolding(crate::specs::Made::resize_by))]
 pub fn resize_by(fill: Optional) -> ListOp
     ensures { result ≡ resize_by fill }
 {

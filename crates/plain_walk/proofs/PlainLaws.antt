@@ -12,7 +12,7 @@ use Rattle.model.specs.Column.{Elem, Row, Column, Arguments, elem_at, offset_at,
 use Rattle.model.specs.Elements.{unary_elems}
 use Rattle.model.specs.Form.{elems_of, flat}
 use Rattle.model.specs.Limits.{Limits}
-use Rattle.model.specs.Outcome.{made, gate}
+use Rattle.model.specs.Outcome.{made}
 use Rattle.model.specs.Refusals.{first_of, refusal_of}
 use Rattle.model.specs.Rows.{row_made}
 use Rattle.model.specs.declared.Unary.{Unary}
@@ -23,10 +23,8 @@ use Rattle.column.proofs.RowLaws.{elem_plain}
 use Rattle.set_elements.proofs.ElementLaws.{unary_le}
 use Rattle.ops.specs.Ops.{row_op_of, valid_op, op_elems, op_made}
 use Rattle.ops.specs.declared.ListOp.TheVariants as L
-use Rattle.ops.specs.declared.RowOp.TheVariants as R
+use Rattle.ops.specs.RowOp as R
 use Rattle.arguments.specs.Taken.{op_at}
-use Rattle.sums.specs.Sums.{measure_of}
-use Rattle.sums.specs.declared.Measure.TheVariants as M
 use Rattle.made_rows.specs.Made.{made_from, made_at, row_made_at, refusal_at, call_rows, rows_measure}
 use Rattle.made_rows.proofs.CallLaws.{rows_at, room_at}
 use Rattle.bare_walk.specs.Bare.{bare_elem, bare_elems, bare_at, bare_rows}
@@ -92,8 +90,8 @@ module _ (N : Limits) (u : Unary) (c : Column) where
   unfolding made_at made_from op_at row_op_of valid_op
   refuses-none x y z r = plain-refuses (valid_at c.rows r) u _
 
-  pub plain_measure : (x y z : Arguments) → rows_measure N (L.Plain u) c x y z ≡ M.Sum (length (flat (plain_rows N u c)))
-  unfolding rows_measure measure_of
+  pub plain_measure : (x y z : Arguments) → rows_measure N (L.Plain u) c x y z ≡ made (length (flat (plain_rows N u c)))
+  unfolding rows_measure
   plain_measure x y z = rw (none_first (refusal_at N (L.Plain u) c x y z) (refuses-none x y z) 0 (row_count c.offsets), gate_open 0 (made (length (flat (call_rows N (L.Plain u) c x y z)))) refl, plain-any x y z)
 
   -- ---- where no bitmap is lent

@@ -47,17 +47,13 @@ pub fn measure_rows(
     let n = widths::row_count(width, offsets, large);
     let mut a = widths::first_offset(width, offsets, large);
     let mut found: usize = 0;
-    let mut r: usize = 0;
-    let mut left = n;
-    while 0 < left {
+    for r in 0..n {
         let b = widths::offset_at(width, offsets, large, r + 1);
         let len = b - a;
         let valid = bitmap::is_valid(rows, rstart, r, n);
         let more = measure_row(op, valid, values, elements, estart, a, len);
         found += more;
         a = b;
-        r += 1;
-        left -= 1;
     }
     found
 }

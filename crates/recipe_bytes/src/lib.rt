@@ -13,7 +13,7 @@ ghost use Rattle.wire.specs.Bytes.{nats};
 
 use entry::{inputs, sizes};
 use tally::{RecipeAnswer, Tally};
-use wire::fill_u32;
+use wire::fill;
 
 // Of a recipe: 33 steps, one more than it may have, so that of a longer one these are as malformed as all.
 const MOST_NUMBERS: usize = 132;
@@ -22,13 +22,11 @@ const MOST_NUMBERS: usize = 132;
 pub const MOST_ARGUMENTS: usize = 32768;
 
 // How many of a recipe's numbers are decoded, of those in so many bytes.
+#[tactic(auto, unfolding(crate::specs::Inner::numbers_taken))]
 fn numbers_taken(bytes: usize) -> usize
     ensures { result ≡ numbers_taken bytes }
 {
-    if MOST_NUMBERS < bytes / 4 {
-        return MOST_NUMBERS;
-    }
-    bytes / 4
+    (bytes / 4).min(MOST_NUMBERS)
 }
 
 // The recipe's own numbers, decoded at the front of ns.
@@ -37,7 +35,7 @@ fn get_numbers(numbers: &[u8], ns: &mut [u32])
     ensures { take (numbers_taken (length numbers.now)) ns.new ≡ take (numbers_taken (length numbers.now)) (nats 4 numbers.now) }
 {
     let n = numbers_taken(numbers.len());
-    fill_u32(&numbers[..n * 4], ns);
+    fill(&numbers[..n * 4], ns);
 }
 
 // Decodes the inputs, and runs the recipe with room for mo offsets in o and mv values in v. Tray one has ho offsets and hv values, tray

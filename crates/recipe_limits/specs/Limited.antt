@@ -7,7 +7,7 @@ use Rattle.model.specs.Column.{Arguments, elem_at}
 use Rattle.model.specs.Lengths.{TrayLimits, tray_limits}
 use Rattle.model.specs.Recipe.{Step, step_at}
 use Rattle.model.specs.Refusals.{times_of, total}
-use Rattle.recipe_limits.specs.declared.limits.Trays.{Trays}
+use Rattle.model.specs.declared.TrayElements.{TrayElements}
 
 -- "its valid counts above zero over rows valid in the first list": row r's, of the column that begins at value a
 unfoldable pub count_at : Bits → Arguments → ℕ → ℕ → ℕ
@@ -40,5 +40,5 @@ pub record StepsThere (numbers : List ℕ) (n len k left : ℕ) : Type 0 where
   pub counted : (j : ℕ) → j < left → Counted (step_at numbers (k + j)) n len
 
 -- the limits that the code answers
-abbrev pub limits_in : Trays → TrayLimits
+abbrev pub limits_in : TrayElements → TrayLimits
 limits_in t = tray_limits t.one t.two t.output

@@ -13,7 +13,7 @@ ghost use Rattle.recipe_refusal.specs.Refused.{recipe};
 ghost use Rattle.std.specs.Prelude.{◌≡◌};
 
 use column::widths;
-use model::{RecipeLimits, Width};
+use model::{RecipeLimits, TrayElements, Width};
 
 // The most elements that tray one, tray two and the output need for a recipe, from row lengths, validity and arguments alone, or the
 // refusal, 10, 13, 1, 2 or 3, that its run would give before its steps. No limit passes 2147483647.
@@ -45,21 +45,18 @@ pub(crate) fn limits_at<'a>(
 ) -> RecipeLimits
     ensures { asked_recipe result ≡ recipe_limits (limits_at width) (recipe numbers.now columns) (lent_at width offsets large rows rows_start values elements elements_start) (lent_at width second_offsets second_large second_rows second_rows_start second_values second_elements second_elements_start) (lent_arguments_from arguments argument_bits argument_start) }
 {
-    let k = recipe_refusal::refusal(
+    recipe_refusal::refusal(
         numbers, columns,
         offsets, rows, rows_start, values, elements, elements_start,
         second_offsets, second_rows, second_rows_start, second_values, second_elements, second_elements_start,
         arguments, argument_bits, argument_start, width, large, second_large,
-    );
-    if k != 0 {
-        return RecipeLimits::Refused(k);
-    }
+    )?;
     let came = copy_rows::measure_rows(
         offsets, rows, rows_start, values, elements, elements_start, width, large,
     );
     let steps = numbers.len() / 4;
     if steps == 0 {
-        return RecipeLimits::Of { one: 0, two: 0, output: came };
+        return Ok(TrayElements { one: 0, two: 0, output: came });
     }
     let second = copy_rows::measure_rows(
         second_offsets, second_rows, second_rows_start, second_values, second_elements, second_elements_start,
@@ -67,10 +64,9 @@ pub(crate) fn limits_at<'a>(
     );
     let n = widths::row_count(width, offsets, large);
     let most = limits::largest_offset(width);
-    let t = limits::steps_limits(
+    Ok(limits::steps_limits(
         numbers, 0, steps,
         rows, rows_start, n, arguments, argument_bits, argument_start,
         second, came, most,
-    );
-    RecipeLimits::Of { one: t.one, two: t.two, output: t.output }
+    ))
 }

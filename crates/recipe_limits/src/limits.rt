@@ -1,5 +1,5 @@
 // The limits of a recipe's steps, over numbers; most is the largest offset.
-ghost use Rattle.std.specs.Prelude.{◌*◌, ◌+◌, ◌-◌, ◌<◌, ◌≤◌, max, min, length, ◌≡◌};
+ghost use Rattle.std.specs.Prelude.{◌*◌, ◌+◌, ◌-◌, ◌<◌, ◌≤◌, min, length, ◌≡◌};
 ghost use Rattle.bitmap.specs.Push.{Covers};
 ghost use Rattle.model.specs.Basics.{tab};
 ghost use Rattle.model.specs.Inner.{lent_arguments_from, lent_bits, now_bits};
@@ -7,15 +7,7 @@ ghost use Rattle.model.specs.Recipe.{step_at};
 ghost use Rattle.model.specs.Widths.{limits_at};
 ghost use Rattle.recipe_limits.specs.Limited.{StepsThere, count_at, counts_from, limit_at, limits_from, limits_in};
 
-use model::Width;
-
-// The limits of tray one, tray two and the output.
-#[derive(Clone, Copy)]
-pub struct Trays {
-    pub one: usize,
-    pub two: usize,
-    pub output: usize,
-}
+use model::{TrayElements, Width};
 
 // The largest offset of a width.
 pub fn largest_offset(width: Width) -> usize
@@ -29,27 +21,15 @@ pub fn largest_offset(width: Width) -> usize
 
 // The sum of two limits, which stops at the largest offset.
 fn plus(a: usize, b: usize, most: usize) -> usize
-    requires { a ≤ most }
     ensures { result ≡ min most (a + b) }
 {
-    if most - a < b {
-        return most;
-    }
-    a + b
-}
-
-fn greater(a: usize, b: usize) -> usize
-    ensures { result ≡ max a b }
-{
-    if a < b {
-        return b;
-    }
-    a
+    a.saturating_add(b).min(most)
 }
 
 // The count of row r of n, of the column that begins at value a: none for a row that is null in the first list, for a null count, or for one
 // at or below 0.
 #[rattlefmt::skip]
+#[tactic(auto, using(crate::proofs::LimitedLaws::null_count, crate::proofs::LimitedLaws::valid_count))]
 fn count_at(
     rows: &[u8], rstart: usize, n: usize,
     args: &[i64], bits: &[u8], start: usize, a: usize, r: usize,
@@ -78,19 +58,15 @@ fn counts_over(
     ensures { result ≡ min most (counts_from (lent_bits rows rstart) (lent_arguments_from args bits start) a n) }
 {
     let mut sum: usize = 0;
-    let mut r: usize = 0;
-    let mut left = n;
-    while 0 < left {
-        let count = count_at(rows, rstart, n, args, bits, start, a, r);
-        sum = plus(sum, count, most);
-        r += 1;
-        left -= 1;
+    for r in 0..n {
+        sum = plus(sum, count_at(rows, rstart, n, args, bits, start, a, r), most);
     }
     sum
 }
 
 // The limit of a step, from its code, its first column's number and what came in.
 #[rattlefmt::skip]
+#[tactic(auto, unfolding(crate::specs::Limited::limit_at))]
 fn step_limit(
     code: u32, first: u32,
     rows: &[u8], rstart: usize, n: usize, args: &[i64], bits: &[u8], start: usize,
@@ -118,7 +94,7 @@ pub fn steps_limits(
     numbers: &[u32], k: usize, left: usize,
     rows: &[u8], rstart: usize, n: usize, args: &[i64], bits: &[u8], start: usize,
     second: usize, came: usize, most: usize,
-) -> Trays
+) -> TrayElements
     requires steps { StepsThere numbers.now n (length args.now) k left }
     requires rows { Covers (now_bits rows rstart) n }
     requires bits { Covers (now_bits bits start) (length args.now) }
@@ -132,15 +108,15 @@ pub fn steps_limits(
         second, came, most,
     );
     if left == 1 {
-        return Trays { one: 0, two: 0, output: m };
+        return TrayElements { one: 0, two: 0, output: m };
     }
     let later = steps_limits(
         numbers, k + 1, left - 1,
         rows, rstart, n, args, bits, start,
         second, m, most,
     );
-    Trays {
-        one: greater(m, later.two),
+    TrayElements {
+        one: m.max(later.two),
         two: later.one,
         output: later.output,
     }

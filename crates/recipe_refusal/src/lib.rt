@@ -2,6 +2,7 @@
 #![tactic(auto)]
 
 ghost use Rattle.std.specs.Prelude.{◌*◌, ◌≤◌, eqb, length, not, ◌≡◌};
+ghost use Rattle.model.specs.Answers.{refused_by};
 ghost use Rattle.model.specs.Column.{row_count};
 ghost use Rattle.model.specs.Inner.{lent_arguments_from, lent_at};
 ghost use Rattle.model.specs.Widths.{entry_at};
@@ -9,7 +10,7 @@ ghost use Rattle.recipe_refusal.specs.Refused.{recipe, recipe_refusal};
 
 use codes::check;
 use column::widths;
-use model::Width;
+use model::{Refusal, Width};
 
 // Whether the arguments are not one value for each row in each column.
 fn is_wrong_length(
@@ -26,38 +27,35 @@ fn is_wrong_length(
     args.len() != columns * n
 }
 
-// 10 of the recipe, else 13, 1, 2 or 3 of the columns, else 0. The arguments' starting bit is tested even where there are no columns.
+// A malformed recipe, else a refusal of the columns: 13, 1, 2 or 3. The arguments' starting bit is tested even where there are no columns.
 #[rattlefmt::skip]
 pub fn refusal<'a>(
     numbers: &[u32], columns: usize,
     offsets: &[i32], rows: &[u8], rstart: usize, values: &'a [i64], elements: &[u8], estart: usize,
     roffsets: &[i32], rrows: &[u8], r_rstart: usize, rvalues: &'a [i64], relements: &[u8], r_estart: usize,
     args: &[i64], bits: &[u8], start: usize, width: Width, large: &[i64], rlarge: &[i64],
-) -> u8
-    ensures { result ≡ recipe_refusal (recipe numbers.now columns) (lent_at width offsets large rows rstart values elements estart) (lent_at width roffsets rlarge rrows r_rstart rvalues relements r_estart) (lent_arguments_from args bits start) }
+) -> Result<(), Refusal>
+    ensures { refused_by result ≡ recipe_refusal (recipe numbers.now columns) (lent_at width offsets large rows rstart values elements estart) (lent_at width roffsets rlarge rrows r_rstart rvalues relements r_estart) (lent_arguments_from args bits start) }
 {
     if check::is_malformed(numbers, columns) {
-        return 10;
+        return Err(Refusal::MalformedRecipe);
     }
     if 7 < start {
-        return 13;
+        return Err(Refusal::BadStartingBit);
     }
-    let k = set_checks::lists_refusal(
+    set_checks::lists_refusal(
         offsets, rows, rstart, values, elements, estart,
         roffsets, rrows, r_rstart, rvalues, relements, r_estart,
         width, large, rlarge,
-    );
-    if k != 0 {
-        return k;
-    }
+    )?;
     if bitmap::is_short(bits, start, args.len()) {
-        return 2;
+        return Err(Refusal::ShortBitmap);
     }
     if widths::row_count(width, offsets, large) != widths::row_count(width, roffsets, rlarge) {
-        return 3;
+        return Err(Refusal::RowCountsDiffer);
     }
     if is_wrong_length(offsets, args, columns, width, large) {
-        return 3;
+        return Err(Refusal::RowCountsDiffer);
     }
-    0
+    Ok(())
 }

@@ -34,18 +34,14 @@ pub fn measure_rows(
 {
     let n = widths::row_count(width, offsets, large);
     let mut found: usize = 0;
-    let mut r: usize = 0;
-    let mut left = n;
     let mut a = widths::first_offset(width, offsets, large);
-    while 0 < left {
+    for r in 0..n {
         let b = widths::offset_at(width, offsets, large, r + 1);
         let len = b - a;
         let limit = match_rows::limit_at(rows, rstart, n, ys, ybits, ystart, r);
         let element = taken::taken_at(true, false, xs, xbits, xstart, n, r);
         found += remove::measure_row(limit, element, values, elements, estart, a, len);
         a = b;
-        r += 1;
-        left -= 1;
     }
     found
 }

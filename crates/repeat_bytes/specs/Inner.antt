@@ -1,28 +1,27 @@
 -- What the inner functions ask of their callers and promise them.
-use Rattle.std.specs.Prelude.{ℕ, ◌+◌, ◌*◌, ◌≤◌, ◌≡◌, List, map, take, ℤ}
+use Rattle.std.specs.Prelude.{Ok, Err, ℕ, ◌+◌, ◌*◌, ◌≤◌, ◌≡◌, List, map, take, ℤ}
 use Rattle.model.specs.Bitmap.{pack}
 use Rattle.model.specs.Form.{RepeatRoom, Outer, is_outer, outer_length, inner, flat, over, offsets_from, form_offsets, form_rows, form_values, form_elements}
 use Rattle.model.specs.Outcome.{Outcome}
 use Rattle.model.specs.Call.{answer_of, written, repeat_counts}
 use Rattle.model.specs.Contract.{MutSlice, after, repeat_room, told_repeat}
-use Rattle.model.specs.declared.RepeatAnswer.{RepeatAnswer}
-use Rattle.model.specs.declared.RepeatAnswer.TheVariants as R
+use Rattle.model.specs.Answers.{RepeatAnswer}
 use Rattle.wire.specs.Bytes.{bytes_of4, bytes_of8, bytes_of_counts}
 use Rattle.entry.specs.Entry.{mut_size}
 use Rattle.entry.specs.Inner.{number_in, counts_in}
 
 -- the outer offsets, the inner offsets and the values that an answer counts
 unfoldable pub outer_slots : RepeatAnswer → ℕ
-outer_slots (R.Refused k) = 0
-outer_slots (R.Counts r e n m i j) = r + 1
+outer_slots (Err k) = 0
+outer_slots (Ok c) = c.rows + 1
 
 unfoldable pub inner_slots : RepeatAnswer → ℕ
-inner_slots (R.Refused k) = 0
-inner_slots (R.Counts r e n m i j) = i + 1
+inner_slots (Err k) = 0
+inner_slots (Ok c) = c.inner_rows + 1
 
 unfoldable pub value_slots : RepeatAnswer → ℕ
-value_slots (R.Refused k) = 0
-value_slots (R.Counts r e n m i j) = e
+value_slots (Err k) = 0
+value_slots (Ok c) = c.elements
 
 -- after list-repeat with room for m offsets, i inner offsets and n values, whose outcome is x: the numbers that the answer counts are at
 -- the fronts of o, io and v, however long; the bitmaps at entry and at exit

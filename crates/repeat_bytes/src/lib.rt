@@ -6,8 +6,8 @@ ghost use Rattle.model.specs.Form.{over};
 ghost use Rattle.repeat_bytes.specs.Inner.{RepeatReady, RepeatSent};
 ghost use Rattle.wire.specs.Bytes.{bytes_of_counts};
 
-use model::RepeatAnswer;
-use wire::{encode_i32, encode_i64, encode_u64};
+use model::{RepeatAnswer, RepeatCounts};
+use wire::encode;
 
 // The counts, at the front of `counts`.
 fn put_repeat_counts(
@@ -30,7 +30,7 @@ fn put_repeat_counts(
         inner_rows as u64,
         null_inner_rows as u64,
     ];
-    encode_u64(&c, counts);
+    encode(&c, counts);
 }
 
 // Of oo, io and ov, which the operation wrote, the slots that it counts. A refusal writes nothing.
@@ -48,20 +48,22 @@ pub fn put_repeat(
     ensures { RepeatSent answer result oo.now io.now ov.now out_offsets.old out_offsets.new inner_offsets.old inner_offsets.new out_values.old out_values.new counts.old counts.new }
 {
     match answer {
-        RepeatAnswer::Refused(k) => k as u32,
-        RepeatAnswer::Counts {
-            rows,
-            elements,
-            null_rows,
-            null_elements,
-            inner_rows,
-            null_inner_rows,
-        } => {
+        Err(refusal) => u32::from(refusal),
+        Ok(
+            RepeatCounts {
+                rows,
+                elements,
+                null_rows,
+                null_elements,
+                inner_rows,
+                null_inner_rows,
+            },
+        ) => {
             let n = rows + 1;
             let m = inner_rows + 1;
-            encode_i32(&oo[..n], out_offsets);
-            encode_i32(&io[..m], inner_offsets);
-            encode_i64(&ov[..elements], out_values);
+            encode(&oo[..n], out_offsets);
+            encode(&io[..m], inner_offsets);
+            encode(&ov[..elements], out_values);
             put_repeat_counts(
                 rows,
                 elements,

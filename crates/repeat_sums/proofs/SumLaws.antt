@@ -20,7 +20,8 @@ use Rattle.column.specs.Put.{Readable}
 use Rattle.column.specs.Rows.{len_from}
 use Rattle.column.proofs.OffsetLaws.{mono}
 use Rattle.repeat_sums.specs.Counts.{Rising, times_at, repeated_at, sums}
-use Rattle.repeat_sums.specs.declared.Sums.TheVariants.{Of, TooMany}
+use Rattle.model.specs.declared.Refusal.TheVariants.{TooMany}
+use Rattle.std.specs.Prelude.{Ok, Err}
 
 -- ---- the columns read
 
@@ -41,25 +42,6 @@ pub times_valid : (cs : List ℤ) (cb : Bits) (r : ℕ) → valid_at cb r ≡ tr
 unfolding times_at times_of elem_at
 times_valid cs cb r e = rw e
 
--- ---- a product, tested before it is made
-
--- of two factors of 32 bits
-pub product : (t l : ℕ) → t ≤ 4294967295 → l ≤ 4294967295 → t * l < 2 ^ 64
-product t l h k =
-    let m : t * l ≤ 4294967295 * 4294967295 = mul-le-mul h k in
-    omega arith
-
--- by a division, and where there is nothing to divide by
-pub none_over : (t l m : ℕ) → l ≡ 0 → false ≡ ltb m (t * l)
-none_over t l m e = let z : t * l ≡ 0 = rw e (omega arith) in sym (le-ltb m (t * l) (omega arith))
-
-pub quotient_under : (t l m : ℕ) → 0 < l → ltb (m / l) t ≡ ltb m (t * l)
-quotient_under t l m h = decided (ltb m (t * l)) refl
-  where
-    decided : (b : Bool) → ltb m (t * l) ≡ b → ltb (m / l) t ≡ b
-    decided true e = lt-ltb (m / l) t ((div-lt_iff_lt-mul {k = l} {x = m} {y = t} h).1 (ltb-true m (t * l) e))
-    decided false e = le-ltb (m / l) t ((le-div_iff_mul-le {k = l} {x = t} {y = m} h).1 (ltb-false m (t * l) e))
-
 -- ---- the sums
 
 total-step : (f : ℕ → ℕ) (r left : ℕ) → 0 < left → total (tab f r left) ≡ f r + total (tab f (r + 1) (left - 1))
@@ -75,15 +57,15 @@ or_right true = refl
 or_right false = refl
 
 module _ (L : Limits) where
-  lists-over : (t v : ℕ) → L.outer < t → TooMany ≡ sums L t v
+  lists-over : (t v : ℕ) → L.outer < t → Err TooMany ≡ sums L t v
   unfolding sums
   lists-over t v h = rw (lt-ltb L.outer t h)
 
-  values-over : (t v : ℕ) → L.repeated < v → TooMany ≡ sums L t v
+  values-over : (t v : ℕ) → L.repeated < v → Err TooMany ≡ sums L t v
   unfolding sums
   values-over t v h = rw (lt-ltb L.repeated v h, or_right (ltb L.outer t))
 
-  both_fit : (t v x y : ℕ) → x ≡ t → y ≡ v → x ≤ L.outer → y ≤ L.repeated → Of x y ≡ sums L t v
+  both_fit : (t v x y : ℕ) → x ≡ t → y ≡ v → x ≤ L.outer → y ≤ L.repeated → Ok (record { lists = x; values = y }) ≡ sums L t v
   unfolding sums
   both_fit t v x y e f h k = rw (← e, ← f, le-ltb L.outer x h, le-ltb L.repeated y k)
 
@@ -100,15 +82,15 @@ module _ (L : Limits) (T R : ℕ → ℕ) (n : ℕ) where
   sums_begun = record { times = omega arith; repeated = omega arith; rows = omega arith; few = omega arith; small = omega arith }
 
   module _ {lists values r left : ℕ} (s : Summing L T R n lists values r left) where
-    pub sums_done : left ≤ 0 → Of lists values ≡ sums L (total (tab T 0 n)) (total (tab R 0 n))
+    pub sums_done : left ≤ 0 → Ok (record { lists = lists; values = values }) ≡ sums L (total (tab T 0 n)) (total (tab R 0 n))
     sums_done h = both_fit L _ _ lists values (omega (arith, s.times, total-none T r left h)) (omega (arith, s.repeated, total-none R r left h)) s.few s.small
 
     module _ (t : ℕ) (h : 0 < left) (e : t ≡ T r) where
-      pub sums-many : L.outer - lists < t → TooMany ≡ sums L (total (tab T 0 n)) (total (tab R 0 n))
+      pub sums-many : L.outer - lists < t → Err TooMany ≡ sums L (total (tab T 0 n)) (total (tab R 0 n))
       sums-many k = lists-over L _ _ (omega (arith, s.times, total-step T r left h))
 
       module _ (v : ℕ) (f : v ≡ R r) where
-        pub sums_large : L.repeated - values < v → TooMany ≡ sums L (total (tab T 0 n)) (total (tab R 0 n))
+        pub sums_large : L.repeated - values < v → Err TooMany ≡ sums L (total (tab T 0 n)) (total (tab R 0 n))
         sums_large k = values-over L _ _ (omega (arith, s.repeated, total-step R r left h))
 
         pub sums-more : t ≤ L.outer - lists → v ≤ L.repeated - values → Summing L T R n (lists + t) (values + v) (r + 1) (left - 1)

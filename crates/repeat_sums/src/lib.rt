@@ -11,14 +11,14 @@ ghost use Rattle.model.specs.Widths.{entry_at, mut_entry_at, exit_at, limits_at,
 ghost use Rattle.repeat_sums.specs.Counts.{Rising, sums_of, times_at};
 
 use column::widths;
-use model::Width;
+use model::{Refusal, Width};
 use rows::utils;
 
-// What is summed: the outer lists and the values that they repeat, or that one of them exceeds its limit.
+// What is summed: the outer lists and the values that they repeat.
 #[derive(Clone, Copy)]
-pub enum Sums {
-    Of { lists: usize, values: usize },
-    TooMany,
+pub struct Sums {
+    pub lists: usize,
+    pub values: usize,
 }
 
 // How often row r of n is repeated: not at all for a null count or one at or below 0.
@@ -54,28 +54,11 @@ fn most_values(width: Width) -> usize
     }
 }
 
-// Whether a product is over a number, by a division.
-fn is_large_product_over(times: usize, len: usize, most: usize) -> bool
-    ensures { result ≡ ltb most (times * len) }
-{
-    if len == 0 {
-        return false;
-    }
-    most / len < times
-}
-
-// Whether a product is over a number: it is made where its factors have 32 bits, so that it does not wrap.
+// Whether a product is over a number; one that does not fit is.
 fn is_product_over(times: usize, len: usize, most: usize) -> bool
     ensures { result ≡ ltb most (times * len) }
 {
-    if 4294967295 < times {
-        return is_large_product_over(times, len, most);
-    }
-    if 4294967295 < len {
-        return is_large_product_over(times, len, most);
-    }
-    let product = times * len;
-    most < product
+    times.checked_mul(len).is_none_or(|product| most < product)
 }
 
 // Sums the outer lists, null ones among them, and the values that they repeat. A sum that exceeds its limit ends the walk.
@@ -88,7 +71,7 @@ pub fn sum_repeats(
     cstart: usize,
     width: Width,
     large: &[i64],
-) -> Sums
+) -> Result<Sums, Refusal>
     requires rising { Rising (used width offsets.now large.now) }
     requires covers { Covers (now_bits rows rstart) (row_count (used width offsets.now large.now)) }
     requires covers_2 { Covers (now_bits count_bits cstart) (row_count (used width offsets.now large.now)) }
@@ -100,27 +83,21 @@ pub fn sum_repeats(
     let value_limit = most_values(width);
     let mut lists: usize = 0;
     let mut values: usize = 0;
-    let mut r: usize = 0;
-    let mut left = n;
-    while 0 < left {
+    for r in 0..n {
         let times = repeat_count(counts, count_bits, cstart, n, r);
         if list_limit - lists < times {
-            return Sums::TooMany;
+            return Err(Refusal::TooMany);
         }
         let a = widths::offset_at(width, offsets, large, r);
         let b = widths::offset_at(width, offsets, large, r + 1);
         let len = column::rows::row_len(rows, rstart, n, r, a, b);
-        let room = value_limit - values;
-        if is_product_over(times, len, room) {
-            return Sums::TooMany;
+        if is_product_over(times, len, value_limit - values) {
+            return Err(Refusal::TooMany);
         }
-        let repeated = times * len;
         lists += times;
-        values += repeated;
-        r += 1;
-        left -= 1;
+        values += times * len;
     }
-    Sums::Of { lists, values }
+    Ok(Sums { lists, values })
 }
 
 // Writes outer row r of n, which ends after so many lists: its offset, and its bit, which is its count's.
@@ -143,8 +120,6 @@ pub fn put_outer(
     ensures out_large_value { exit_at width out_offsets out_large ≡ set (mut_entry_at width out_offsets out_large) (r + 1) (pos lists) }
     ensures out_rows_after { out_rows.new ≡ push_bit out_rows.old r (valid_at (lent_bits count_bits cstart) r) }
 {
-    let valid = bitmap::is_valid(count_bits, cstart, r, n);
-    bitmap::push_bit(out_rows, r, valid);
-    let next = r + 1;
-    widths::put_offset(width, out_offsets, out_large, next, lists);
+    bitmap::push_bit(out_rows, r, bitmap::is_valid(count_bits, cstart, r, n));
+    widths::put_offset(width, out_offsets, out_large, r + 1, lists);
 }

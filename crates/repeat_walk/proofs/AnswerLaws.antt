@@ -14,8 +14,9 @@ use Rattle.model.specs.Limits.{Limits}
 use Rattle.model.specs.Outcome.{Outcome, refused, made, fitted_repeat}
 use Rattle.model.specs.Call.{answer_of, written}
 use Rattle.model.specs.Contract.{told_repeat, RepeatMeets, room, repeat_room}
-use Rattle.model.specs.declared.RepeatAnswer.{RepeatAnswer}
-use Rattle.model.specs.declared.RepeatAnswer.TheVariants as R
+use Rattle.std.specs.Prelude.{Err}
+use Rattle.model.specs.Answers.{number_of, RepeatAnswer}
+use Rattle.model.specs.declared.Refusal.{Refusal}
 use Rattle.model.proofs.TabLaws.{length-map}
 use Rattle.bitmap.proofs.PackLaws.{counted-nulls}
 use Rattle.column.specs.Answers.{unset}
@@ -25,7 +26,7 @@ use Rattle.repeat_walk.specs.Repeats.{fits_counts, repeat_answer_from}
 use Rattle.model.proofs.BoolLaws.{and_true}
 
 -- a refusal changes no output
-pub repeat_refused : {x : Outcome (List Outer)} (k : ℕ) {o : List ℤ} {r : List ℕ} {io : List ℤ} {ir : List ℕ} {v : List ℤ} {e : List ℕ} → x ≡ refused k → RepeatMeets x (R.Refused k) o o r r io io ir ir v v e e
+pub repeat_refused : {x : Outcome (List Outer)} (k : Refusal) {o : List ℤ} {r : List ℕ} {io : List ℤ} {ir : List ℕ} {v : List ℤ} {e : List ℕ} → x ≡ refused (number_of k) → RepeatMeets x (Err k) o o r r io io ir ir v v e e
 unfolding told_repeat answer_of written
 repeat_refused k q = rw q (record { answer = refl; offsets = refl; rows = refl; inner-offsets = refl; inner-rows = refl; values = refl; elements = refl })
 

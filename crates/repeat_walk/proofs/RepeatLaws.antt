@@ -2,7 +2,7 @@
 use mathlib.Core.Path.{◌≡◌, refl, sym, ap, ◌∙◌}
 use mathlib.Core.Bool.{Bool, true, false, ◌||◌}
 use mathlib.Core.List.{List, [], ◌∷◌}
-use Prim.Native.Nat.{ℕ, zero, suc, ◌+◌, ◌*◌, ◌≤◌, ◌<◌}
+use Prim.Native.Nat.{ℕ, zero, suc, ◌+◌, ◌*◌, ◌≤◌}
 use native.Mathlib.Omega.{arith}
 use borrow.Author.Tests.{eq-eqb, ne_eqb, ltb-false}
 use lib.Dec.{ltb}
@@ -17,9 +17,8 @@ use Rattle.model.specs.Limits.{Limits}
 use Rattle.model.specs.Refusals.{times_of, repeated_by, total, repeat_refusal}
 use Rattle.model.specs.Rows.{repeat_of, row_of, argument_of}
 use Rattle.model.specs.Outcome.{refused, made, gate, columns_refusal, fitted_repeat, repeats_made, repeat_shown, repeat_outcome}
-use Rattle.model.specs.Widths.{used}
-use Rattle.model.specs.declared.Width.{Width}
-use Rattle.model.specs.declared.Width.TheVariants as W
+use Rattle.model.proofs.BoolLaws.{never}
+use Rattle.checks.proofs.RefusedLaws.{number_positive}
 use Rattle.model.proofs.TabLaws.{length-tab, tab_ext}
 use Rattle.model.proofs.ColumnLaws.{length-rows, length-shown, by_row}
 use Rattle.model.proofs.EarlyLaws.{or_first, gates}
@@ -31,7 +30,10 @@ use Rattle.repeat_walk.specs.Outers.{RoomForOutersˡ}
 use Rattle.repeat_walk.specs.Repeats.{repeat_at, repeat_rows, room_for_outer, early_repeat}
 use Rattle.repeat_sums.specs.Counts.{times_at, repeated_at, sums, sums_of}
 use Rattle.repeat_sums.specs.declared.Sums.{Sums}
-use Rattle.repeat_sums.specs.declared.Sums.TheVariants.{Of, TooMany}
+use Rattle.std.specs.Prelude.{Result, Ok, Err}
+use Rattle.model.specs.Answers.{number_of, refused_by}
+use Rattle.model.specs.declared.Refusal.{Refusal}
+use Rattle.model.specs.declared.Refusal.TheVariants.{TooMany}
 
 -- ---- one row and its count
 
@@ -145,35 +147,29 @@ module _ (c : Column) (a : Arguments) where
 -- ---- the call
 
 -- what the sums refuse
-eight : Sums → ℕ
-eight TooMany = 8
-eight (Of t v) = 0
 
-eight_if : (b : Bool) (t v : ℕ) → ◌≡◌ {A = ℕ} (pick b 8 0) (eight (pick b TooMany (Of t v)))
-unfolding eight
+abbrev Summed : Type 0
+Summed = Result Sums Refusal
+
+-- so many lists and values
+abbrev of : ℕ → ℕ → Summed
+of t v = Ok (record { lists = t; values = v })
+
+eight_if : (b : Bool) (t v : ℕ) → ◌≡◌ {A = ℕ} (pick b 8 0) (refused_by (pick b (Err TooMany) (of t v)))
 eight_if true t v = refl
 eight_if false t v = refl
 
-eight_sums : (L : Limits) (t v : ℕ) → ◌≡◌ {A = ℕ} (pick (ltb L.outer t || ltb L.repeated v) 8 0) (eight (sums L t v))
+eight_sums : (L : Limits) (t v : ℕ) → ◌≡◌ {A = ℕ} (pick (ltb L.outer t || ltb L.repeated v) 8 0) (refused_by (sums L t v))
 unfolding sums
 eight_sums L t v = eight_if (ltb L.outer t || ltb L.repeated v) t v
 
-fit_if : (b d : Bool) (t v x y : ℕ) → Of x y ≡ pick (b || d) TooMany (Of t v) → (b ≡ false) × (d ≡ false) × (x ≡ t) × (y ≡ v)
-unfolding eight
-fit_if true d t v x y e = let z : ◌≡◌ {A = ℕ} 0 8 = ap eight e in let n : ⊥ = omega arith in absurd n
-fit_if false true t v x y e = let z : ◌≡◌ {A = ℕ} 0 8 = ap eight e in let n : ⊥ = omega arith in absurd n
-fit_if false false t v x y e = (refl, refl, ap (λ (s : Sums). one s) e, ap (λ (s : Sums). two s) e)
-  where
-    one : Sums → ℕ
-    one TooMany = 0
-    one (Of a b) = a
-
-    two : Sums → ℕ
-    two TooMany = 0
-    two (Of a b) = b
+fit_if : (b d : Bool) (t v : ℕ) (s : Sums) → Ok s ≡ pick (b || d) (Err TooMany) (of t v) → (b ≡ false) × (d ≡ false) × (s.lists ≡ t) × (s.values ≡ v)
+fit_if true d t v s e = never cc
+fit_if false true t v s e = never cc
+fit_if false false t v s e = let q : s ≡ record { lists = t; values = v } = cc in (refl, refl, ap (λ (s : Sums). s.lists) q, ap (λ (s : Sums). s.values) q)
 
 module _ (L : Limits) (c : Column) (a : Arguments) where
-  abbrev found : Sums
+  abbrev found : Summed
   found = sums_of L c.offsets c.rows a.values a.bits
 
   module _ (e : length a.values ≡ row_count c.offsets) where
@@ -188,17 +184,17 @@ module _ (L : Limits) (c : Column) (a : Arguments) where
     values-shown : tab (λ r. repeated_by (row_of (rows_of c) r) (argument_of (shown_by a) r)) 0 (length (rows_of c)) ≡ tab (repeated_at c.offsets c.rows a.values a.bits) 0 (row_count c.offsets)
     values-shown = by_row repeated_by c a e ∙ tab_ext _ _ 0 0 (row_count c.offsets) (λ r h. repeated_by_lem c a (0 + r))
 
-    refuses_eight : repeat_refusal L (rows_of c) (shown_by a) ≡ eight found
+    refuses_eight : repeat_refusal L (rows_of c) (shown_by a) ≡ refused_by found
     unfolding repeat_refusal sums_of
     refuses_eight = rw (times_shown, values-shown) (eight_sums L (total (tab (times_at a.values a.bits) 0 (row_count c.offsets))) (total (tab (repeated_at c.offsets c.rows a.values a.bits) 0 (row_count c.offsets))))
 
   -- what the sums that do not exceed their limits are
-  pub sums_are : (t v : ℕ) → Of t v ≡ found → (t ≡ length (inner (repeat_rows c a))) × (v ≡ length (flat (inner (repeat_rows c a)))) × (t ≤ L.outer) × (v ≤ L.repeated)
+  pub sums_are : (s : Sums) → Ok s ≡ found → (s.lists ≡ length (inner (repeat_rows c a))) × (s.values ≡ length (flat (inner (repeat_rows c a)))) × (s.lists ≤ L.outer) × (s.values ≤ L.repeated)
   unfolding sums_of sums
-  sums_are t v q =
+  sums_are s q =
       let T = total (tab (times_at a.values a.bits) 0 (row_count c.offsets)) in
       let U = total (tab (repeated_at c.offsets c.rows a.values a.bits) 0 (row_count c.offsets)) in
-      let f = fit_if (ltb L.outer T) (ltb L.repeated U) T U t v q in
+      let f = fit_if (ltb L.outer T) (ltb L.repeated U) T U s q in
       (f.2 ∙ sym (lists_are c a), f.3 ∙ sym (values_are c a), rw f.2 (ltb-false L.outer T f.0), rw f.3 (ltb-false L.repeated U f.1))
 
   -- the run and the measure both begin with the refusals above
@@ -223,26 +219,24 @@ module _ (L : Limits) (c : Column) (a : Arguments) where
     lengths_early h = sym (lengths_are ∙ rw (← e) (gate_shut k _ h))
 
     module _ (h : k ≡ 0) (q : length a.values ≡ row_count c.offsets) where
-      run_goes : (l : RepeatRoom) → repeat_outcome L c a l ≡ gate (eight found) (fitted_repeat (repeat_rows c a) l)
+      run_goes : (l : RepeatRoom) → repeat_outcome L c a l ≡ gate (refused_by found) (fitted_repeat (repeat_rows c a) l)
       run_goes l = outcome_is l ∙ gate_open (early_repeat c a) _ (sym e ∙ h) ∙ rw (refuses_eight q, made_repeats q)
 
-      lengths_go : repeat_lengths L c a ≡ gate (eight found) (made (room_of_outer (repeat_rows c a)))
+      lengths_go : repeat_lengths L c a ≡ gate (refused_by found) (made (room_of_outer (repeat_rows c a)))
       lengths_go = lengths_are ∙ gate_open (early_repeat c a) _ (sym e ∙ h) ∙ rw (refuses_eight q, made_repeats q)
 
-      module _ (f : TooMany ≡ found) where
-        pub run_eight : (l : RepeatRoom) → repeat_outcome L c a l ≡ refused 8
-        unfolding eight gate
-        run_eight l = run_goes l ∙ rw (← f)
+      module _ (j : Refusal) (f : Err j ≡ found) where
+        pub run_eight : (l : RepeatRoom) → repeat_outcome L c a l ≡ refused (number_of j)
+        run_eight l = run_goes l ∙ rw (← f) (gate_shut (number_of j) _ (number_positive j))
 
-        pub lengths_eight : refused 8 ≡ repeat_lengths L c a
-        unfolding eight gate
-        lengths_eight = sym (lengths_go ∙ rw (← f))
+        pub lengths_eight : refused (number_of j) ≡ repeat_lengths L c a
+        lengths_eight = sym (lengths_go ∙ rw (← f) (gate_shut (number_of j) _ (number_positive j)))
 
-      module _ (t v : ℕ) (f : Of t v ≡ found) where
+      module _ (s : Sums) (f : Ok s ≡ found) where
         pub run_fits : (l : RepeatRoom) → repeat_outcome L c a l ≡ fitted_repeat (repeat_rows c a) l
-        unfolding eight gate
+        unfolding gate
         run_fits l = run_goes l ∙ rw (← f)
 
-        pub lengths-made : (n : ℕ) → n ≡ row_count c.offsets → made (room_for_outer n t v) ≡ repeat_lengths L c a
-        unfolding eight gate
-        lengths-made n en = let m = sums_are t v f in sym (lengths_go ∙ rw (← f, length_repeats c a, ← m.0, ← m.1, ← en))
+        pub lengths-made : (n : ℕ) → n ≡ row_count c.offsets → made (room_for_outer n s.lists s.values) ≡ repeat_lengths L c a
+        unfolding gate
+        lengths-made n en = let m = sums_are s f in sym (lengths_go ∙ rw (← f, length_repeats c a, ← m.0, ← m.1, ← en))

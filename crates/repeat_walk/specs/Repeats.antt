@@ -1,5 +1,5 @@
 -- What list-repeat makes of a column and its counts, by the column's rows.
-use Rattle.std.specs.Prelude.{ℕ, ◌+◌, ◌≡◌, Bool, ◌&&◌, List, [], ◌∷◌, leb, length}
+use Rattle.std.specs.Prelude.{ℕ, ◌+◌, ◌≡◌, Bool, ◌&&◌, List, [], ◌∷◌, leb, length, Ok}
 use Rattle.model.specs.Basics.{pick, tab}
 use Rattle.model.specs.Bitmap.{bytes_for}
 use Rattle.model.specs.Column.{Column, Arguments, elem_at, row_at, rows_of, shown_by, row_count}
@@ -11,8 +11,7 @@ use Rattle.model.specs.Rows.{repeat_of}
 use Rattle.bitmap.specs.Push.{Covers}
 use Rattle.column.specs.Answers.{unset}
 use Rattle.column.specs.Put.{Readable}
-use Rattle.model.specs.declared.RepeatAnswer.{RepeatAnswer}
-use Rattle.model.specs.declared.RepeatAnswer.TheVariants as R
+use Rattle.model.specs.Answers.{RepeatAnswer}
 
 abbrev pub repeat_at : Column → Arguments → ℕ → Outer
 repeat_at c a r = repeat_of (row_at c r) (elem_at a.values a.bits r)
@@ -40,4 +39,4 @@ pub record Begun (c : Column) (a : Arguments) : Type 0 where
 
 -- the answer, its nulls counted in the bitmaps written
 unfoldable pub repeat_answer_from : List ℕ → ℕ → List ℕ → ℕ → List ℕ → ℕ → RepeatAnswer
-repeat_answer_from rb n ib lists eb m = R.Counts n m (unset rb n) (unset eb m) lists (unset ib lists)
+repeat_answer_from rb n ib lists eb m = Ok (record { rows = n; elements = m; null_rows = unset rb n; null_elements = unset eb m; inner_rows = lists; null_inner_rows = unset ib lists })

@@ -7,6 +7,7 @@ ghost use Rattle.bitmap.specs.Push.{Covers};
 ghost use Rattle.column.specs.Outputs.{ReadableRow};
 ghost use Rattle.column.specs.Put.{Readable, outs, put_rows};
 ghost use Rattle.column.specs.Rows.{row_from};
+ghost use Rattle.model.specs.Answers.{refused_by};
 ghost use Rattle.model.specs.Asked.{asked_repeat};
 ghost use Rattle.model.specs.Bitmap.{bytes_for};
 ghost use Rattle.model.specs.Column.{row_count};
@@ -21,8 +22,7 @@ ghost use Rattle.repeat_walk.specs.Outers.{FillsOutersAt, RoomForOutersAt, RoomF
 ghost use Rattle.repeat_walk.specs.Repeats.{Begun, early_repeat, fits_counts, repeat_answer_from, repeat_rows, room_for_outer};
 
 use column::widths;
-use model::{RepeatAnswer, RepeatLengths, Width};
-use repeat_sums::Sums;
+use model::{Refusal, RepeatAnswer, RepeatCounts, RepeatLengths, RepeatSlots, Width};
 use rows::utils;
 
 // Writes row r of n, which lies from a to b, so many times, after first rows and place elements; gives the number of elements then
@@ -43,10 +43,8 @@ fn put_copies(
 {
     let valid = bitmap::is_valid(rows, rstart, r, n);
     let len = column::rows::row_len(rows, rstart, n, r, a, b);
-    let mut i = first;
     let mut at = place;
-    let mut left = times;
-    while 0 < left {
+    for i in first..first + times {
         at = utils::write_forward(
             values, elements, estart,
             a, len, out_values, out_elements,
@@ -54,8 +52,6 @@ fn put_copies(
         );
         bitmap::push_bit(inner_rows, i, valid);
         widths::put_offset(width, inner_offsets, inner_large, i + 1, at);
-        i += 1;
-        left -= 1;
     }
     at
 }
@@ -79,11 +75,9 @@ fn write_repeats(
     let n = widths::row_count(width, offsets, large);
     widths::put_offset(width, out_offsets, out_large, 0, 0);
     widths::put_offset(width, inner_offsets, inner_large, 0, 0);
-    let mut r: usize = 0;
     let mut i: usize = 0;
     let mut at: usize = 0;
-    let mut left = n;
-    while 0 < left {
+    for r in 0..n {
         let times = repeat_sums::repeat_count(counts, count_bits, cstart, n, r);
         let a = widths::offset_at(width, offsets, large, r);
         let b = widths::offset_at(width, offsets, large, r + 1);
@@ -98,8 +92,6 @@ fn write_repeats(
         );
         i += times;
         repeat_sums::put_outer(count_bits, cstart, n, r, i, out_offsets, out_rows, width, out_large);
-        r += 1;
-        left -= 1;
     }
 }
 
@@ -117,32 +109,28 @@ fn has_room(
 ) -> bool
     ensures { result ≡ fits_counts n lists m (repeat_room lo lr li lj lv le) }
 {
-    if lo <= n {
-        return false;
-    }
-    if lr < bitmap::bytes_for(n) {
-        return false;
-    }
-    checks::has_room(lists, m, li, lj, lv, le)
+    n < lo && bitmap::bytes_for(n) <= lr && checks::has_room(lists, m, li, lj, lv, le)
 }
 
 // The lengths of the result form of n outer rows, so many lists and m elements.
+#[tactic(auto, unfolding(model::specs::Asked::asked_repeat))]
 fn lengths_for(n: usize, lists: usize, m: usize) -> RepeatLengths
     requires n_lt_largest { n < largest }
     requires lists_lt_largest { lists < largest }
     ensures { asked_repeat result ≡ made (room_for_outer n lists m) }
 {
-    RepeatLengths::Of {
+    Ok(RepeatSlots {
         offsets: n + 1,
         rows: bitmap::bytes_for(n),
         inner_offsets: lists + 1,
         inner_rows: bitmap::bytes_for(lists),
         values: m,
         elements: bitmap::bytes_for(m),
-    }
+    })
 }
 
 // The answer for n outer rows, so many lists and m elements, its nulls counted in the bitmaps written.
+#[tactic(auto, unfolding(crate::specs::Repeats::repeat_answer_from))]
 fn repeat_answer(
     out_rows: &[u8],
     n: usize,
@@ -156,20 +144,14 @@ fn repeat_answer(
     requires m_in_bounds { bytes_for m ≤ length out_elements.now }
     ensures { result ≡ repeat_answer_from out_rows.now n inner_rows.now lists out_elements.now m }
 {
-    let valid_rows = bit_words::count_set(out_rows, n);
-    let valid_lists = bit_words::count_set(inner_rows, lists);
-    let valid_elements = bit_words::count_set(out_elements, m);
-    let null_rows = n - valid_rows;
-    let null_inner_rows = lists - valid_lists;
-    let null_elements = m - valid_elements;
-    RepeatAnswer::Counts {
+    Ok(RepeatCounts {
         rows: n,
         elements: m,
-        null_rows,
-        null_elements,
+        null_rows: n - bit_words::count_set(out_rows, n),
+        null_elements: m - bit_words::count_set(out_elements, m),
         inner_rows: lists,
-        null_inner_rows,
-    }
+        null_inner_rows: lists - bit_words::count_set(inner_rows, lists),
+    })
 }
 
 // Refusal 9, or what list-repeat makes: so many lists of m elements.
@@ -200,7 +182,7 @@ fn fill(
         inner_slots, inner_rows.len(),
         out_values.len(), out_elements.len(),
     ) {
-        return RepeatAnswer::Refused(9);
+        return Err(Refusal::ShortOutput);
     }
     write_repeats(
         offsets, rows, rstart, values, elements, estart,
@@ -213,30 +195,27 @@ fn fill(
     repeat_answer(out_rows, n, inner_rows, lists, out_elements, m)
 }
 
-// Refusals 13, 1, 2 and 3; 0 where none applies, and the columns can be read.
+// Refusals 13, 1, 2 and 3; where none applies, the columns can be read.
 #[rattlefmt::skip]
 fn early(
     offsets: &[i32], rows: &[u8], rstart: usize, values: &[i64], elements: &[u8], estart: usize,
     counts: &[i64], count_bits: &[u8], cstart: usize,
     width: Width, large: &[i64],
-) -> u8
-    ensures value { result ≡ early_repeat (lent_at width offsets large rows rstart values elements estart) (lent_arguments_from counts count_bits cstart) }
-    ensures begun { result ≡ 0 → Begun (lent_at width offsets large rows rstart values elements estart) (lent_arguments_from counts count_bits cstart) }
+) -> Result<(), Refusal>
+    ensures value { refused_by result ≡ early_repeat (lent_at width offsets large rows rstart values elements estart) (lent_arguments_from counts count_bits cstart) }
+    ensures begun { refused_by result ≡ 0 → Begun (lent_at width offsets large rows rstart values elements estart) (lent_arguments_from counts count_bits cstart) }
 {
     if 7 < cstart {
-        return 13;
+        return Err(Refusal::BadStartingBit);
     }
-    let k = checks::list_refusal(offsets, rows, rstart, values, elements, estart, width, large);
-    if k != 0 {
-        return k;
-    }
+    checks::list_refusal(offsets, rows, rstart, values, elements, estart, width, large)?;
     if bitmap::is_short(count_bits, cstart, counts.len()) {
-        return 2;
+        return Err(Refusal::ShortBitmap);
     }
     if counts.len() != widths::row_count(width, offsets, large) {
-        return 3;
+        return Err(Refusal::RowCountsDiffer);
     }
-    0
+    Ok(())
 }
 
 // The lengths of the slices that list-repeat needs, or its refusal: the sums of the run, and nothing is written.
@@ -248,18 +227,13 @@ pub fn lengths(
 ) -> RepeatLengths
     ensures { asked_repeat result ≡ repeat_lengths (limits_at width) (lent_at width offsets large rows rstart values elements estart) (lent_arguments_from counts count_bits cstart) }
 {
-    let k = early(
+    early(
         offsets, rows, rstart, values, elements, estart,
         counts, count_bits, cstart,
         width, large,
-    );
-    if k != 0 {
-        return RepeatLengths::Refused(k);
-    }
-    match repeat_sums::sum_repeats(offsets, rows, rstart, counts, count_bits, cstart, width, large) {
-        Sums::TooMany => RepeatLengths::Refused(8),
-        Sums::Of { lists, values: m } => lengths_for(widths::row_count(width, offsets, large), lists, m),
-    }
+    )?;
+    let sums = repeat_sums::sum_repeats(offsets, rows, rstart, counts, count_bits, cstart, width, large)?;
+    lengths_for(widths::row_count(width, offsets, large), sums.lists, sums.values)
 }
 
 // Checks the columns and the outputs, and writes what list-repeat makes.
@@ -274,23 +248,18 @@ pub fn run(
 ) -> RepeatAnswer
     ensures { RepeatAnswersAt width (repeat_outcome (limits_at width) (lent_at width offsets large rows rstart values elements estart) (lent_arguments_from counts count_bits cstart)) result out_offsets out_large out_rows inner_offsets inner_large inner_rows out_values out_elements }
 {
-    let k = early(
+    early(
         offsets, rows, rstart, values, elements, estart,
         counts, count_bits, cstart,
         width, large,
-    );
-    if k != 0 {
-        return RepeatAnswer::Refused(k);
-    }
-    match repeat_sums::sum_repeats(offsets, rows, rstart, counts, count_bits, cstart, width, large) {
-        Sums::TooMany => RepeatAnswer::Refused(8),
-        Sums::Of { lists, values: m } => fill(
-            offsets, rows, rstart, values, elements, estart,
-            counts, count_bits, cstart, lists, m,
-            out_offsets, out_rows,
-            inner_offsets, inner_rows,
-            out_values, out_elements,
-            width, large, out_large, inner_large,
-        ),
-    }
+    )?;
+    let sums = repeat_sums::sum_repeats(offsets, rows, rstart, counts, count_bits, cstart, width, large)?;
+    fill(
+        offsets, rows, rstart, values, elements, estart,
+        counts, count_bits, cstart, sums.lists, sums.values,
+        out_offsets, out_rows,
+        inner_offsets, inner_rows,
+        out_values, out_elements,
+        width, large, out_large, inner_large,
+    )
 }

@@ -1,4 +1,5 @@
 -- What is done to a row by its count and its fill is what resize does to it.
+use Rattle.std.specs.Prelude.{None, Some}
 use Prim.Native.Nat.{ℕ, ◌+◌, ◌-◌}
 use mathlib.Core.Path.{◌≡◌, refl, sym, ◌∙◌}
 use mathlib.Core.Bool.{Bool, true, false}
@@ -16,15 +17,11 @@ use Rattle.model.specs.Rows.{row_made}
 use Rattle.model.proofs.BoolLaws.{never_true}
 use Rattle.model.proofs.TabLaws.{tab_ext}
 use Rattle.column.specs.Put.{RoomInˡ}
-use Rattle.rows.specs.Cells.{fill_elem}
-use Rattle.rows.specs.declared.Cell.{Cell}
-use Rattle.rows.specs.declared.Cell.TheVariants as C
-use Rattle.rows.specs.declared.Fill.{Fill}
-use Rattle.rows.specs.declared.Fill.TheVariants as F
+use Rattle.rows.specs.Cells.{Cell, Fill, fill_elem}
 use Rattle.ops.specs.Ops.{table, takes_of, is_resize, resize_op, valid_op, row_op_of, op_elems, op_made}
 use Rattle.ops.specs.declared.ListOp.{ListOp}
 use Rattle.ops.specs.declared.ListOp.TheVariants as L
-use Rattle.ops.specs.declared.RowOp.TheVariants as R
+use Rattle.ops.specs.RowOp as R
 use Rattle.arguments.specs.Taken.{taken_at, op_at, Serves, Served}
 use Rattle.made_rows.specs.Made.{made_from, made_at, row_made_at, call_rows}
 use Rattle.made_rows.proofs.CallLaws.{rows_at}
@@ -43,15 +40,15 @@ fills_served L.Remove h s = never_true (sym h)
 
 -- a null count makes a null row, another one a row of as many elements
 module _ (k : Cell) (f : Fill) (es : List Elem) where
-  pub null_row_lem : k ≡ C.Null → row_made (op_made (resize_op k f) es) ≡ null_row
+  pub null_row_lem : k ≡ None → row_made (op_made (resize_op k f) es) ≡ null_row
   unfolding row_made op_made resize_op
   null_row_lem h = rw h
 
-  pub list_row_lem : (z : ℤ) (n : ℕ) → k ≡ C.Value z → n ≡ count z → row_made (op_made (resize_op k f) es) ≡ list_row (resized n (fill_elem f) es)
+  pub list_row_lem : (z : ℤ) (n : ℕ) → k ≡ Some z → n ≡ count z → row_made (op_made (resize_op k f) es) ≡ list_row (resized n (fill_elem f) es)
   unfolding row_made op_made op_elems resize_op
   list_row_lem z n h e = rw (h, e)
 
-by_count : (valid : Bool) (k : Cell) (f : Fill) → resize_op (pick valid k C.Null) f ≡ pick valid (resize_op k f) R.Null
+by_count : (valid : Bool) (k : Cell) (f : Fill) → resize_op (pick valid k None) f ≡ pick valid (resize_op k f) R.Null
 unfolding resize_op
 by_count true k f = refl
 by_count false k f = refl
@@ -61,8 +58,8 @@ unfolding count_for fill_for op_at row_op_of valid_op table
 resize-at N (L.Plain u) rb x y z r n h = never_true (sym h)
 resize-at N L.Slice rb x y z r n h = never_true (sym h)
 resize-at N L.SliceBy rb x y z r n h = never_true (sym h)
-resize-at N L.Resize rb x y z r n h = by_count (valid_at rb r) (taken_at true false x r) F.Absent
-resize-at N L.ResizeWith rb x y z r n h = by_count (valid_at rb r) (taken_at true false x r) (F.Own (taken_at true false y r))
+resize-at N L.Resize rb x y z r n h = by_count (valid_at rb r) (taken_at true false x r) None
+resize-at N L.ResizeWith rb x y z r n h = by_count (valid_at rb r) (taken_at true false x r) (Some (taken_at true false y r))
 resize-at N L.Replace rb x y z r n h = never_true (sym h)
 resize-at N L.Remove rb x y z r n h = never_true (sym h)
 

@@ -48,7 +48,7 @@ fn count_at(
     ensures { result ≡ count_for (lent_bits rows rstart) (lent_arguments_from xs xbits xstart) r }
 {
     if !bitmap::is_valid(rows, rstart, r, n) {
-        return Cell::Null;
+        return None;
     }
     taken::taken_at(true, false, xs, xbits, xstart, n, r)
 }
@@ -60,9 +60,9 @@ fn fill_at(filled: bool, n: usize, ys: &[i64], ybits: &[u8], ystart: usize, r: u
     ensures { result ≡ fill_for filled (lent_arguments_from ys ybits ystart) r }
 {
     if !filled {
-        return Fill::Absent;
+        return None;
     }
-    Fill::Own(taken::taken_at(true, false, ys, ybits, ystart, n, r))
+    Some(taken::taken_at(true, false, ys, ybits, ystart, n, r))
 }
 
 // Writes the len elements from element a on as row r, cut or filled up to a count, but for its offset; gives the number of elements
@@ -86,11 +86,11 @@ fn put_row(
     ensures { WritesRow (row_made (op_made (resize_op count fill) (lent_elems values elements estart a len))) r at out_rows out_values out_elements result }
 {
     match count {
-        Cell::Null => {
+        None => {
             bitmap::push_bit(out_rows, r, false);
             at
         }
-        Cell::Value(n) => {
+        Some(n) => {
             let next = resize::write_resized(
                 values,
                 elements,

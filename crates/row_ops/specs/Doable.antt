@@ -1,8 +1,8 @@
 -- What an operation asks of a row.
 use Rattle.std.specs.Prelude.{ℕ}
 use Rattle.strides.specs.Strides.{Walks}
-use Rattle.ops.specs.declared.RowOp.{RowOp}
-use Rattle.ops.specs.declared.RowOp.TheVariants as R
+use Rattle.ops.specs.RowOp.{RowOp}
+use Rattle.ops.specs.RowOp as R
 
 -- what is done can be done to a row of n elements: the places of a slice lie in it
 unfoldable pub Doable : RowOp → ℕ → Type 0

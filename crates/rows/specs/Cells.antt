@@ -1,15 +1,20 @@
 -- The arguments of a row, as elements.
+use Rattle.std.specs.Prelude.{Option, None, Some, ℤ}
 use Rattle.model.specs.Column.{Elem, nul, val}
-use Rattle.rows.specs.declared.Cell.{Cell}
-use Rattle.rows.specs.declared.Cell.TheVariants.{Null, Value}
-use Rattle.rows.specs.declared.Fill.{Fill}
-use Rattle.rows.specs.declared.Fill.TheVariants.{Absent, Own}
+
+-- an argument of a row: a null or a value
+abbrev pub Cell : Type 0
+Cell = Option ℤ
+
+-- what a row is filled with: nothing that is lent, or the row's own
+abbrev pub Fill : Type 0
+Fill = Option (Option ℤ)
 
 unfoldable pub elem_of : Cell → Elem
-elem_of Null = nul
-elem_of (Value v) = val v
+elem_of None = nul
+elem_of (Some v) = val v
 
 -- "absent or null fill gives nulls"
 unfoldable pub fill_elem : Fill → Elem
-fill_elem Absent = nul
-fill_elem (Own c) = elem_of c
+fill_elem None = nul
+fill_elem (Some c) = elem_of c

@@ -4,15 +4,7 @@
 pub mod utils;
 
 // An argument of a row: a null or a value.
-#[derive(Clone, Copy)]
-pub enum Cell {
-    Null,
-    Value(i64),
-}
+pub type Cell = Option<i64>;
 
 // What a row is filled with: nulls where no fill is lent, else the row's own.
-#[derive(Clone, Copy)]
-pub enum Fill {
-    Absent,
-    Own(Cell),
-}
+pub type Fill = Option<Cell>;

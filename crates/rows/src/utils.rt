@@ -1,6 +1,6 @@
 // Comparing elements, looking for one, and copying a run of them.
 // After utils.rs of datafusion-functions-nested 55.2.0, Apache License 2.0, Apache Software Foundation; changed, see NOTICE.
-ghost use Rattle.std.specs.Prelude.{◌+◌, ◌-◌, ◌/◌, ◌<◌, ◌≤◌, pos, get_or, length, set, ◌≡◌};
+ghost use Rattle.std.specs.Prelude.{None, Some, ◌+◌, ◌-◌, ◌/◌, ◌<◌, ◌≤◌, pos, get_or, length, set, ◌≡◌};
 ghost use Rattle.bitmap.specs.Push.{Covers, push_bit};
 ghost use Rattle.column.specs.Outputs.{ReadableElems, RoomForElems, Writes};
 ghost use Rattle.model.specs.Column.{count};
@@ -38,10 +38,7 @@ pub fn write_forward(
 pub fn one_less(n: usize) -> usize
     ensures { result ≡ n - 1 }
 {
-    if n == 0 {
-        return 0;
-    }
-    n - 1
+    n.saturating_sub(1)
 }
 
 // Whether element i is the argument: two nulls, or one value.
@@ -58,8 +55,8 @@ pub(crate) fn compare_element_to_list(
 {
     let valid = bitmap::is_valid(elements, estart, i, values.len());
     match cell {
-        Cell::Null => !valid,
-        Cell::Value(v) => {
+        None => !valid,
+        Some(v) => {
             if !valid {
                 return false;
             }
@@ -73,35 +70,31 @@ fn before_value(values: &[i64], a: usize, n: usize, v: i64) -> usize
     requires { a + n ≤ length values.now }
     ensures { Before (λ i. eq_z (get_or values.now (a + i) (pos 0)) v) n result }
 {
-    let mut r: usize = 0;
-    while r < n {
+    for r in 0..n {
         if values[a + r] == v {
             return r;
         }
-        r += 1;
     }
-    r
+    n
 }
 
 // How many of the n elements from element a on come before the first null, one by one.
 fn before_null(values: &[i64], elements: &[u8], estart: usize, a: usize, n: usize) -> usize
     requires column { ReadableElems values elements estart a n }
-    ensures { Before (λ i. same_elem (lent_elem values elements estart (a + i)) (elem_of Cell.Null)) n result }
+    ensures { Before (λ i. same_elem (lent_elem values elements estart (a + i)) (elem_of None)) n result }
 {
-    let mut r: usize = 0;
-    while r < n {
-        if compare_element_to_list(values, elements, estart, a + r, Cell::Null) {
+    for r in 0..n {
+        if compare_element_to_list(values, elements, estart, a + r, None) {
             return r;
         }
-        r += 1;
     }
-    r
+    n
 }
 
 // How many of the n elements from element a on come before the first that is v; the validity bit is read only where the value is v.
 fn before_equal(values: &[i64], elements: &[u8], estart: usize, a: usize, n: usize, v: i64) -> usize
     requires column { ReadableElems values elements estart a n }
-    ensures { Before (λ i. same_elem (lent_elem values elements estart (a + i)) (elem_of (Cell.Value v))) n result }
+    ensures { Before (λ i. same_elem (lent_elem values elements estart (a + i)) (elem_of (Some v))) n result }
 {
     let mut r: usize = 0;
     while r < n {
@@ -109,7 +102,7 @@ fn before_equal(values: &[i64], elements: &[u8], estart: usize, a: usize, n: usi
         if r == n {
             return r;
         }
-        if compare_element_to_list(values, elements, estart, a + r, Cell::Value(v)) {
+        if compare_element_to_list(values, elements, estart, a + r, Some(v)) {
             return r;
         }
         r += 1;
@@ -130,8 +123,8 @@ fn before_each(
     ensures { Before (λ i. same_elem (lent_elem values elements estart (a + i)) (elem_of cell)) n result }
 {
     match cell {
-        Cell::Null => before_null(values, elements, estart, a, n),
-        Cell::Value(v) => before_equal(values, elements, estart, a, n, v),
+        None => before_null(values, elements, estart, a, n),
+        Some(v) => before_equal(values, elements, estart, a, n, v),
     }
 }
 
@@ -151,8 +144,8 @@ pub fn before_match(
         return before_each(values, elements, estart, a, n, cell);
     }
     match cell {
-        Cell::Null => n,
-        Cell::Value(v) => before_value(values, a, n, v),
+        None => n,
+        Some(v) => before_value(values, a, n, v),
     }
 }
 
@@ -160,18 +153,15 @@ pub fn before_match(
 pub fn limit_of(n: i64) -> usize
     ensures { result ≡ count n }
 {
-    if n < 0 {
-        return 0;
-    }
-    n as usize
+    n.max(0) as usize
 }
 
 // Writes a value as element k of the result.
 fn write_value(v: i64, out_values: &mut [i64], out_elements: &mut [u8], k: usize)
     requires k_in_bounds { k < length out_values.old }
     requires k_in_bounds_2 { k / 8 < length out_elements.old }
-    ensures out_values_after { out_values.new ≡ set out_values.old k (value_of (elem_of (Cell.Value v))) }
-    ensures out_elements_after { out_elements.new ≡ push_bit out_elements.old k (is_val (elem_of (Cell.Value v))) }
+    ensures out_values_after { out_values.new ≡ set out_values.old k (value_of (elem_of (Some v))) }
+    ensures out_elements_after { out_elements.new ≡ push_bit out_elements.old k (is_val (elem_of (Some v))) }
 {
     out_values[k] = v;
     bitmap::push_bit(out_elements, k, true);
@@ -185,7 +175,7 @@ pub fn write_cell(cell: Cell, out_values: &mut [i64], out_elements: &mut [u8], k
     ensures out_elements_after { out_elements.new ≡ push_bit out_elements.old k (is_val (elem_of cell)) }
 {
     match cell {
-        Cell::Null => elements::write_null(out_values, out_elements, k),
-        Cell::Value(v) => write_value(v, out_values, out_elements, k),
+        None => elements::write_null(out_values, out_elements, k),
+        Some(v) => write_value(v, out_values, out_elements, k),
     }
 }

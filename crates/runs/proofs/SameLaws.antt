@@ -16,6 +16,8 @@ use Rattle.bitmap.proofs.BitLaws.{length-push_bits}
 use Rattle.bitmap.specs.Push.{push_bit, push_bits}
 use Rattle.model.specs.Basics.{pick}
 use Rattle.model.specs.Bitmap.{bit}
+-- passed on to the crates above
+pub use Rattle.stores.proofs.StoreLaws.{Storing, next_stored, all_stored}
 
 -- bits after bits
 pub push_append : (xs ys : List Bool) (l : List ℕ) (i : ℕ) → push_bits (push_bits l i xs) (i + length xs) ys ≡ push_bits l i (xs ++ ys)

@@ -18,7 +18,7 @@ fn low_ones(m: usize) -> u8
     requires { m < 8 }
     ensures { result ≡ 2 ^ m - 1 }
 {
-    (1u8 << (m as u8)) - 1
+    (1 << m) - 1
 }
 
 // The m lowest bits of a byte, all the same, and above them none.
@@ -26,10 +26,7 @@ fn low_bits(m: usize, on: bool) -> u8
     requires { m < 8 }
     ensures { result ≡ pick on (2 ^ m - 1) 0 }
 {
-    if on {
-        return low_ones(m);
-    }
-    0
+    if on { low_ones(m) } else { 0 }
 }
 
 // Appends m bits, all the same, to the byte that bit i is in, and is not the first of.
@@ -40,9 +37,7 @@ fn push_within(bitmap: &mut [u8], i: usize, m: usize, on: bool)
     ensures { bitmap.new ≡ push_bits bitmap.old i (replicate m on) }
 {
     if on {
-        let ones = low_ones(m);
-        let byte = bitmap[i / 8];
-        bitmap[i / 8] = byte | (ones << ((i % 8) as u8));
+        bitmap[i / 8] |= low_ones(m) << (i % 8);
     }
 }
 
@@ -54,11 +49,9 @@ fn push_bytes(bitmap: &mut [u8], k: usize, n: usize, on: bool)
     let whole = n / 8;
     let last = n % 8;
     stores::put_bytes(bitmap, k, whole, stores::byte_of(on));
-    if last == 0 {
-        return;
+    if last > 0 {
+        bitmap[k + whole] = low_bits(last, on);
     }
-    let byte = low_bits(last, on);
-    bitmap[k + whole] = byte;
 }
 
 // Appends n bits, all the same: those that end a byte begun, then bytes of their own.

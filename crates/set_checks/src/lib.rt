@@ -1,10 +1,10 @@
-// What the operations on two lists check: refusals 13, 1, 2, 3 and 8, and which rows are valid in both. An inner crate: its callers meet
-// what it asks.
+// What the operations on two lists check: what refuses them, and which rows are valid in both. An inner crate: its callers meet what it asks.
 // After set_ops.rs of datafusion-functions-nested 55.2.0, Apache License 2.0, Apache Software Foundation; changed, see NOTICE.
 #![tactic(auto)]
 
 ghost use Rattle.std.specs.Prelude.{◌<◌, eqb, ◌&&◌, [], ◌∷◌, ◌≡◌};
 ghost use Rattle.bitmap.specs.Push.{Covers};
+ghost use Rattle.model.specs.Answers.{refused_by};
 ghost use Rattle.model.specs.Bitmap.{valid_at};
 ghost use Rattle.model.specs.Column.{row_count};
 ghost use Rattle.model.specs.Inner.{lent_at, lent_bits, now_bits};
@@ -14,25 +14,25 @@ ghost use Rattle.model.specs.Widths.{entry_at, limits_at};
 ghost use Rattle.set_checks.specs.Earlier.{earlier};
 
 use column::widths;
-use model::{SetOp, Width};
+use model::{Refusal, SetOp, Width};
 
 // Which of two lists' refusals comes first.
-fn earlier(left: u8, right: u8) -> u8
-    ensures { result ≡ earlier left right }
+fn earlier(left: Result<(), Refusal>, right: Result<(), Refusal>) -> Result<(), Refusal>
+    ensures { refused_by result ≡ earlier (refused_by left) (refused_by right) }
 {
-    if (left == 13) | (right == 13) {
-        return 13;
+    match (left, right) {
+        (Err(Refusal::BadStartingBit), _) | (_, Err(Refusal::BadStartingBit)) => {
+            Err(Refusal::BadStartingBit)
+        }
+        (Err(Refusal::BadOffsets), _) | (_, Err(Refusal::BadOffsets)) => Err(Refusal::BadOffsets),
+        (Err(Refusal::ShortBitmap), _) | (_, Err(Refusal::ShortBitmap)) => {
+            Err(Refusal::ShortBitmap)
+        }
+        _ => Ok(()),
     }
-    if (left == 1) | (right == 1) {
-        return 1;
-    }
-    if (left == 2) | (right == 2) {
-        return 2;
-    }
-    0
 }
 
-// 13 of either list, else 1 of either, else 2 of either, else 0.
+// A starting bit over 7 of either list, else bad offsets of either, else a short bitmap of either.
 pub fn lists_refusal(
     loffsets: &[i32],
     lrows: &[u8],
@@ -49,8 +49,8 @@ pub fn lists_refusal(
     width: Width,
     llarge: &[i64],
     rlarge: &[i64],
-) -> u8
-    ensures { result ≡ columns_refusal (lent_at width loffsets llarge lrows l_rstart lvalues lelements l_estart ∷ lent_at width roffsets rlarge rrows r_rstart rvalues relements r_estart ∷ []) [] }
+) -> Result<(), Refusal>
+    ensures { refused_by result ≡ columns_refusal (lent_at width loffsets llarge lrows l_rstart lvalues lelements l_estart ∷ lent_at width roffsets rlarge rrows r_rstart rvalues relements r_estart ∷ []) [] }
 {
     let left = checks::list_refusal(
         loffsets, lrows, l_rstart, lvalues, lelements, l_estart, width, llarge,
@@ -61,7 +61,7 @@ pub fn lists_refusal(
     earlier(left, right)
 }
 
-// Whether both lists have as many rows: 3 where not.
+// Whether both lists have as many rows.
 pub fn same_row_count(
     loffsets: &[i32],
     roffsets: &[i32],
@@ -88,10 +88,7 @@ pub fn are_valid(
     requires there { r < n }
     ensures { result ≡ valid_at (lent_bits lrows l_rstart) r && valid_at (lent_bits rrows r_rstart) r }
 {
-    if bitmap::is_valid(lrows, l_rstart, r, n) {
-        return bitmap::is_valid(rrows, r_rstart, r, n);
-    }
-    false
+    bitmap::is_valid(lrows, l_rstart, r, n) && bitmap::is_valid(rrows, r_rstart, r, n)
 }
 
 // The most elements of a union.
@@ -104,17 +101,13 @@ fn most_united(width: Width) -> usize
     }
 }
 
-// 8 where a union has more elements than the offsets' width allows.
-pub fn union_refusal(op: SetOp, m: usize, width: Width) -> u8
-    ensures { result ≡ union_refusal (limits_at width) op m }
+// A union of more elements than the offsets' width allows.
+#[tactic(auto, unfolding(model::specs::Refusals::union_refusal))]
+pub fn union_refusal(op: SetOp, m: usize, width: Width) -> Result<(), Refusal>
+    ensures { refused_by result ≡ union_refusal (limits_at width) op m }
 {
     match op {
-        SetOp::Union => {
-            if most_united(width) < m {
-                return 8;
-            }
-            0
-        }
-        SetOp::Intersect => 0,
+        SetOp::Union if most_united(width) < m => Err(Refusal::TooMany),
+        _ => Ok(()),
     }
 }

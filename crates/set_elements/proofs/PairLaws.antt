@@ -4,7 +4,9 @@ use mathlib.Core.Bool.{Bool, true, false, ◌||◌, or-false, or_assoc}
 use mathlib.Core.List.{List, [], ◌∷◌, ◌++◌}
 use Prim.Native.Nat.{ℕ, suc, ◌+◌, ◌-◌, ◌≤◌}
 use native.Mathlib.Omega.{arith}
-use borrow.Author.Tests.{eqb-true}
+use borrow.Author.Tests.{eqb-true, eq-eqb}
+use Rattle.std.specs.Ordering.{int_eq}
+use Rattle.std.proofs.lemmas.Bool.Decides.{same_from_decides, Decides-int_eq}
 use lib.Dec.{T}
 use lib.IntN.{ℤ, pos, negsuc}
 use lib.ListN.{length, get_or}
@@ -27,6 +29,15 @@ eq_z_eq (pos a) (pos b) h = ap pos (eqb-true a b h)
 eq_z_eq (pos a) (negsuc b) h = not_so h
 eq_z_eq (negsuc a) (pos b) h = not_so h
 eq_z_eq (negsuc a) (negsuc b) h = ap negsuc (eqb-true a b h)
+
+eq_z-same : (x : ℤ) → eq_z x x ≡ true
+unfolding eq_z
+eq_z-same (pos n) = eq-eqb n n refl
+eq_z-same (negsuc n) = eq-eqb n n refl
+
+-- the code's `==`
+pub int_eq_z : (x y : ℤ) → int_eq x y ≡ eq_z y x
+int_eq_z x y = same_from_decides _ _ (Decides-int_eq x y) (λ e. sym (eq_z_eq y x e), λ e. rw e (eq_z-same y))
 
 -- elements that compare as the same are one
 pub same_eq : (e f : Elem) → same_elem e f ≡ true → e ≡ f

@@ -17,6 +17,7 @@ pub fn same_value(a: i64, b: i64) -> bool
 }
 
 // Whether element i of one column and element j of another are the same: two nulls, or one value.
+#[tactic(auto, unfolding(model::specs::Elements::same_elem, model::specs::Column::elem_at))]
 pub fn same_elem(
     values: &[i64],
     elements: &[u8],
@@ -33,58 +34,27 @@ pub fn same_elem(
     requires covers_2 { Covers (now_bits oelements ostart) (length others.now) }
     ensures { result ≡ same_elem (lent_elem values elements estart i) (lent_elem others oelements ostart j) }
 {
-    if bitmap::is_valid(elements, estart, i, values.len()) {
-        if bitmap::is_valid(oelements, ostart, j, others.len()) {
-            return same_value(values[i], others[j]);
-        }
+    let valid = bitmap::is_valid(elements, estart, i, values.len());
+    if valid != bitmap::is_valid(oelements, ostart, j, others.len()) {
         return false;
     }
-    if bitmap::is_valid(oelements, ostart, j, others.len()) {
-        return false;
-    }
-    true
+    !valid || same_value(values[i], others[j])
 }
 
-// Whether a value is one of the four values from value p on: no branch among them, so that they are compared at once.
-fn is_one_of_four(values: &[i64], p: usize, v: i64) -> bool
-    requires { p + 4 ≤ length values.now }
-    ensures { result ≡ has_value v values.now p 4 }
+// Whether a value is one of four: no branch among them, so that they are compared at once.
+fn is_one_of_four(four: &[i64; 4], v: i64) -> bool
+    ensures { result ≡ has_value v four.now 0 4 }
 {
-    (v == values[p]) | (v == values[p + 1]) | (v == values[p + 2]) | (v == values[p + 3])
+    (v == four[0]) | (v == four[1]) | (v == four[2]) | (v == four[3])
 }
 
-// Whether a value is one of the k values from value a on: one after the other.
-fn has_value_singly(values: &[i64], a: usize, k: usize, v: i64) -> bool
-    requires { a + k ≤ length values.now }
-    ensures { result ≡ has_value v values.now a k }
-{
-    let mut p = a;
-    let mut left = k;
-    while 0 < left {
-        if same_value(v, values[p]) {
-            return true;
-        }
-        p += 1;
-        left -= 1;
-    }
-    false
-}
-
-// Whether a value is one of the k values from value a on: four after four, then the rest.
+// Whether a value is one of the k values from value a on: four after four, then the rest; `contains` alone would branch at each value.
 fn has_value(values: &[i64], a: usize, k: usize, v: i64) -> bool
     requires { a + k ≤ length values.now }
     ensures { result ≡ has_value v values.now a k }
 {
-    let mut p = a;
-    let mut left = k;
-    while 3 < left {
-        if is_one_of_four(values, p, v) {
-            return true;
-        }
-        p += 4;
-        left -= 4;
-    }
-    has_value_singly(values, p, left, v)
+    let (fours, rest) = values[a..a + k].as_chunks::<4>();
+    fours.iter().any(|four| is_one_of_four(four, v)) || rest.contains(&v)
 }
 
 // How many of the k values from value a on come before a four with the value v, or before the last ones, that are no four.
@@ -93,14 +63,11 @@ fn fours_before(values: &[i64], a: usize, k: usize, v: i64) -> usize
     ensures upper_bound { result ≤ k }
     ensures result_value { has_value v values.now a result ≡ false }
 {
-    let mut r: usize = 0;
-    while 3 < k - r {
-        if is_one_of_four(values, a + r, v) {
-            return r;
-        }
-        r += 4;
-    }
-    r
+    let (fours, _) = values[a..a + k].as_chunks::<4>();
+    4 * fours
+        .iter()
+        .position(|four| is_one_of_four(four, v))
+        .unwrap_or(fours.len())
 }
 
 // How many of the k values from value a on come before the first that is v, or k where none is: four after four, then one by one.
@@ -108,14 +75,9 @@ pub fn before_value(values: &[i64], a: usize, k: usize, v: i64) -> usize
     requires { a + k ≤ length values.now }
     ensures { Before (value_is v values.now a) k result }
 {
-    let mut r = fours_before(values, a, k, v);
-    while r < k {
-        if same_value(v, values[a + r]) {
-            return r;
-        }
-        r += 1;
-    }
-    k
+    let r = fours_before(values, a, k, v);
+    let rest = &values[a + r..a + k];
+    r + rest.iter().position(|x| *x == v).unwrap_or(k - r)
 }
 
 // Whether a value is one of the valid elements among the k from element a on: the bit is read only where the value is equal.
@@ -124,18 +86,14 @@ fn has_valid(others: &[i64], oelements: &[u8], ostart: usize, a: usize, k: usize
     requires covers { Covers (now_bits oelements ostart) (length others.now) }
     ensures { result ≡ is_in (val v) (lent_elems others oelements ostart a k) }
 {
+    let end = a + k;
     let mut p = a;
-    let mut left = k;
-    while 0 < left {
-        let run = before_value(others, p, left, v);
-        if left <= run {
-            return false;
-        }
-        if bitmap::is_valid(oelements, ostart, p + run, others.len()) {
+    while p < end {
+        let found = p + before_value(others, p, end - p, v);
+        if found < end && bitmap::is_valid(oelements, ostart, found, others.len()) {
             return true;
         }
-        p += run + 1;
-        left -= run + 1;
+        p = found + 1;
     }
     false
 }
@@ -146,17 +104,13 @@ fn has_null(others: &[i64], oelements: &[u8], ostart: usize, a: usize, k: usize)
     requires covers { Covers (now_bits oelements ostart) (length others.now) }
     ensures { result ≡ is_in nul (lent_elems others oelements ostart a k) }
 {
-    if oelements.len() == 0 {
+    if oelements.is_empty() {
         return false;
     }
-    let mut p = a;
-    let mut left = k;
-    while 0 < left {
+    for p in a..a + k {
         if !bitmap::is_valid(oelements, ostart, p, others.len()) {
             return true;
         }
-        p += 1;
-        left -= 1;
     }
     false
 }
@@ -180,7 +134,7 @@ pub fn is_among(
     requires covers_2 { Covers (now_bits oelements ostart) (length others.now) }
     ensures { result ≡ is_in (lent_elem values elements estart i) (lent_elems others oelements ostart a k) }
 {
-    if (elements.len() == 0) & (oelements.len() == 0) {
+    if elements.is_empty() && oelements.is_empty() {
         return has_value(others, a, k, values[i]);
     }
     if bitmap::is_valid(elements, estart, i, values.len()) {

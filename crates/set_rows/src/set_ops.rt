@@ -29,15 +29,11 @@ fn measure_kept(
     ensures { result ≡ length (kept shared (lent_elems others oelements ostart b m) [] (lent_elems values elements estart a n)) }
 {
     let mut len: usize = 0;
-    let mut k: usize = 0;
-    let mut left = n;
-    while 0 < left {
+    for k in 0..n {
         let new = set_ops::is_kept(
             values, elements, estart, a, k, others, oelements, ostart, b, m, shared,
         );
-        len += new as usize;
-        k += 1;
-        left -= 1;
+        len += usize::from(new);
     }
     len
 }
@@ -55,10 +51,8 @@ fn write_kept(
     requires room { RoomForElems (kept shared (now_elems others oelements ostart b m) [] (now_elems values elements estart a n)) at out_values out_elements }
     ensures { Writes (kept shared (lent_elems others oelements ostart b m) [] (lent_elems values elements estart a n)) at out_values out_elements result }
 {
-    let mut k: usize = 0;
-    let mut left = n;
     let mut p = at;
-    while 0 < left {
+    for k in 0..n {
         if set_ops::is_kept(
             values, elements, estart,
             a, k, others, oelements, ostart, b, m, shared,
@@ -67,8 +61,6 @@ fn write_kept(
             elements::write_elem(values, elements, estart, i, out_values, out_elements, p);
             p += 1;
         }
-        k += 1;
-        left -= 1;
     }
     p
 }

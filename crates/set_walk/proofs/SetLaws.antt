@@ -1,8 +1,8 @@
 -- Laws of the operations on two lists: a pair of rows, and the whole call.
-use mathlib.Core.Path.{◌≡◌, refl, sym, ◌∙◌}
+use mathlib.Core.Path.{◌≡◌, refl, sym, ap, ◌∙◌}
 use mathlib.Core.Bool.{Bool, true, false, ◌&&◌}
 use mathlib.Core.List.{List, [], ◌∷◌, map}
-use Prim.Native.Nat.{ℕ, zero, suc, ◌+◌, ◌-◌, ◌≤◌}
+use Prim.Native.Nat.{ℕ, zero, suc, ◌+◌, ◌-◌, ◌≤◌, ◌<◌}
 use native.Mathlib.Omega.{arith}
 use native.Mathlib.Nat.{zero-add}
 use borrow.Author.Tests.{eq-eqb, ne_eqb, ltb-false}
@@ -27,7 +27,7 @@ use Rattle.model.proofs.EarlyLaws.{or_first, early_outcome, early_lengths}
 use Rattle.model.proofs.OutcomeLaws.{gate_open, gate_shut}
 use Rattle.column.specs.Put.{RoomInˡ}
 use Rattle.column.specs.Rows.{row_from}
-use Rattle.column.proofs.WalkLaws.{row_from_lem}
+use Rattle.column.proofs.WalkLaws.{Summing, sum_more, row_from_lem}
 use Rattle.set_rows.proofs.SetLaws.{set_le, intersect_le_left}
 use Rattle.set_walk.specs.Pairs.{pair_at, pair_rows, bound_of}
 
@@ -176,3 +176,18 @@ pub united : (L : Limits) (op : SetOp) (m : ℕ) → L.united ≤ L.offset → m
 unfolding bound_of union_refusal
 united L Union m u h z = omega (arith, not_eight L.united m (ltb L.united m) refl z)
 united L Intersect m u h z = h
+
+-- the measuring walk after one more pair of rows
+pub pair_more : (op : SetOp) (c d : Column) (n top found r k p q u w : ℕ) → Summing (pair_at op c d) n (bound_of op (offset_at c.offsets r) (offset_at d.offsets r)) (bound_of op top top) found r (n - r) → r < n
+    → p ≡ offset_at c.offsets r → q ≡ offset_at c.offsets (r + 1) → u ≡ offset_at d.offsets r → w ≡ offset_at d.offsets (r + 1) → p ≤ q → u ≤ w → q ≤ top → w ≤ top
+    → k ≡ length (elems_of (on_rows (set_elems op) (row_from c.rows (elem_at c.values c.elements) r p q) (row_from d.rows (elem_at d.values d.elements) r u w)))
+    → Summing (pair_at op c d) n (bound_of op (offset_at c.offsets (r + 1)) (offset_at d.offsets (r + 1))) (bound_of op top top) (found + k) (r + 1) (n - (r + 1))
+pair_more op c d n top found r k p q u w s h hp hq hu hw i j x y e =
+    let m : n - (r + 1) ≡ n - r - 1 = omega arith in
+    let E = elem_at c.values c.elements in
+    let F = elem_at d.values d.elements in
+    rw (m, ← hq, ← hw)
+    (sum_more (pair_at op c d) n (bound_of op top top) k (bound_of op p u) (bound_of op q w) s (omega arith)
+    (e ∙ ap (λ (z : Row). length (elems_of z)) (same_pair (set_elems op) c d r p q u w hp hq hu hw))
+    (rw e (pair_le (set_elems op) c.rows d.rows E F r p q u w _ (made_le op E F p q u w i j)))
+    (bound_grows op i j) (bound_same op hp hu) (bound_grows op x y))

@@ -6,6 +6,7 @@ ghost use Rattle.std.specs.Prelude.{◌<◌, ◌≤◌, length, ◌≡◌};
 ghost use Rattle.column.specs.Outputs.{FillsAt, ReadableRow, RoomAt, RoomForRow, WritesRow};
 ghost use Rattle.column.specs.Put.{Readable};
 ghost use Rattle.column.specs.Rows.{row_from};
+ghost use Rattle.model.specs.Answers.{refused_by};
 ghost use Rattle.model.specs.Asked.{asked_list};
 ghost use Rattle.model.specs.Column.{row_count, rows_of};
 ghost use Rattle.model.specs.Elements.{set_elems};
@@ -19,7 +20,7 @@ ghost use Rattle.model.specs.Widths.{ListAnswersAt, limits_at, used};
 ghost use Rattle.set_walk.specs.Pairs.{Begun, bound_of, pair_rows};
 
 use column::widths;
-use model::{ListAnswer, ListLengths, SetOp, Width};
+use model::{ListAnswer, ListLengths, Refusal, SetOp, Width};
 use set_rows::set_ops;
 
 // The number of elements that the operation makes of the rows r, which lie from a to b and from c to d.
@@ -88,9 +89,7 @@ fn measure_pairs<'a>(
 {
     let n = widths::row_count(width, loffsets, llarge);
     let mut found: usize = 0;
-    let mut r: usize = 0;
-    let mut left = n;
-    while 0 < left {
+    for r in 0..n {
         let a = widths::offset_at(width, loffsets, llarge, r);
         let b = widths::offset_at(width, loffsets, llarge, r + 1);
         let c = widths::offset_at(width, roffsets, rlarge, r);
@@ -101,8 +100,6 @@ fn measure_pairs<'a>(
             c, d, n, r,
         );
         found += len;
-        r += 1;
-        left -= 1;
     }
     found
 }
@@ -125,10 +122,8 @@ fn write_pairs<'a>(
 {
     let n = widths::row_count(width, loffsets, llarge);
     widths::put_offset(width, out_offsets, out_large, 0, 0);
-    let mut r: usize = 0;
     let mut at: usize = 0;
-    let mut left = n;
-    while 0 < left {
+    for r in 0..n {
         let a = widths::offset_at(width, loffsets, llarge, r);
         let b = widths::offset_at(width, loffsets, llarge, r + 1);
         let c = widths::offset_at(width, roffsets, rlarge, r);
@@ -140,12 +135,10 @@ fn write_pairs<'a>(
             at,
         );
         widths::put_offset(width, out_offsets, out_large, r + 1, at);
-        r += 1;
-        left -= 1;
     }
 }
 
-// Writes what the operation makes of columns that refusals 1, 2 and 3 do not apply to.
+// Writes what the operation makes of columns that can be read, row beside row.
 #[rattlefmt::skip]
 pub fn after_three<'a>(
     op: SetOp,
@@ -166,10 +159,7 @@ pub fn after_three<'a>(
         roffsets, rrows, r_rstart, rvalues, relements, r_estart,
         width, llarge, rlarge,
     );
-    let long = set_checks::union_refusal(op, m, width);
-    if long != 0 {
-        return ListAnswer::Refused(long);
-    }
+    set_checks::union_refusal(op, m, width)?;
     if !checks::has_room(
         n,
         m,
@@ -178,7 +168,7 @@ pub fn after_three<'a>(
         out_values.len(),
         out_elements.len(),
     ) {
-        return ListAnswer::Refused(9);
+        return Err(Refusal::ShortOutput);
     }
     write_pairs(
         op,
@@ -190,28 +180,25 @@ pub fn after_three<'a>(
     answers::list_answer(out_rows, n, out_elements, m)
 }
 
-// Refusals 13, 1, 2 and 3 of an operation on two lists; 0 where none applies, and both can be read.
+// What refuses an operation on two lists before its rows; where nothing does, both can be read.
 #[rattlefmt::skip]
 pub fn early(
     loffsets: &[i32], lrows: &[u8], l_rstart: usize, lvalues: &[i64], lelements: &[u8], l_estart: usize,
     roffsets: &[i32], rrows: &[u8], r_rstart: usize, rvalues: &[i64], relements: &[u8], r_estart: usize,
     width: Width, llarge: &[i64], rlarge: &[i64],
-) -> u8
-    ensures value { (op : SetOp) → result ≡ early_refusal (set_op_call op (lent_at width loffsets llarge lrows l_rstart lvalues lelements l_estart) (lent_at width roffsets rlarge rrows r_rstart rvalues relements r_estart)) }
-    ensures begun { result ≡ 0 → Begun (lent_at width loffsets llarge lrows l_rstart lvalues lelements l_estart) (lent_at width roffsets rlarge rrows r_rstart rvalues relements r_estart) }
+) -> Result<(), Refusal>
+    ensures value { (op : SetOp) → refused_by result ≡ early_refusal (set_op_call op (lent_at width loffsets llarge lrows l_rstart lvalues lelements l_estart) (lent_at width roffsets rlarge rrows r_rstart rvalues relements r_estart)) }
+    ensures begun { refused_by result ≡ 0 → Begun (lent_at width loffsets llarge lrows l_rstart lvalues lelements l_estart) (lent_at width roffsets rlarge rrows r_rstart rvalues relements r_estart) }
 {
-    let k = set_checks::lists_refusal(
+    set_checks::lists_refusal(
         loffsets, lrows, l_rstart, lvalues, lelements, l_estart,
         roffsets, rrows, r_rstart, rvalues, relements, r_estart,
         width, llarge, rlarge,
-    );
-    if k != 0 {
-        return k;
-    }
+    )?;
     if !set_checks::same_row_count(loffsets, roffsets, width, llarge, rlarge) {
-        return 3;
+        return Err(Refusal::RowCountsDiffer);
     }
-    0
+    Ok(())
 }
 
 // The lengths of the slices that the operation needs, or its refusal: the first walk of the run, and nothing is written.
@@ -224,24 +211,18 @@ pub fn lengths<'a>(
 ) -> ListLengths
     ensures { asked_list result ≡ list_lengths (limits_at width) (set_op_call op (lent_at width loffsets llarge lrows l_rstart lvalues lelements l_estart) (lent_at width roffsets rlarge rrows r_rstart rvalues relements r_estart)) }
 {
-    let k = early(
+    early(
         loffsets, lrows, l_rstart, lvalues, lelements, l_estart,
         roffsets, rrows, r_rstart, rvalues, relements, r_estart,
         width, llarge, rlarge,
-    );
-    if k != 0 {
-        return ListLengths::Refused(k);
-    }
+    )?;
     let m = measure_pairs(
         op,
         loffsets, lrows, l_rstart, lvalues, lelements, l_estart,
         roffsets, rrows, r_rstart, rvalues, relements, r_estart,
         width, llarge, rlarge,
     );
-    let long = set_checks::union_refusal(op, m, width);
-    if long != 0 {
-        return ListLengths::Refused(long);
-    }
+    set_checks::union_refusal(op, m, width)?;
     checks::lengths_for(widths::row_count(width, loffsets, llarge), m)
 }
 
@@ -256,14 +237,11 @@ pub fn run<'a>(
 ) -> ListAnswer
     ensures { ListAnswersAt width (list_outcome (limits_at width) (set_op_call op (lent_at width loffsets llarge lrows l_rstart lvalues lelements l_estart) (lent_at width roffsets rlarge rrows r_rstart rvalues relements r_estart))) result out_offsets out_large out_rows out_values out_elements }
 {
-    let k = early(
+    early(
         loffsets, lrows, l_rstart, lvalues, lelements, l_estart,
         roffsets, rrows, r_rstart, rvalues, relements, r_estart,
         width, llarge, rlarge,
-    );
-    if k != 0 {
-        return ListAnswer::Refused(k);
-    }
+    )?;
     after_three(
         op,
         loffsets, lrows, l_rstart, lvalues, lelements, l_estart,

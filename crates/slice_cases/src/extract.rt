@@ -1,5 +1,6 @@
 // Case K: element. Four calls, on S, which is [10,20,30,40], and on [].
 use compare::UNDER_NULL;
+use model::Refusal;
 
 // Element -4 of S gives 10. The bitmaps start at bits 3, 6 and 6.
 fn fourth_last() -> bool {
@@ -19,8 +20,8 @@ fn fourth_last() -> bool {
         &mut out_rows,
     );
     compare::value_counts(answer, 1, 0)
-        && compare::values(&out_values, &[10, 77])
-        && compare::bytes(&out_rows, &[1, 0xaa])
+        && compare::same(&out_values, &[10, 77])
+        && compare::same(&out_rows, &[1, 0xaa])
 }
 
 // Element 0 of S gives null.
@@ -41,8 +42,8 @@ fn none_at_zero() -> bool {
         &mut out_rows,
     );
     compare::value_counts(answer, 1, 1)
-        && compare::values(&out_values, &[UNDER_NULL, 77])
-        && compare::bytes(&out_rows, &[0, 0xaa])
+        && compare::same(&out_values, &[UNDER_NULL, 77])
+        && compare::same(&out_rows, &[0, 0xaa])
 }
 
 // Element 2147483647 of [] gives null.
@@ -63,8 +64,8 @@ fn none_in_empty() -> bool {
         &mut out_rows,
     );
     compare::value_counts(answer, 1, 1)
-        && compare::values(&out_values, &[UNDER_NULL, 77])
-        && compare::bytes(&out_rows, &[0, 0xaa])
+        && compare::same(&out_values, &[UNDER_NULL, 77])
+        && compare::same(&out_rows, &[0, 0xaa])
 }
 
 // Element 2147483648 of [] gives refusal 4.
@@ -84,9 +85,9 @@ fn refused_past_32_bits() -> bool {
         &mut out_values,
         &mut out_rows,
     );
-    compare::value_refused(answer, 4)
-        && compare::values(&out_values, &[77, 77])
-        && compare::bytes(&out_rows, &[0xaa, 0xaa])
+    compare::value_refused(answer, Refusal::WideIndex)
+        && compare::same(&out_values, &[77, 77])
+        && compare::same(&out_rows, &[0xaa, 0xaa])
 }
 
 pub fn case_k() -> bool {

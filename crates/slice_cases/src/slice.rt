@@ -1,5 +1,5 @@
 // Cases F to J and P: slice. S is [10,20,30,40].
-use model::Optional;
+use model::{Optional, Refusal};
 
 // Whether the slice of S, with one value before it and one after, gives n elements, none of them null, and these outputs.
 #[rattlefmt::skip]
@@ -16,10 +16,10 @@ fn gives(
         &mut out_offsets, &mut out_rows, &mut out_values, &mut out_elements,
     );
     compare::list_counts(answer, 1, n, 0, 0)
-        && compare::offsets(&out_offsets, offsets)
-        && compare::bytes(&out_rows, &[1, 0xaa])
-        && compare::values(&out_values, values)
-        && compare::bytes(&out_elements, elements)
+        && compare::same(&out_offsets, offsets)
+        && compare::same(&out_rows, &[1, 0xaa])
+        && compare::same(&out_values, values)
+        && compare::same(&out_elements, elements)
 }
 
 // Whether the slice of S without a stride gives S; the stride's column holds a 0, which is not looked at.
@@ -85,11 +85,11 @@ pub fn case_j() -> bool {
         &[0, 4], &[], 0, &[10, 20, 30, 40], &[], 0, &[1], &[], 0, &[2], &[], 0, Optional::Lent, &[0], &[], 0,
         &mut out_offsets, &mut out_rows, &mut out_values, &mut out_elements,
     );
-    compare::list_refused(answer, 5)
-        && compare::offsets(&out_offsets, &[77, 77, 77])
-        && compare::bytes(&out_rows, &[0xaa, 0xaa])
-        && compare::values(&out_values, &[77, 77, 77, 77, 77])
-        && compare::bytes(&out_elements, &[0xaa, 0xaa])
+    compare::list_refused(answer, Refusal::ZeroStride)
+        && compare::same(&out_offsets, &[77, 77, 77])
+        && compare::same(&out_rows, &[0xaa, 0xaa])
+        && compare::same(&out_values, &[77, 77, 77, 77, 77])
+        && compare::same(&out_elements, &[0xaa, 0xaa])
 }
 
 // [10,20,30] from 2 to 3 by 2147483647 gives [20].
@@ -104,8 +104,8 @@ pub fn case_p() -> bool {
         &mut out_offsets, &mut out_rows, &mut out_values, &mut out_elements,
     );
     compare::list_counts(answer, 1, 1, 0, 0)
-        && compare::offsets(&out_offsets, &[0, 1, 77])
-        && compare::bytes(&out_rows, &[1, 0xaa])
-        && compare::values(&out_values, &[20, 77, 77, 77])
-        && compare::bytes(&out_elements, &[1, 0xaa])
+        && compare::same(&out_offsets, &[0, 1, 77])
+        && compare::same(&out_rows, &[1, 0xaa])
+        && compare::same(&out_values, &[20, 77, 77, 77])
+        && compare::same(&out_elements, &[1, 0xaa])
 }

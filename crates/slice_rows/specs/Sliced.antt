@@ -1,18 +1,18 @@
 -- What a slice does to a row, by numbers alone: the plan of a row that is null, or has a null argument, is empty.
-use Rattle.std.specs.Prelude.{ℕ, ◌≡◌, Bool, true, false, not, ◌&&◌, ◌||◌, List, ltb, ℤ, pos, get_or}
+use Rattle.std.specs.Prelude.{ℕ, ◌≡◌, Bool, true, false, not, ◌&&◌, ◌||◌, List, ltb, ℤ, pos, get_or, Option, None, Some, Ok, Err}
+use Rattle.model.specs.Answers.{refused_by}
 use Rattle.model.specs.Basics.{pick}
 use Rattle.model.specs.Bitmap.{Bits, valid_at}
 use Rattle.model.specs.Limits.{Limits}
 use Rattle.model.specs.Slice.{slice_plan}
 use Rattle.bitmap.specs.Push.{Covers}
-use Rattle.index.specs.Plan.{plan_of}
-use Rattle.index.specs.declared.slice.SlicePlan.{SlicePlan}
-use Rattle.index.specs.declared.slice.SlicePlan.TheVariants as P
+use Rattle.index.specs.Plan.{SlicePlan, plan_of}
+use Rattle.index.specs.declared.slice.Steps.{Steps}
 use Rattle.ops.specs.Ops.{plan_op}
 use Rattle.ops.specs.declared.ListOp.{ListOp}
 use Rattle.ops.specs.declared.ListOp.TheVariants as L
-use Rattle.ops.specs.declared.RowOp.{RowOp}
-use Rattle.ops.specs.declared.RowOp.TheVariants as R
+use Rattle.ops.specs.RowOp.{RowOp}
+use Rattle.ops.specs.RowOp as R
 
 -- the slice that goes by strides, or the one without
 unfoldable pub op_by : Bool → ListOp
@@ -44,23 +44,25 @@ stride_at by zs r = pick by (get_or zs r (pos 0)) (pos 1)
 
 -- the plan of row r, of n elements
 unfoldable pub plan_at : Limits → Bool → Bool → List ℤ → List ℤ → List ℤ → ℕ → ℕ → SlicePlan
-plan_at L valid by xs ys zs r n = pick valid (plan_of (slice_plan L n (get_or xs r (pos 0)) (get_or ys r (pos 0)) (stride_at by zs r))) P.Empty
+plan_at L valid by xs ys zs r n = pick valid (plan_of (slice_plan L n (get_or xs r (pos 0)) (get_or ys r (pos 0)) (stride_at by zs r))) (Ok None)
 
 -- the plan of a row that is not valid is empty
 abbrev pub NullEmpty : Bool → SlicePlan → Type 0
-NullEmpty valid p = valid ≡ false → p ≡ P.Empty
+NullEmpty valid p = valid ≡ false → p ≡ Ok None
 
 -- what is done to the row
 unfoldable pub op_if : Bool → SlicePlan → RowOp
 op_if valid p = pick valid (plan_op p) R.Null
 
+-- the number of places, none where the slice is empty
+unfoldable pub steps_count : Option Steps → ℕ
+steps_count None = 0
+steps_count (Some s) = s.count
+
 -- a plan's refusal, 0 being none, and its elements
-unfoldable pub plan_refusal : SlicePlan → ℕ
-plan_refusal P.Empty = 0
-plan_refusal (P.Steps a s n) = 0
-plan_refusal (P.Refused k) = k
+abbrev pub plan_refusal : SlicePlan → ℕ
+plan_refusal p = refused_by p
 
 unfoldable pub plan_count : SlicePlan → ℕ
-plan_count P.Empty = 0
-plan_count (P.Steps a s n) = n
-plan_count (P.Refused k) = 0
+plan_count (Ok s) = steps_count s
+plan_count (Err k) = 0

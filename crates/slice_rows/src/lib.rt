@@ -39,15 +39,11 @@ pub fn put_slice(
     ensures { WritesRow (row_made (op_made (op_if valid plan) (lent_elems values elements estart a len))) r at out_rows out_values out_elements result }
 {
     match plan {
-        SlicePlan::Empty => {
+        Ok(None) => {
             bitmap::push_bit(out_rows, r, valid);
             at
         }
-        SlicePlan::Steps {
-            start,
-            stride,
-            count,
-        } => {
+        Ok(Some(steps)) => {
             bitmap::push_bit(out_rows, r, true);
             strided::write_strided(
                 values,
@@ -55,15 +51,15 @@ pub fn put_slice(
                 estart,
                 a,
                 len,
-                start,
-                stride,
-                count,
+                steps.start,
+                steps.stride,
+                steps.count,
                 out_values,
                 out_elements,
                 at,
             )
         }
-        SlicePlan::Refused(_) => {
+        Err(_) => {
             bitmap::push_bit(out_rows, r, false);
             at
         }

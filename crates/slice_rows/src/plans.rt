@@ -3,9 +3,9 @@ ghost use Rattle.std.specs.Prelude.{◌<◌, ◌≤◌, length, true, ◌≡◌}
 ghost use Rattle.index.specs.Plan.{plan_of};
 ghost use Rattle.model.specs.Slice.{slice_plan};
 ghost use Rattle.model.specs.Widths.{limits_at};
-ghost use Rattle.slice_rows.specs.Sliced.{plan_at, plan_count, plan_refusal, stride_at};
+ghost use Rattle.slice_rows.specs.Sliced.{plan_at, steps_count, stride_at};
 
-use index::slice::{SlicePlan, Stride};
+use index::slice::{SlicePlan, Steps};
 use model::Width;
 
 // The stride of row r: an absent one is 1.
@@ -13,10 +13,7 @@ fn stride_at(by: bool, zs: &[i64], r: usize) -> i64
     requires { by ≡ true → r < length zs.now }
     ensures { result ≡ stride_at by zs.now r }
 {
-    if by {
-        return zs[r];
-    }
-    1
+    if by { zs[r] } else { 1 }
 }
 
 // The plan of a slice between these bounds, of a row of len elements.
@@ -25,8 +22,8 @@ fn plan_of(len: usize, from: i64, to: i64, stride: i64, width: Width) -> SlicePl
     ensures { result ≡ plan_of (slice_plan (limits_at width) len from to stride) }
 {
     match width {
-        Width::Narrow => index::slice::compute_slice_plan(len, from, to, Stride::By(stride)),
-        Width::Wide => large_index::slice::compute_slice_plan(len, from, to, Stride::By(stride)),
+        Width::Narrow => index::slice::compute_slice_plan(len, from, to, Some(stride)),
+        Width::Wide => large_index::slice::compute_slice_plan(len, from, to, Some(stride)),
     }
 }
 
@@ -48,37 +45,15 @@ pub fn plan_at(
     ensures { result ≡ plan_at (limits_at width) valid by xs.now ys.now zs.now r len }
 {
     if !valid {
-        return SlicePlan::Empty;
+        return Ok(None);
     }
     plan_of(len, xs[r], ys[r], stride_at(by, zs, r), width)
 }
 
-// The refusal of a plan; 0 where it has none.
-pub fn refusal_of(plan: SlicePlan) -> u8
-    ensures { result ≡ plan_refusal plan }
-{
-    match plan {
-        SlicePlan::Empty => 0,
-        SlicePlan::Steps {
-            start: _,
-            stride: _,
-            count: _,
-        } => 0,
-        SlicePlan::Refused(k) => k,
-    }
-}
-
 // The number of places of a plan.
-pub fn count_of(plan: SlicePlan) -> usize
-    ensures { result ≡ plan_count plan }
+#[tactic(auto, unfolding(crate::specs::Sliced::steps_count))]
+pub fn count_of(steps: Option<Steps>) -> usize
+    ensures { result ≡ steps_count steps }
 {
-    match plan {
-        SlicePlan::Empty => 0,
-        SlicePlan::Steps {
-            start: _,
-            stride: _,
-            count,
-        } => count,
-        SlicePlan::Refused(_) => 0,
-    }
+    steps.map_or(0, |s| s.count)
 }

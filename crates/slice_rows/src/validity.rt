@@ -8,13 +8,11 @@ ghost use Rattle.model.specs.Inner.{now_bits, lent_bits};
 ghost use Rattle.slice_rows.specs.Sliced.{Known, all_valid, batch_of, valid_if};
 
 // The number of rows whose bits are read at once, where so many are left: 64, or one.
+#[tactic(auto, using(std::proofs::lemmas::Grind::common_steps), unfolding(crate::specs::Sliced::batch_of))]
 pub fn batch(left: usize) -> usize
     ensures { result ≡ batch_of left }
 {
-    if left < 64 {
-        return 1;
-    }
-    64
+    if left < 64 { 1 } else { 64 }
 }
 
 // The bits of these rows from row r on, the first lowest; ones where the bitmap is empty.
@@ -24,8 +22,8 @@ fn word_at(bits: &[u8], start: usize, n: usize, r: usize, left: usize) -> u64
     requires there { r + left ≤ n }
     ensures { low_bits result (batch_of left) ≡ tab (valid_at (lent_bits bits start)) r (batch_of left) }
 {
-    if bits.len() == 0 {
-        return 18446744073709551615;
+    if bits.is_empty() {
+        return u64::MAX;
     }
     if left < 64 {
         return bitmap::is_valid(bits, start, r, n) as u64;
@@ -42,7 +40,7 @@ fn word_by(by: bool, bits: &[u8], start: usize, n: usize, r: usize, left: usize)
     ensures { low_bits result (batch_of left) ≡ tab (valid_if by (lent_bits bits start)) r (batch_of left) }
 {
     if !by {
-        return 18446744073709551615;
+        return u64::MAX;
     }
     word_at(bits, start, n, r, left)
 }

@@ -1,6 +1,6 @@
 -- Laws of a walk of slices: what it needs of its columns, and what is done to a row.
 use Prim.Native.Nat.{ℕ, zero, suc, ◌+◌, ◌-◌, ◌/◌, ◌%◌, ◌≤◌, ◌<◌}
-use mathlib.Core.Path.{◌≡◌, refl, sym, ◌∙◌}
+use mathlib.Core.Path.{◌≡◌, refl, sym, ap, ◌∙◌}
 use mathlib.Core.Bool.{Bool, true, false, not, ◌&&◌}
 use mathlib.Core.List.{List}
 use native.Mathlib.Omega.{arith}
@@ -8,28 +8,36 @@ use borrow.Author.Tests.{ltb-false, le-ltb}
 use lib.Dec.{ltb, eqb}
 use lib.IntN.{ℤ, pos}
 use lib.ListN.{length}
+use Rattle.model.specs.Answers.{number_of, refused_by}
+use Rattle.model.specs.declared.Refusal.{Refusal}
+use Rattle.model.specs.declared.Refusal.TheVariants.{BadOffsets, ShortBitmap, RowCountsDiffer, WideIndex, ZeroStride, WideStride, NegativeCount, TooMany, ShortOutput, MalformedRecipe, ViewOutside, ZeroRun, BadStartingBit, ShortArea, NoSuchStation, RowsOutside}
 use Rattle.model.specs.Basics.{pick, tab}
+use Rattle.model.specs.Outcome.{refused}
+use Rattle.model.specs.Rows.{row_made}
+use Rattle.column.proofs.WalkLaws.{sum_more}
+use Rattle.index.specs.declared.slice.Steps.{Steps}
+use Rattle.made_rows.specs.Made.{row_made_at, refusal_at, rows_measure}
+use Rattle.made_rows.proofs.CallLaws.{refusal_of_lem, row_of_lem, length_of_lem, length_le}
+use Rattle.made_rows.proofs.LoopLaws.{Measuring, measuring_more, measuring_stops, rows_stop}
 use Rattle.model.specs.Bitmap.{Bits, valid_at, bytes_for, short_bits}
-use Rattle.model.specs.Column.{Elem, nul, val, Column, Arguments, elem_at}
+use Rattle.model.specs.Column.{Elem, nul, val, Column, Arguments, elem_at, offset_at, row_count}
 use Rattle.model.specs.Form.{flat}
 use Rattle.model.specs.Limits.{Limits}
 use Rattle.model.specs.Slice.{slice_plan}
 use Rattle.model.proofs.BoolLaws.{never_true}
 use Rattle.bitmap.specs.Push.{Covers}
 use Rattle.column.specs.Put.{RoomInˡ}
-use Rattle.index.specs.Plan.{plan_of, stride_in}
-use Rattle.index.specs.declared.slice.SlicePlan.{SlicePlan}
-use Rattle.index.specs.declared.slice.SlicePlan.TheVariants as P
-use Rattle.index.specs.declared.slice.Stride.TheVariants as S
+use Rattle.std.specs.Prelude.{Option, None, Some, Ok, Err}
+use Rattle.index.specs.Plan.{SlicePlan, plan_of, stride_in}
 use Rattle.strides.proofs.StrideLaws.{length-sliced}
-use Rattle.ops.specs.Ops.{is_slice, is_resize, takes_of, table, plan_op, slice_op, stride_op, valid_op, row_op_of, op_elems}
+use Rattle.ops.specs.Ops.{is_slice, is_resize, takes_of, table, plan_op, slice_op, stride_op, valid_op, row_op_of, op_elems, op_made}
 use Rattle.ops.specs.declared.ListOp.{ListOp}
 use Rattle.ops.specs.declared.ListOp.TheVariants as L
-use Rattle.ops.specs.declared.RowOp.TheVariants as R
+use Rattle.ops.specs.RowOp as R
 use Rattle.arguments.specs.Taken.{cell_of, place_in, taken_at, op_at, Serves, Served}
 use Rattle.made_rows.specs.Made.{op_refusal, call_rows}
 use Rattle.bit_words.specs.Words.{low_bits}
-use Rattle.slice_rows.specs.Sliced.{op_by, valid_if, all_valid, batch_of, Known, stride_at, plan_at, NullEmpty, op_if, plan_refusal, plan_count}
+use Rattle.slice_rows.specs.Sliced.{op_by, valid_if, all_valid, batch_of, Known, stride_at, plan_at, NullEmpty, op_if, plan_refusal, plan_count, steps_count}
 
 -- ---- the operation
 
@@ -154,14 +162,14 @@ module _ (f : ℕ → Bool) where
 -- ---- what is done to a row
 
 module _ (lim : Limits) (n : ℕ) (f t : ℤ) where
-  slice_cells : (v vx vy : Bool) → op_if (v && vx && vy && true) (pick (v && vx && vy && true) (plan_of (slice_plan lim n f t (pos 1))) P.Empty) ≡ pick v (slice_op lim n (cell_of (pick vx (val f) nul)) (cell_of (pick vy (val t) nul)) S.Absent) R.Null
+  slice_cells : (v vx vy : Bool) → op_if (v && vx && vy && true) (pick (v && vx && vy && true) (plan_of (slice_plan lim n f t (pos 1))) (Ok None)) ≡ pick v (slice_op lim n (cell_of (pick vx (val f) nul)) (cell_of (pick vy (val t) nul)) None) R.Null
   unfolding op_if slice_op cell_of stride_in
   slice_cells false vx vy = refl
   slice_cells true false vy = refl
   slice_cells true true false = refl
   slice_cells true true true = refl
 
-  stride_cells : (s : ℤ) (v vx vy vz : Bool) → op_if (v && vx && vy && vz) (pick (v && vx && vy && vz) (plan_of (slice_plan lim n f t s)) P.Empty) ≡ pick v (stride_op lim n (cell_of (pick vx (val f) nul)) (cell_of (pick vy (val t) nul)) (cell_of (pick vz (val s) nul))) R.Null
+  stride_cells : (s : ℤ) (v vx vy vz : Bool) → op_if (v && vx && vy && vz) (pick (v && vx && vy && vz) (plan_of (slice_plan lim n f t s)) (Ok None)) ≡ pick v (stride_op lim n (cell_of (pick vx (val f) nul)) (cell_of (pick vy (val t) nul)) (cell_of (pick vz (val s) nul))) R.Null
   unfolding op_if slice_op stride_op cell_of stride_in
   stride_cells s false vx vy vz = refl
   stride_cells s true false vy false = refl
@@ -188,15 +196,68 @@ null_empty lim valid by xs ys zs r n p e h = e ∙ rw h
 -- ---- by the plan alone
 
 pub refusal-planned : (valid : Bool) (p : SlicePlan) → NullEmpty valid p → plan_refusal p ≡ op_refusal (op_if valid p)
-unfolding plan_refusal op_refusal op_if plan_op
-refusal-planned true P.Empty h = refl
-refusal-planned true (P.Steps a s n) h = refl
-refusal-planned true (P.Refused k) h = refl
+unfolding op_refusal op_if plan_op
+refusal-planned true (Ok None) h = refl
+refusal-planned true (Ok (Some s)) h = refl
+refusal-planned true (Err k) h = refl
 refusal-planned false p h = rw (h refl)
 
 pub count-planned : (valid : Bool) (p : SlicePlan) (es : List Elem) → NullEmpty valid p → plan_count p ≡ length (op_elems (op_if valid p) es)
-unfolding plan_count op_elems op_if plan_op
-count-planned true P.Empty es h = refl
-count-planned true (P.Steps a s n) es h = sym (length-sliced a s n es)
-count-planned true (P.Refused k) es h = refl
+unfolding plan_count steps_count op_elems op_if plan_op
+count-planned true (Ok None) es h = refl
+count-planned true (Ok (Some s)) es h = sym (length-sliced s.start s.stride s.count es)
+count-planned true (Err k) es h = refl
 count-planned false p es h = rw (h refl)
+
+number_some : (k : Refusal) → number_of k ≡ 0 → ⊥
+number_some BadOffsets e = omega arith
+number_some ShortBitmap e = omega arith
+number_some RowCountsDiffer e = omega arith
+number_some WideIndex e = omega arith
+number_some ZeroStride e = omega arith
+number_some WideStride e = omega arith
+number_some NegativeCount e = omega arith
+number_some TooMany e = omega arith
+number_some ShortOutput e = omega arith
+number_some MalformedRecipe e = omega arith
+number_some ViewOutside e = omega arith
+number_some ZeroRun e = omega arith
+number_some BadStartingBit e = omega arith
+number_some ShortArea e = omega arith
+number_some NoSuchStation e = omega arith
+number_some RowsOutside e = omega arith
+
+-- ---- a turn: row r of n, which lies from a to b
+
+module _ (L : Limits) (by : Bool) (c : Column) (x y z : Arguments) (n r a b : ℕ) (place : a ≡ offset_at c.offsets r) (ends : b ≡ offset_at c.offsets (r + 1)) where
+  -- by the code's test and plan of it
+  module _ (valid : Bool) (p : SlicePlan) (e : valid ≡ all_valid by c.rows x.bits y.bits z.bits r) (q : p ≡ plan_at L valid by x.values y.values z.values r (b - a)) where
+    pub chosen : op_if valid p ≡ op_at L (op_by by) c.rows x y z r (b - a)
+    chosen = op_chosen L c.rows x y z r (b - a) by valid p e q
+
+    empty : NullEmpty valid p
+    empty = null_empty L valid by x.values y.values z.values r (b - a) p q
+
+    turn_refusal : refused_by p ≡ refusal_at L (op_by by) c x y z r
+    turn_refusal = refusal-planned valid p empty ∙ refusal_of_lem L (op_by by) c x y z r a b (op_if valid p) place ends chosen
+
+    pub turn_row : row_made (op_made (op_if valid p) (tab (elem_at c.values c.elements) a (b - a))) ≡ row_made_at L (op_by by) c x y z r
+    turn_row = row_of_lem L (op_by by) c x y z r a b (op_if valid p) place ends chosen
+
+    module _ {found : ℕ} (m : Measuring (row_made_at L (op_by by) c x y z) (refusal_at L (op_by by) c x y z) n a L.offset found r (n - r)) (h : r < n) where
+      -- it is not refused
+      pub turn_measured : (s : Option Steps) → p ≡ Ok s → a ≤ b → b ≤ L.offset → Measuring (row_made_at L (op_by by) c x y z) (refusal_at L (op_by by) c x y z) n b L.offset (found + steps_count s) (r + 1) (n - (r + 1))
+      unfolding plan_count
+      turn_measured s o l u =
+          let d : n - (r + 1) ≡ n - r - 1 = omega arith in
+          let t : steps_count s ≡ length (op_elems (op_if valid p) (tab (elem_at c.values c.elements) a (b - a))) = ap plan_count (sym o) ∙ count-planned valid p (tab (elem_at c.values c.elements) a (b - a)) empty in
+          rw d
+          (measuring_more _ _ m (refused_by p) (omega arith) turn_refusal (rw o refl)
+          (sum_more _ n L.offset (steps_count s) a b m.sums (omega arith) (t ∙ length_of_lem L (op_by by) c x y z r a b (op_if valid p) place ends chosen)
+          (rw t (length_le L (op_by by) c x y z r a b (op_if valid p) place ends chosen (no_resize by))) l refl u))
+
+      -- it is refused
+      pub turn_stops : (k : Refusal) → p ≡ Err k → n ≡ row_count c.offsets → refused (number_of k) ≡ rows_measure L (op_by by) c x y z
+      turn_stops k o d =
+          let t : number_of k ≡ refusal_at L (op_by by) c x y z r = ap (λ (q : SlicePlan). refused_by q) (sym o) ∙ turn_refusal in
+          rows_stop L (op_by by) c x y z n d (number_of k) (measuring_stops _ _ m (number_of k) (omega arith) t (number_some k)) (number_some k)

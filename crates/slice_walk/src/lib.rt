@@ -12,13 +12,12 @@ ghost use Rattle.model.specs.Form.{flat};
 ghost use Rattle.model.specs.Inner.{lent_arguments_from, lent_at, now_arguments, now_column_at};
 ghost use Rattle.model.specs.Widths.{limits_at, used};
 ghost use Rattle.ops.specs.Ops.{is_slice};
-ghost use Rattle.sums.specs.Sums.{let_through};
+ghost use Rattle.sums.specs.Sums.{let_through, measured};
 
 use column::widths;
-use model::Width;
+use model::{Refusal, Width};
 use ops::ListOp;
 use slice_rows::{plans, validity};
-use sums::Measure;
 
 // How many elements the slices make, or the refusal of the first row that has one.
 #[rattlefmt::skip]
@@ -29,45 +28,33 @@ pub fn measure_rows(
     ys: &[i64], ybits: &[u8], ystart: usize,
     zs: &[i64], zbits: &[u8], zstart: usize,
     width: Width, large: &[i64],
-) -> Measure
+) -> Result<usize, Refusal>
     requires column { Readable (now_column_at width offsets large rows rstart values elements estart) }
     requires arguments { Served op (row_count (used width offsets.now large.now)) (now_arguments xs xbits xstart) (now_arguments ys ybits ystart) (now_arguments zs zbits zstart) }
     requires kind { is_slice op ≡ true }
-    ensures value { result ≡ rows_measure (limits_at width) op (lent_at width offsets large rows rstart values elements estart) (lent_arguments_from xs xbits xstart) (lent_arguments_from ys ybits ystart) (lent_arguments_from zs zbits zstart) }
+    ensures value { measured result ≡ rows_measure (limits_at width) op (lent_at width offsets large rows rstart values elements estart) (lent_arguments_from xs xbits xstart) (lent_arguments_from ys ybits ystart) (lent_arguments_from zs zbits zstart) }
     ensures result_bound { let_through result ≤ (limits_at width).offset }
 {
     let n = widths::row_count(width, offsets, large);
-    let t = ops::takes(op);
-    let columns = t.columns;
-    let by = 2 < columns;
+    let by = 2 < ops::takes(op).columns;
     let mut found: usize = 0;
-    let mut r: usize = 0;
-    let mut left = n;
     let mut word: u64 = 0;
     let mut known: usize = 0;
     let mut a = widths::first_offset(width, offsets, large);
-    while 0 < left {
+    for r in 0..n {
         let b = widths::offset_at(width, offsets, large, r + 1);
-        let len = b - a;
         if known == 0 {
-            word = validity::valid_bits(by, rows, rstart, n, xbits, xstart, ybits, ystart, zbits, zstart, r, left);
-            known = validity::batch(left);
+            word = validity::valid_bits(by, rows, rstart, n, xbits, xstart, ybits, ystart, zbits, zstart, r, n - r);
+            known = validity::batch(n - r);
         }
         let valid = word % 2 == 1;
-        let plan = plans::plan_at(valid, by, xs, ys, zs, r, len, width);
-        let k = plans::refusal_of(plan);
-        if k != 0 {
-            return Measure::Refused(k);
-        }
-        let more = plans::count_of(plan);
-        found += more;
+        let steps = plans::plan_at(valid, by, xs, ys, zs, r, b - a, width)?;
+        found += plans::count_of(steps);
         a = b;
-        r += 1;
-        left -= 1;
         word /= 2;
         known -= 1;
     }
-    Measure::Sum(found)
+    Ok(found)
 }
 
 // Writes the rows that the slices make, in result form.
@@ -89,22 +76,18 @@ pub fn write_rows(
     ensures { FillsAt width (call_rows (limits_at width) op (lent_at width offsets large rows rstart values elements estart) (lent_arguments_from xs xbits xstart) (lent_arguments_from ys ybits ystart) (lent_arguments_from zs zbits zstart)) out_offsets out_large out_rows out_values out_elements }
 {
     let n = widths::row_count(width, offsets, large);
-    let t = ops::takes(op);
-    let columns = t.columns;
-    let by = 2 < columns;
+    let by = 2 < ops::takes(op).columns;
     widths::put_offset(width, out_offsets, out_large, 0, 0);
-    let mut r: usize = 0;
     let mut at: usize = 0;
-    let mut left = n;
     let mut word: u64 = 0;
     let mut known: usize = 0;
     let mut a = widths::first_offset(width, offsets, large);
-    while 0 < left {
+    for r in 0..n {
         let b = widths::offset_at(width, offsets, large, r + 1);
         let len = b - a;
         if known == 0 {
-            word = validity::valid_bits(by, rows, rstart, n, xbits, xstart, ybits, ystart, zbits, zstart, r, left);
-            known = validity::batch(left);
+            word = validity::valid_bits(by, rows, rstart, n, xbits, xstart, ybits, ystart, zbits, zstart, r, n - r);
+            known = validity::batch(n - r);
         }
         let valid = word % 2 == 1;
         let plan = plans::plan_at(valid, by, xs, ys, zs, r, len, width);
@@ -115,8 +98,6 @@ pub fn write_rows(
         );
         widths::put_offset(width, out_offsets, out_large, r + 1, at);
         a = b;
-        r += 1;
-        left -= 1;
         word /= 2;
         known -= 1;
     }

@@ -3,6 +3,7 @@ use Prim.Native.Nat.{ℕ, ◌+◌, ◌≤◌}
 use mathlib.Core.Path.{◌≡◌, refl, ◌∙◌}
 use native.Mathlib.Omega.{arith}
 use mathlib.Core.List.{List}
+use Rattle.std.specs.Prelude.{Option, Some, None, map}
 use borrow.Author.Tests.{eq-eqb, ne_eqb}
 use lib.IntN.{ℤ}
 use lib.ListN.{length, take}
@@ -29,23 +30,23 @@ use Rattle.model.proofs.TabLaws.{get_d_map}
 
 pub call_is : (code : ℕ) (ws rs : List Row) (a b c : List Elem) → recipe.code_call code ws rs a b c ≡ op_call (operation_of code) ws rs a b c
 unfolding recipe.code_call operation_of op_call call_of
-call_is code ws rs a b c = get_d_map (λ o. op_call o ws rs a b c) operations code S.None
+call_is code ws rs a b c = get_d_map (λ o. op_call o ws rs a b c) (map Some operations) code None
 
 module _ (s : Step) (ws rs : List Row) (col : ℕ → List Elem) where
-  pub step-one : (op : ListOp) → operation_of s.code ≡ S.One op → step_call s ws rs col ≡ call_of op ws (col s.first) (col s.second) (col s.third)
+  pub step-one : (op : ListOp) → operation_of s.code ≡ Some (S.One op) → step_call s ws rs col ≡ call_of op ws (col s.first) (col s.second) (col s.third)
   unfolding op_call
   step-one op h = call_is s.code ws rs _ _ _ ∙ rw h
 
-  pub step-two : (op : SetOp) → operation_of s.code ≡ S.Two op → step_call s ws rs col ≡ set_op_call op ws rs
+  pub step-two : (op : SetOp) → operation_of s.code ≡ Some (S.Two op) → step_call s ws rs col ≡ set_op_call op ws rs
   unfolding op_call
   step-two op h = call_is s.code ws rs _ _ _ ∙ rw h
 
 -- the columns that a step uses, by what it does
-pub uses-one : (s : Step) (p n len : ℕ) (o : Operation) (op : ListOp) → o ≡ operation_of s.code → o ≡ S.One op → op_uses (operation_of s.code) s p n len → Uses op p n s.first s.second s.third len
+pub uses-one : (s : Step) (p n len : ℕ) (o : Option Operation) (op : ListOp) → o ≡ operation_of s.code → o ≡ Some (S.One op) → op_uses (operation_of s.code) s p n len → Uses op p n s.first s.second s.third len
 unfolding op_uses
 uses-one s p n len o op e q h = rw (← e, q) at h
 
-pub uses-none : (s : Step) (p n len : ℕ) (o : Operation) → o ≡ operation_of s.code → o ≡ S.None → op_uses (operation_of s.code) s p n len → ⊥
+pub uses-none : (s : Step) (p n len : ℕ) (o : Option Operation) → o ≡ operation_of s.code → o ≡ None → op_uses (operation_of s.code) s p n len → ⊥
 unfolding op_uses
 uses-none s p n len o e q h = rw (← e, q) at h
 

@@ -1,5 +1,5 @@
 -- One step of a recipe: what it does, the rows that it takes, and the column that a tray holds at its front.
-use Rattle.std.specs.Prelude.{ℕ, ◌≡◌, List, [], ◌∷◌, eqb, ℤ, length}
+use Rattle.std.specs.Prelude.{ℕ, ◌≡◌, List, [], ◌∷◌, eqb, ℤ, length, Option, Some, None}
 use Rattle.model.specs.Basics.{pick}
 use Rattle.model.specs.Column.{Elem, Row, Column, Arguments, row_count, rows_of}
 use Rattle.model.specs.Contract.{Slice, MutSlice}
@@ -18,10 +18,10 @@ use Rattle.codes.specs.declared.Operation.{Operation}
 use Rattle.codes.specs.declared.Operation.TheVariants as S
 
 -- the call that it makes of the carried rows, the second list's rows and three argument columns (a code that is none is refused before)
-unfoldable pub op_call : Operation → List Row → List Row → List Elem → List Elem → List Elem → ListCall (List Row) (List Elem)
-op_call (S.One op) ws rs a b c = call_of op ws a b c
-op_call (S.Two op) ws rs a b c = set_op_call op ws rs
-op_call S.None ws rs a b c = unary Reverse ws
+unfoldable pub op_call : Option Operation → List Row → List Row → List Elem → List Elem → List Elem → ListCall (List Row) (List Elem)
+op_call (Some (S.One op)) ws rs a b c = call_of op ws a b c
+op_call (Some (S.Two op)) ws rs a b c = set_op_call op ws rs
+op_call None ws rs a b c = unary Reverse ws
 
 -- the column at the front of a tray as the call begins: n rows of m elements
 abbrev pub lent_front : Width → Slice ℤ → Slice ℤ → Slice ℕ → Slice ℤ → Slice ℕ → ℕ → ℕ → Column
@@ -32,10 +32,10 @@ abbrev pub mut_lent_front : Width → MutSlice ℤ → MutSlice ℤ → MutSlice
 mut_lent_front w o x r v e n m = front (mut_entry_at w o x) r.entry.now v.entry.now e.entry.now n m
 
 -- a step has an operation, and the columns that it uses are there
-unfoldable pub op_uses : Operation → Step → ℕ → ℕ → ℕ → Type 0
-op_uses (S.One op) s pitch n len = Uses op pitch n s.first s.second s.third len
-op_uses (S.Two op) s pitch n len = Unit
-op_uses S.None s pitch n len = ⊥
+unfoldable pub op_uses : Option Operation → Step → ℕ → ℕ → ℕ → Type 0
+op_uses (Some (S.One op)) s pitch n len = Uses op pitch n s.first s.second s.third len
+op_uses (Some (S.Two op)) s pitch n len = Unit
+op_uses None s pitch n len = ⊥
 
 pub record StepFits (s : Step) (pitch n len : ℕ) : Type 0 where
   pub uses : op_uses (operation_of s.code) s pitch n len

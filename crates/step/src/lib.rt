@@ -15,7 +15,7 @@ ghost use Rattle.step.specs.Step.{Beside, StepFits, Taken, lent_front, rows_take
 
 use codes::Operation;
 use column::widths;
-use model::{ListAnswer, Width};
+use model::{ListAnswer, Refusal, Width};
 
 // One step on the carried list of n rows, its argument columns `pitch` values apart: what its operation does after 3.
 #[rattlefmt::skip]
@@ -34,7 +34,7 @@ fn step<'a>(
     ensures { ListAnswersAt width (after_three (limits_at width) (step_call (step code first second third) (rows_of (lent_at width offsets large rows rstart values elements estart)) (rows_of (lent_at width roffsets rlarge rrows r_rstart rvalues relements r_estart)) (column_at (shown_by (lent_arguments_from args bits start)) pitch n))) result out_offsets out_large out_rows out_values out_elements }
 {
     match codes::operation_of(code) {
-        Operation::One(op) => one_list::one_list(
+        Some(Operation::One(op)) => one_list::one_list(
             op,
             offsets, rows, rstart, values, elements, estart,
             n, pitch, first as usize, second as usize, third as usize,
@@ -42,14 +42,14 @@ fn step<'a>(
             out_offsets, out_rows, out_values, out_elements,
             width, large, out_large,
         ),
-        Operation::Two(op) => set_walk::after_three(
+        Some(Operation::Two(op)) => set_walk::after_three(
             op,
             offsets, rows, rstart, values, elements, estart,
             roffsets, rrows, r_rstart, rvalues, relements, r_estart,
             out_offsets, out_rows, out_values, out_elements,
             width, large, rlarge, out_large,
         ),
-        Operation::None => ListAnswer::Refused(10),
+        None => Err(Refusal::MalformedRecipe),
     }
 }
 

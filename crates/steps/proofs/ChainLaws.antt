@@ -19,8 +19,10 @@ use Rattle.model.specs.Outcome.{Outcome, refused, made, gate, fitted, after_thre
 use Rattle.model.specs.Recipe.{Step, step_at, step_call, then_on, carried}
 use Rattle.model.specs.Refusals.{rows_refusal}
 use Rattle.model.specs.Rows.{ListCall, rows_in, row_made, row_by_row, rows_made, made_of, at_row}
-use Rattle.model.specs.declared.ListAnswer.{ListAnswer}
-use Rattle.model.specs.declared.ListAnswer.TheVariants as A
+use Rattle.std.specs.Prelude.{Option, Some, None, Ok, Err}
+use Rattle.model.specs.Answers.{number_of, ListAnswer}
+use Rattle.model.specs.declared.Refusal.{Refusal}
+use Rattle.model.specs.declared.ListCounts.{ListCounts}
 use Rattle.model.proofs.ColumnLaws.{length-rows}
 use Rattle.model.proofs.TabLaws.{length-map, length-tab, tab-step, tab-none}
 use Rattle.ops.specs.Ops.{call_of}
@@ -37,10 +39,12 @@ use Rattle.model.proofs.BoolLaws.{never}
 
 -- ---- what an answer tells
 
-pub answer-refused : (o : Outcome (List Row)) (a : ListAnswer) (k : ℕ) → a ≡ A.Refused k → told a ≡ answer_of list_counts o → o ≡ refused k
+pub answer-refused : (o : Outcome (List Row)) (a : ListAnswer) (k : Refusal) → a ≡ Err k → told a ≡ answer_of list_counts o → o ≡ refused (number_of k)
 unfolding told answer_of
-answer-refused (refused j) a k e h = let q : j ≡ k = cc in rw q
-answer-refused (made ws) a k e h = never cc
+answer-refused (refused j) (Err i) k e h = let q : i ≡ k = cc in let p : j ≡ number_of i = cc in rw (p, q)
+answer-refused (refused j) (Ok i) k e h = never cc
+answer-refused (made ws) (Err i) k e h = never cc
+answer-refused (made ws) (Ok i) k e h = never cc
 
 pub record Made (o : Outcome (List Row)) (n m : ℕ) : Type 0 where
   pub rows : List Row
@@ -48,24 +52,26 @@ pub record Made (o : Outcome (List Row)) (n m : ℕ) : Type 0 where
   pub many : n ≡ length rows
   pub elements : m ≡ length (flat rows)
 
-pub answer-made : (o : Outcome (List Row)) (a : ListAnswer) (n m p q : ℕ) → a ≡ A.Counts n m p q → told a ≡ answer_of list_counts o → Made o n m
+pub answer-made : (o : Outcome (List Row)) (a : ListAnswer) (c : ListCounts) → a ≡ Ok c → told a ≡ answer_of list_counts o → Made o c.rows c.elements
 unfolding told answer_of
-answer-made (refused j) a n m p q e h = never cc
-answer-made (made ws) a n m p q e h = record { rows = ws; is = refl; many = cc; elements = cc }
+answer-made (refused j) (Err k) c e h = never cc
+answer-made (refused j) (Ok d) c e h = never cc
+answer-made (made ws) (Err k) c e h = never cc
+answer-made (made ws) (Ok d) c e h = let q : d ≡ c = cc in record { rows = ws; is = refl; many = sym (ap (λ (x : ListCounts). x.rows) q) ∙ cc; elements = sym (ap (λ (x : ListCounts). x.elements) q) ∙ cc }
 
 -- ---- a step makes as many rows as it takes
 
-rows_of_call : (o : Operation) (ws rs : List Row) (a b c : List Elem) → rows_in (op_call o ws rs a b c) ≡ length ws
+rows_of_call : (o : Option Operation) (ws rs : List Row) (a b c : List Elem) → rows_in (op_call o ws rs a b c) ≡ length ws
 unfolding op_call rows_in call_of
-rows_of_call (S.One (L.Plain u)) ws rs a b c = refl
-rows_of_call (S.One L.Slice) ws rs a b c = refl
-rows_of_call (S.One L.SliceBy) ws rs a b c = refl
-rows_of_call (S.One L.Resize) ws rs a b c = refl
-rows_of_call (S.One L.ResizeWith) ws rs a b c = refl
-rows_of_call (S.One L.Replace) ws rs a b c = refl
-rows_of_call (S.One L.Remove) ws rs a b c = refl
-rows_of_call (S.Two op) ws rs a b c = refl
-rows_of_call S.None ws rs a b c = refl
+rows_of_call (Some (S.One (L.Plain u))) ws rs a b c = refl
+rows_of_call (Some (S.One L.Slice)) ws rs a b c = refl
+rows_of_call (Some (S.One L.SliceBy)) ws rs a b c = refl
+rows_of_call (Some (S.One L.Resize)) ws rs a b c = refl
+rows_of_call (Some (S.One L.ResizeWith)) ws rs a b c = refl
+rows_of_call (Some (S.One L.Replace)) ws rs a b c = refl
+rows_of_call (Some (S.One L.Remove)) ws rs a b c = refl
+rows_of_call (Some (S.Two op)) ws rs a b c = refl
+rows_of_call None ws rs a b c = refl
 
 length-made : (N : Limits) (q : ListCall (List Row) (List Elem)) → length (rows_made N q) ≡ rows_in q
 unfolding rows_made row_by_row
@@ -115,11 +121,12 @@ pub record Carried (o : Outcome (List Row)) (oo' : List ℤ) (ro' : List ℕ) (v
   pub at_front : AtFront n m oo' ro' vo' eo'
   pub shown : rows_of (front oo' ro' vo' eo' n m) ≡ rows
 
-pub carries : (o : Outcome (List Row)) (a : ListAnswer) (n r m p q : ℕ) {oo oo' : List ℤ} {ro ro' : List ℕ} {vo vo' : List ℤ} {eo eo' : List ℕ}
-    → ListMeets o a oo oo' ro ro' vo vo' eo eo' → a ≡ A.Counts r m p q → ((ws : List Row) → o ≡ made ws → length ws ≡ n) → Carried o oo' ro' vo' eo' n m
+pub carries : (o : Outcome (List Row)) (a : ListAnswer) (n : ℕ) (g : ListCounts) {oo oo' : List ℤ} {ro ro' : List ℕ} {vo vo' : List ℤ} {eo eo' : List ℕ}
+    → ListMeets o a oo oo' ro ro' vo vo' eo eo' → a ≡ Ok g → ((ws : List Row) → o ≡ made ws → length ws ≡ n) → Carried o oo' ro' vo' eo' n g.elements
 unfolding written
-carries o a n r m p q {oo} {oo'} {ro} {ro'} {vo} {vo'} {eo} {eo'} h e f =
-    let d = answer-made o a r m p q e h.answer in
+carries o a n g {oo} {oo'} {ro} {ro'} {vo} {vo'} {eo} {eo'} h e f =
+    let m = g.elements in
+    let d = answer-made o a g e h.answer in
     let x = rw d.is at h.offsets in
     let y = rw d.is at h.rows in
     let z = rw d.is at h.values in

@@ -43,7 +43,7 @@ pub fn steps<'a>(
             width, large, from_large, rlarge, out_large,
         );
     }
-    let answer = step::step_at(
+    let made = step::step_at(
         recipe, k, n, m, pitch,
         offsets, rows, rstart, values, elements, estart,
         from_offsets, from_rows, from_values, from_elements,
@@ -51,23 +51,15 @@ pub fn steps<'a>(
         args, bits, start,
         to_offsets, to_rows, to_values, to_elements,
         width, large, from_large, rlarge, to_large,
-    );
-    match answer {
-        ListAnswer::Refused(number) => ListAnswer::Refused(number),
-        ListAnswer::Counts {
-            rows: _,
-            elements: made,
-            null_rows: _,
-            null_elements: _,
-        } => steps(
-            recipe, k + 1, left - 1, n, made, pitch,
-            offsets, rows, rstart, values, elements, estart,
-            roffsets, rrows, r_rstart, rvalues, relements, r_estart,
-            args, bits, start,
-            to_offsets, to_rows, to_values, to_elements,
-            from_offsets, from_rows, from_values, from_elements,
-            out_offsets, out_rows, out_values, out_elements,
-            width, large, rlarge, to_large, from_large, out_large,
-        ),
-    }
+    )?;
+    steps(
+        recipe, k + 1, left - 1, n, made.elements, pitch,
+        offsets, rows, rstart, values, elements, estart,
+        roffsets, rrows, r_rstart, rvalues, relements, r_estart,
+        args, bits, start,
+        to_offsets, to_rows, to_values, to_elements,
+        from_offsets, from_rows, from_values, from_elements,
+        out_offsets, out_rows, out_values, out_elements,
+        width, large, rlarge, to_large, from_large, out_large,
+    )
 }

@@ -5,140 +5,79 @@ ghost use Rattle.std.specs.Prelude.{◌+◌, ◌<◌, ◌≤◌, pos, get_or, le
 ghost use Rattle.model.specs.Basics.{pick, tab};
 ghost use Rattle.std.proofs.lemmas.List.Edits.{sets};
 
-// Stores a byte at m places, from place k on; one is stored at once.
+// Stores a byte at m places, from place k on.
 pub fn put_bytes(bitmap: &mut [u8], k: usize, m: usize, byte: u8)
     requires { k + m ≤ length bitmap.old }
     ensures { bitmap.new ≡ sets bitmap.old k (replicate m byte) }
 {
+    // One byte is stored at once: most short rows have one, and a call of fill would cost more.
     if m == 1 {
         bitmap[k] = byte;
         return;
     }
-    let mut j = k;
-    let mut left = m;
-    while 0 < left {
-        bitmap[j] = byte;
-        j += 1;
-        left -= 1;
-    }
+    bitmap[k..k + m].fill(byte);
 }
 
 // Eight bits, all the same.
 pub fn byte_of(on: bool) -> u8
     ensures { result ≡ pick on 255 0 }
 {
-    if on {
-        return 255;
-    }
-    0
+    if on { 255 } else { 0 }
 }
 
-// Copies one value after the other.
-fn copy_each(values: &[i64], a: usize, n: usize, out: &mut [i64], at: usize)
-    requires n_in_bounds { a + n ≤ length values.now }
-    requires n_in_bounds_2 { at + n ≤ length out.old }
-    ensures { out.new ≡ sets out.old at (tab (λ i. get_or values.now i (pos 0)) a n) }
-{
-    let mut p = a;
-    let mut k = at;
-    let mut left = n;
-    while 0 < left {
-        out[k] = values[p];
-        p += 1;
-        k += 1;
-        left -= 1;
-    }
-}
-
-// Copies the four values from value p on: all are read before one is written, so that they are moved at once.
-fn copy_four(values: &[i64], p: usize, out: &mut [i64], k: usize)
-    requires p_in_bounds { p + 4 ≤ length values.now }
-    requires k_in_bounds { k + 4 ≤ length out.old }
-    ensures { out.new ≡ sets out.old k (tab (λ i. get_or values.now i (pos 0)) p 4) }
-{
-    let v0 = values[p];
-    let v1 = values[p + 1];
-    let v2 = values[p + 2];
-    let v3 = values[p + 3];
-    out[k] = v0;
-    out[k + 1] = v1;
-    out[k + 2] = v2;
-    out[k + 3] = v3;
-}
-
-// The same of eight values, four and four.
-fn copy_eight(values: &[i64], p: usize, out: &mut [i64], k: usize)
-    requires p_in_bounds { p + 8 ≤ length values.now }
-    requires k_in_bounds { k + 8 ≤ length out.old }
-    ensures { out.new ≡ sets out.old k (tab (λ i. get_or values.now i (pos 0)) p 8) }
-{
-    copy_four(values, p, out, k);
-    copy_four(values, p + 4, out, k + 4);
-}
-
-// Copies fewer than eight values: the first four and the last four, which may overlap, or one after the other.
+// Copies fewer than nine values: the first four and the last four, which may overlap, or one after the other.
+// Four are moved at once, where a copy of a length not known before would be a call.
 fn copy_short(values: &[i64], a: usize, n: usize, out: &mut [i64], at: usize)
-    requires n_bound { n < 8 }
+    requires n_bound { n < 9 }
     requires n_in_bounds { a + n ≤ length values.now }
     requires n_in_bounds_2 { at + n ≤ length out.old }
     ensures { out.new ≡ sets out.old at (tab (λ i. get_or values.now i (pos 0)) a n) }
 {
     if n < 4 {
-        copy_each(values, a, n, out, at);
+        for i in 0..n {
+            out[at + i] = values[a + i];
+        }
         return;
     }
     let last = n - 4;
-    copy_four(values, a, out, at);
-    copy_four(values, a + last, out, at + last);
+    out[at..at + 4].copy_from_slice(&values[a..a + 4]);
+    out[at + last..at + last + 4].copy_from_slice(&values[a + last..a + last + 4]);
 }
 
-// Copies the n values from value a on, from place at on: eight after eight, then the last eight, of which some may be copied already.
+// Copies the n values from value a on, from place at on.
 pub fn copy_values(values: &[i64], a: usize, n: usize, out: &mut [i64], at: usize)
     requires n_in_bounds { a + n ≤ length values.now }
     requires n_in_bounds_2 { at + n ≤ length out.old }
     ensures { out.new ≡ sets out.old at (tab (λ i. get_or values.now i (pos 0)) a n) }
 {
-    if n < 8 {
+    if n < 9 {
         copy_short(values, a, n, out, at);
         return;
     }
-    let mut p = a;
-    let mut k = at;
-    let mut left = n;
-    while 8 <= left {
-        copy_eight(values, p, out, k);
-        p += 8;
-        k += 8;
-        left -= 8;
-    }
-    let last = n - 8;
-    copy_eight(values, a + last, out, at + last);
+    out[at..at + n].copy_from_slice(&values[a..a + n]);
 }
 
-// Copies the four values from value p on, last first: all are read before one is written.
-fn turn_four(values: &[i64], p: usize, out: &mut [i64], k: usize)
-    requires p_in_bounds { p + 4 ≤ length values.now }
-    requires k_in_bounds { k + 4 ≤ length out.old }
-    ensures { out.new ≡ sets out.old k (reverse (tab (λ i. get_or values.now i (pos 0)) p 4)) }
+// Copies fewer than eight values, last first.
+fn turn_short(values: &[i64], a: usize, n: usize, out: &mut [i64], at: usize)
+    requires n_bound { n < 8 }
+    requires n_in_bounds { a + n ≤ length values.now }
+    requires n_in_bounds_2 { at + n ≤ length out.old }
+    ensures { out.new ≡ sets out.old at (reverse (tab (λ i. get_or values.now i (pos 0)) a n)) }
 {
-    let v0 = values[p];
-    let v1 = values[p + 1];
-    let v2 = values[p + 2];
-    let v3 = values[p + 3];
-    out[k] = v3;
-    out[k + 1] = v2;
-    out[k + 2] = v1;
-    out[k + 3] = v0;
+    for i in 0..n {
+        out[at + i] = values[a + (n - 1 - i)];
+    }
 }
 
-// The same of eight values, four and four.
+// Copies eight values, last first: all are read before one is written, so that they are moved at once.
 fn turn_eight(values: &[i64], p: usize, out: &mut [i64], k: usize)
     requires p_in_bounds { p + 8 ≤ length values.now }
     requires k_in_bounds { k + 8 ≤ length out.old }
     ensures { out.new ≡ sets out.old k (reverse (tab (λ i. get_or values.now i (pos 0)) p 8)) }
 {
-    turn_four(values, p + 4, out, k);
-    turn_four(values, p, out, k + 4);
+    let mut eight: [i64; 8] = *values[p..].first_chunk().unwrap();
+    eight.reverse();
+    out[k..k + 8].copy_from_slice(&eight);
 }
 
 // Copies the n values from value a on, last first, eight at a time and then singly; they are written upwards, which caches like best.
@@ -147,18 +86,11 @@ pub fn copy_backward(values: &[i64], a: usize, n: usize, out: &mut [i64], at: us
     requires n_in_bounds_2 { at + n ≤ length out.old }
     ensures { out.new ≡ sets out.old at (reverse (tab (λ i. get_or values.now i (pos 0)) a n)) }
 {
-    let mut k = at;
-    let mut left = n;
-    while 8 <= left {
-        left -= 8;
-        turn_eight(values, a + left, out, k);
-        k += 8;
+    let eights = n / 8;
+    for i in 0..eights {
+        turn_eight(values, a + (n - 8 * (i + 1)), out, at + 8 * i);
     }
-    while 0 < left {
-        left -= 1;
-        out[k] = values[a + left];
-        k += 1;
-    }
+    turn_short(values, a, n % 8, out, at + 8 * eights);
 }
 
 // Stores a value at n places, from place at on.
@@ -166,11 +98,5 @@ pub fn fill_values(v: i64, n: usize, out: &mut [i64], at: usize)
     requires { at + n ≤ length out.old }
     ensures { out.new ≡ sets out.old at (replicate n v) }
 {
-    let mut k = at;
-    let mut left = n;
-    while 0 < left {
-        out[k] = v;
-        k += 1;
-        left -= 1;
-    }
+    out[at..at + n].fill(v);
 }

@@ -1,7 +1,7 @@
 -- The places of a strided walk, and the elements that it takes.
 use mathlib.Core.Bool.{Bool, true}
 use mathlib.Core.List.{List, [], map}
-use mathlib.Core.Path.{◌≡◌, refl, sym, ap, ◌∙◌}
+use mathlib.Core.Path.{◌≡◌, refl, sym, ap, subst, ◌∙◌}
 use Prim.Native.Nat.{ℕ, ◌+◌, ◌-◌, ◌*◌, ◌/◌, ◌<◌, ◌≤◌, zero, suc}
 use native.Mathlib.Nat.{mul-le-mul_right, add-mul, one-mul}
 use native.Mathlib.Omega.{arith}
@@ -18,7 +18,7 @@ use Rattle.column.proofs.WriteLaws.{Writing, begun, written, room, done}
 use Rattle.column.specs.Put.{RoomForElemsˡ, Writesˡ, put_values}
 use Rattle.strides.specs.Strides.{Reaches, Follows}
 use Rattle.column.proofs.RowLaws.{elem_plain}
-use Rattle.index.proofs.SignedLaws.{difference_natural}
+use Rattle.std.proofs.lemmas.Int.{ints}
 use Rattle.runs.proofs.PlainLaws.{tab_same, both_written}
 
 -- ---- the places
@@ -42,7 +42,8 @@ module _ (a k n j : ℕ) where
       let e = more j (s + 1) in
       let m = mul-le-mul_right {m = j + 1} {n = k - 1} (s + 1) (omega arith) in
       let f : a - j * (s + 1) - suc s ≡ a - (j + 1) * (s + 1) = omega arith in
-      difference_natural (a - j * (s + 1)) (suc s) (omega (arith, r.0)) ∙ ap pos f
+      let h : suc s ≤ a - j * (s + 1) = omega (arith, r.0) in
+      omega (arith, ints)
 
 first-place : (a : ℕ) (s : ℤ) → step_from a s 0 ≡ a
 unfolding step_from
@@ -90,50 +91,46 @@ module _ (b n a : ℕ) (s : ℤ) (k : ℕ) (e : s ≡ pos 1) (r : Reaches a s k 
       (sliced-tab E b n a (pos 1) k reach-one
       ∙ tab_ext (λ j. E (b + step_from a (pos 1) j)) E 0 (b + a) k (λ j h. let q : b + (a + (0 + j) * 1) ≡ b + a + j = omega arith in rw q))
 
--- ---- the walk: of the k elements that it takes of es, the last left ones are to come, the next at place p
+-- ---- the walk: of the k elements that it takes of es, j are written, and the next is at place p
 
-pub record Going (a : ℕ) (s : ℤ) (k : ℕ) (es : List Elem) (at : ℕ) (vo₀ : List ℤ) (eo₀ : List ℕ) (left q : ℕ) (vo : List ℤ) (eo : List ℕ) (p : ℕ) : Type 0 where
-  pub writing : Writing (sliced a s k es) at vo₀ eo₀ (tab (taken a s es) (k - left) left) q vo eo
-  pub most : left ≤ k
-  pub place : 0 < left → p ≡ step_from a s (k - left)
+pub record Going (a : ℕ) (s : ℤ) (k : ℕ) (es : List Elem) (at : ℕ) (vo₀ : List ℤ) (eo₀ : List ℕ) (j : ℕ) (vo : List ℤ) (eo : List ℕ) (p : ℕ) : Type 0 where
+  pub writing : Writing (sliced a s k es) at vo₀ eo₀ (tab (taken a s es) j (k - j)) (at + j) vo eo
+  pub place : j < k → p ≡ step_from a s j
 
-pub begin : (a : ℕ) (s : ℤ) (k : ℕ) (es : List Elem) (at : ℕ) (vo₀ : List ℤ) (eo₀ : List ℕ) → Going a s k es at vo₀ eo₀ k at vo₀ eo₀ a
+pub begin : (a : ℕ) (s : ℤ) (k : ℕ) (es : List Elem) (at : ℕ) (vo₀ : List ℤ) (eo₀ : List ℕ) → Going a s k es at vo₀ eo₀ 0 vo₀ eo₀ a
 unfolding sliced taken
 begin a s k es at vo₀ eo₀ =
-    let e : k - k ≡ 0 = omega arith in
-    record { writing = rw e (begun _ refl); most = omega arith; place = λ h. rw e (sym (first-place a s)) }
+    let e : k - 0 ≡ k = omega arith in
+    let d : at + 0 ≡ at = omega arith in
+    record { writing = rw (e, d) (begun _ refl); place = λ h. sym (first-place a s) }
 
-module _ {a : ℕ} {s : ℤ} {k : ℕ} {es : List Elem} {at : ℕ} {vo₀ : List ℤ} {eo₀ : List ℕ} {left q : ℕ} {vo : List ℤ} {eo : List ℕ} {p : ℕ} (g : Going a s k es at vo₀ eo₀ left q vo eo p) where
-  pub room_for : 0 < left → RoomForElemsˡ (sliced a s k es) at (length vo₀) (length eo₀) → (q < length vo) × (q / 8 < length eo)
-  room_for h r = room g.writing _ _ (tab-step (taken a s es) (k - left) left h) r
+module _ {a : ℕ} {s : ℤ} {k : ℕ} {es : List Elem} {at : ℕ} {vo₀ : List ℤ} {eo₀ : List ℕ} {j : ℕ} {vo : List ℤ} {eo : List ℕ} {p : ℕ} (g : Going a s k es at vo₀ eo₀ j vo eo p) where
+  pub room_for : j < k → RoomForElemsˡ (sliced a s k es) at (length vo₀) (length eo₀) → (at + j < length vo) × ((at + j) / 8 < length eo)
+  room_for h r = room g.writing _ _ (tab-step (taken a s es) j (k - j) (omega arith)) r
 
-  pub stop : left ≤ 0 → Writesˡ (sliced a s k es) at vo₀ vo eo₀ eo q
-  stop h = done g.writing (tab-none (taken a s es) (k - left) left h)
+  pub stop : j ≡ k → Writesˡ (sliced a s k es) at vo₀ vo eo₀ eo (at + k)
+  stop h = subst (λ q. Writesˡ (sliced a s k es) at vo₀ vo eo₀ eo (at + q)) h (done g.writing (tab-none (taken a s es) j (k - j) (omega arith)))
 
-  pub turned : 0 < left → {vo' : List ℤ} {eo' : List ℕ} {p' : ℕ} → vo' ≡ set vo q (value_of (taken a s es (k - left))) → eo' ≡ push_bit eo q (is_val (taken a s es (k - left)))
-      → (0 < left - 1 → p' ≡ step_from a s (k - left + 1)) → Going a s k es at vo₀ eo₀ (left - 1) (q + 1) vo' eo' p'
+  pub turned : j < k → {vo' : List ℤ} {eo' : List ℕ} {p' : ℕ} → vo' ≡ set vo (at + j) (value_of (taken a s es j)) → eo' ≡ push_bit eo (at + j) (is_val (taken a s es j)) → (j + 1 < k → p' ≡ step_from a s (j + 1)) → Going a s k es at vo₀ eo₀ (j + 1) vo' eo' p'
   turned h {vo'} {eo'} {p'} v e f =
-      let d : k - (left - 1) ≡ k - left + 1 = omega (arith, g.most) in
-      record {
-        writing = rw d (written g.writing _ _ (tab-step (taken a s es) (k - left) left h) v e);
-        most = omega (arith, g.most);
-        place = λ l. rw d (f l);
-      }
+      let d : k - (j + 1) ≡ k - j - 1 = omega arith in
+      let q : at + (j + 1) ≡ at + j + 1 = omega arith in
+      record { writing = rw (d, q) (written g.writing _ _ (tab-step (taken a s es) j (k - j) (omega arith)) v e); place = f }
 
   module _ (n : ℕ) (r : 0 < k → Reaches a s k n) where
-    pub here : 0 < left → p < n
-    here h = rw (g.place h) (in_row_lem a k n (k - left) s (r (omega (arith, g.most))) (omega (arith, g.most)))
+    pub here : j < k → p < n
+    here h = rw (g.place h) (in_row_lem a k n j s (r (omega arith)) h)
 
     -- the sum that steps to the next place, where one is left
-    stepping : 0 < left - 1 → pos p +ℤ s ≡ pos (step_from a s (k - left + 1))
-    stepping h = rw (g.place (omega arith)) (next_place a k n (k - left) s (r (omega (arith, g.most))) (omega (arith, g.most)))
+    stepping : j + 1 < k → pos p +ℤ s ≡ pos (step_from a s (j + 1))
+    stepping h = rw (g.place (omega arith)) (next_place a k n j s (r (omega arith)) h)
 
-    pub follows : 0 < left - 1 → n ≤ 9223372036854775807 → Follows p s
+    pub follows : j + 1 < k → n ≤ 9223372036854775807 → Follows p s
     follows h l =
-        let b = in_row_lem a k n (k - left + 1) s (r (omega (arith, g.most))) (omega (arith, g.most)) in
+        let b = in_row_lem a k n (j + 1) s (r (omega arith)) h in
         record { here = omega (arith, here (omega arith)); natural = rw (stepping h) tt; small = rw (stepping h) (omega (arith, b)) }
 
-    pub next_is : 0 < left - 1 → nat_abs (pos p +ℤ s) ≡ step_from a s (k - left + 1)
+    pub next_is : j + 1 < k → nat_abs (pos p +ℤ s) ≡ step_from a s (j + 1)
     next_is h = ap nat_abs (stepping h)
 
 -- ---- where no element is null
@@ -143,9 +140,12 @@ pub no_bits : (q : ℕ) (b : Bool) → [] ≡ push_bit [] q b
 unfolding push_bit
 no_bits q b = refl
 
--- the walk of the values alone
-pub value_room_lem : {a : ℕ} {s : ℤ} {k : ℕ} {es : List Elem} {at : ℕ} {vo₀ : List ℤ} {left q : ℕ} {vo : List ℤ} {p : ℕ} → Going a s k es at vo₀ [] left q vo [] p → 0 < left → at + k ≤ length vo₀ → q < length vo
-value_room_lem {a} {s} {k} {es} {at} {vo₀} {left} g h r = omega (arith, g.writing.place, g.writing.lv, length-tab (taken a s es) (k - left) left, length-sliced a s k es)
+-- the next value is written, and perhaps there is a next place
+pub value_turned : (E : ℕ → ℤ) (b n a : ℕ) (s : ℤ) (k at : ℕ) (vo₀ : List ℤ) (j : ℕ) (vo : List ℤ) (p : ℕ) → (0 < k → Reaches a s k n) → Going a s k (tab (λ i. val (E i)) b n) at vo₀ [] j vo [] p → j < k → (p' : ℕ) → (j + 1 < k → p' ≡ step_from a s (j + 1)) → Going a s k (tab (λ i. val (E i)) b n) at vo₀ [] (j + 1) (set vo (at + j) (E (b + p))) [] p'
+unfolding value_of
+value_turned E b n a s k at vo₀ j vo p r g h p' f =
+    let e = taken_is (λ i. val (E i)) b n a s j p (g.place h) (here g n r h) in
+    turned g h (rw e refl) (no_bits _ _) f
 
 pub places-room : (a : ℕ) (s : ℤ) (k : ℕ) (es : List Elem) {at lv le : ℕ} → RoomForElemsˡ (sliced a s k es) at lv le → (at + k ≤ lv) × (bytes_for (at + k) ≤ le)
 places-room a s k es p = let l = length-sliced a s k es in (omega (arith, p.values), omega (arith, p.elements))

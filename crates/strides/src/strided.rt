@@ -51,16 +51,19 @@ fn write_each_place(
     ensures { Writes (sliced start stride count (lent_elems values elements estart a n)) at out_values out_elements result }
 {
     let mut p = start;
-    let mut left = count;
-    let mut k = at;
-    while 0 < left {
-        let i = a + p;
-        elements::write_elem(values, elements, estart, i, out_values, out_elements, k);
-        k += 1;
-        left -= 1;
-        p = place_after(p, stride, left);
+    for j in 0..count {
+        elements::write_elem(
+            values,
+            elements,
+            estart,
+            a + p,
+            out_values,
+            out_elements,
+            at + j,
+        );
+        p = place_after(p, stride, count - j - 1);
     }
-    k
+    at + count
 }
 
 // Copies count values of the n from value a on: those at start, start + stride, and so on. The last is copied after the loop, so that no
@@ -83,18 +86,13 @@ fn copy_places(
     if count == 0 {
         return;
     }
+    let last = count - 1;
     let mut p = start;
-    let mut left = count - 1;
-    let mut k = at;
-    while 0 < left {
-        let i = a + p;
-        out[k] = values[i];
-        k += 1;
-        left -= 1;
+    for j in 0..last {
+        out[at + j] = values[a + p];
         p = next_place(p, stride);
     }
-    let i = a + p;
-    out[k] = values[i];
+    out[at + last] = values[a + p];
 }
 
 // Writes the same elements, none of them null: their values, and then their bits at once.
@@ -141,7 +139,7 @@ fn write_places(
     requires room { RoomForElems (sliced start stride count (now_elems values elements estart a n)) at out_values out_elements }
     ensures { Writes (sliced start stride count (lent_elems values elements estart a n)) at out_values out_elements result }
 {
-    if elements.len() == 0 {
+    if elements.is_empty() {
         return write_plain_places(
             values,
             elements,

@@ -2,7 +2,7 @@
 #![tactic(auto)]
 
 ghost use Rattle.std.specs.Prelude.{◌≤◌, false, ◌≡◌};
-ghost use Rattle.sums.specs.Sums.{count_if, let_through, resize_measure, summed};
+ghost use Rattle.sums.specs.Sums.{count_if, let_through, measured, resize_measure, summed};
 ghost use Rattle.arguments.specs.Taken.{Serves};
 ghost use Rattle.bitmap.specs.Push.{Covers};
 ghost use Rattle.model.specs.Inner.{now_arguments, now_bits, lent_arguments_from, lent_bits};
@@ -10,34 +10,23 @@ ghost use Rattle.model.specs.Refusals.{plus};
 ghost use Rattle.model.specs.Widths.{limits_at};
 
 use arguments::taken;
-use model::Width;
+use model::{Refusal, Width};
 use rows::{Cell, utils};
 
-// The number of elements that a call makes, or the refusal before them.
-#[derive(Clone, Copy)]
-pub enum Measure {
-    Sum(usize),
-    Refused(u8),
-}
-
 // The running sum with a row's count: 7 at a negative one, 8 where it passes the largest number.
-fn plus_count(sum: usize, valid: bool, count: Cell) -> Measure
-    ensures { result ≡ summed (plus sum (count_if valid count)) }
+fn plus_count(sum: usize, valid: bool, count: Cell) -> Result<usize, Refusal>
+    ensures { summed result ≡ plus sum (count_if valid count) }
 {
     if !valid {
-        return Measure::Sum(sum);
+        return Ok(sum);
     }
     match count {
-        Cell::Null => Measure::Sum(sum),
-        Cell::Value(n) => {
+        None => Ok(sum),
+        Some(n) => {
             if n < 0 {
-                return Measure::Refused(7);
+                return Err(Refusal::NegativeCount);
             }
-            let k = utils::limit_of(n);
-            if 18446744073709551615 - sum < k {
-                return Measure::Refused(8);
-            }
-            Measure::Sum(sum + k)
+            sum.checked_add(utils::limit_of(n)).ok_or(Refusal::TooMany)
         }
     }
 }
@@ -61,27 +50,20 @@ pub fn measure_resize(
     bits: &[u8],
     start: usize,
     width: Width,
-) -> Measure
+) -> Result<usize, Refusal>
     requires covers { Covers (now_bits rows rstart) n }
     requires serves { Serves false n (now_arguments counts bits start) }
-    ensures value { result ≡ resize_measure (limits_at width) (lent_bits rows rstart) (lent_arguments_from counts bits start) n }
+    ensures value { measured result ≡ resize_measure (limits_at width) (lent_bits rows rstart) (lent_arguments_from counts bits start) n }
     ensures result_bound { let_through result ≤ (limits_at width).offset }
 {
     let mut sum: usize = 0;
-    let mut r: usize = 0;
-    let mut left = n;
-    while 0 < left {
+    for r in 0..n {
         let valid = bitmap::is_valid(rows, rstart, r, n);
         let count = taken::taken_at(true, false, counts, bits, start, n, r);
-        match plus_count(sum, valid, count) {
-            Measure::Refused(k) => return Measure::Refused(k),
-            Measure::Sum(s) => sum = s,
-        }
-        r += 1;
-        left -= 1;
+        sum = plus_count(sum, valid, count)?;
     }
     if most_resized(width) < sum {
-        return Measure::Refused(8);
+        return Err(Refusal::TooMany);
     }
-    Measure::Sum(sum)
+    Ok(sum)
 }

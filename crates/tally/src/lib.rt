@@ -2,56 +2,49 @@
 #![tactic(auto)]
 
 ghost use Rattle.model.specs.Contract.{told};
-ghost use Rattle.model.specs.Tally.{finished_at, moved, named, one_more, refused_at};
+ghost use Rattle.model.specs.Basics.{pick};
+ghost use Rattle.model.specs.Tally.{counted_at, finished_at, moved, named, refused_at};
 ghost use Rattle.tally.specs.Tallies.{tallied_by, tally_of};
-ghost use Rattle.std.specs.Prelude.{◌≡◌};
+ghost use Rattle.std.specs.Prelude.{◌≡◌, ltb};
 
 use model::ListAnswer;
 
-// The counts of stations 0 to 15, each at its station's place and each stopping at its largest value; a tally is document 01's own
-// term.
+// The counts of stations 0 to 15, each at its station's place and each stopping at its largest value.
 #[derive(Drop)]
 pub struct Tally {
     pub finished: [u64; 16],
     pub refused: [u64; 16],
 }
 
-// One more, unless the count stands at its largest value.
-fn one_more(n: u64) -> u64
-    ensures { result ≡ one_more n }
+// One more of a station, unless its count stands at its largest value. One over 15 has no counts.
+#[tactic(auto, using(crate::proofs::TallyLaws::no_count, crate::proofs::TallyLaws::count_stored))]
+fn count(counts: &mut [u64; 16], station: u32)
+    ensures { counts.new ≡ pick (ltb 15 station) counts.old (counted_at station counts.old) }
 {
-    if n == 18446744073709551615 {
-        return n;
+    if station < 16 {
+        let at = station as usize;
+        counts[at] = counts[at].saturating_add(1);
     }
-    n + 1
 }
 
 impl Tally {
     // The tally after an accepted recipe of a station. One over 15 has no counts.
+    #[tactic(auto, using(crate::proofs::TallyLaws::finished_counted))]
     pub fn with_finished(self, station: u32) -> Self
         ensures { tally_of result ≡ moved (named station (finished_at station)) (tally_of self) }
     {
-        if station > 15 {
-            return self;
-        }
-        let at = station as usize;
         let mut next = self;
-        let n = next.finished[at];
-        next.finished[at] = one_more(n);
+        count(&mut next.finished, station);
         next
     }
 
     // The tally after a refused one.
+    #[tactic(auto, using(crate::proofs::TallyLaws::refused_counted))]
     pub fn with_refused(self, station: u32) -> Self
         ensures { tally_of result ≡ moved (named station (refused_at station)) (tally_of self) }
     {
-        if station > 15 {
-            return self;
-        }
-        let at = station as usize;
         let mut next = self;
-        let n = next.refused[at];
-        next.refused[at] = one_more(n);
+        count(&mut next.refused, station);
         next
     }
 }
@@ -64,23 +57,14 @@ pub struct RecipeAnswer {
 }
 
 // The answer with the tally that it leaves, of a recipe of this station.
+#[tactic(auto, unfolding(model::specs::Contract::told, crate::specs::Tallies::outcome_of, model::specs::Tally::move_of, model::specs::Tally::outcome_at))]
 pub fn settle(tally: Tally, station: u32, answer: ListAnswer) -> RecipeAnswer
     ensures answer_value { result.answer ≡ answer }
     ensures tally_value { tally_of result.tally ≡ tallied_by station (told answer) (tally_of tally) }
 {
-    match answer {
-        ListAnswer::Refused(_) => RecipeAnswer {
-            answer,
-            tally: tally.with_refused(station),
-        },
-        ListAnswer::Counts {
-            rows: _,
-            elements: _,
-            null_rows: _,
-            null_elements: _,
-        } => RecipeAnswer {
-            answer,
-            tally: tally.with_finished(station),
-        },
-    }
+    let tally = match answer {
+        Ok(_) => tally.with_finished(station),
+        Err(_) => tally.with_refused(station),
+    };
+    RecipeAnswer { answer, tally }
 }

@@ -2,7 +2,12 @@
 use mathlib.Core.Path.{◌≡◌, sym, ap, ◌∙◌}
 use mathlib.Core.List.{List, [], ◌++◌, append_assoc, append-nil}
 use native.Mathlib.Omega.{arith}
-use Prim.Native.Nat.{ℕ, ◌*◌, ◌-◌, ◌≤◌}
+use Prim.Native.Nat.{ℕ, ◌+◌, ◌*◌, ◌/◌, ◌-◌, ◌≤◌}
+use native.Mathlib.Nat.{add_assoc}
+use Rattle.std.proofs.lemmas.List.{get_or-take, get_or-drop}
+use Rattle.model.proofs.TabLaws.{tab_ext}
+use Rattle.wire.specs.Bytes.{number, nat, nats}
+use Rattle.wire.specs.Laws.{number_same}
 use lib.ListN.{length, take, drop, length-append, length-drop}
 use lib.Seq.{take_at, take_all, length-take-le, drop_at, drop-drop, drop-length}
 use borrow.Rule.Slice.PartMut.{put_mid, Post-is}
@@ -12,16 +17,16 @@ use Rattle.model.specs.Outcome.{Outcome}
 use Rattle.model.specs.Tally.{Tally, tallied}
 use Rattle.tally_bytes.specs.Bytes.{counts_from, tally_in, with_tally, tallied_in}
 
-pub tally_is : (s : List ℕ) {f r : List ℕ} → f ≡ counts_from 0 s → r ≡ counts_from 128 s → ◌≡◌ {A = Tally} (record { finished = f; refused = r }) (tally_in s)
-unfolding tally_in
-tally_is s p q = rw (p, q)
-
--- the part from byte 128 on has room for k counts
-pub part_room : (d : List ℕ) (k : ℕ) → k ≡ 16 → 256 ≤ length d → k * 8 ≤ length (take (length d - 128) (drop 128 d))
-part_room d k e h =
-    let r = length-drop 128 d in
-    let t : length (take (length d - 128) (drop 128 d)) ≡ length d - 128 = length-take-le (length d - 128) (drop 128 d) (omega (arith, r)) in
-    omega (arith, t)
+-- the counts in the part of 128 bytes from `at` on
+pub counts_cut : (s : List ℕ) (at n : ℕ) → n ≡ 128 → at + 128 ≤ length s → nats 8 (take n (drop at s)) ≡ counts_from at s
+unfolding nats nat counts_from
+counts_cut s at n e h =
+    let t : List ℕ = take 128 (drop at s) in
+    let m : length t ≡ 128 = length-take-le 128 (drop at s) (omega (arith, length-drop at s)) in
+    let k : length t / 8 ≡ 16 = omega arith in
+    rw (e, k)
+    (tab_ext (λ i. number 8 t (i * 8)) (λ i. number 8 s (at + i * 8)) 0 0 16
+    (λ i l. number_same 8 t s ((0 + i) * 8) (at + (0 + i) * 8) (λ j b. rw (get_or-take 128 (drop at s) ((0 + i) * 8 + j) 0 (omega arith), get_or-drop at s ((0 + i) * 8 + j) 0, add_assoc))))
 
 -- d is the slice after w was written, p its part from byte n on after v was written there
 pub behind : (w v s d p : List ℕ) (n : ℕ) → length w ≡ n → n ≤ length d → d ≡ over w s → p ≡ over v (take (length d - n) (drop n d)) → put_mid n (length d - n) d p ≡ over (w ++ v) s

@@ -7,22 +7,19 @@ ghost use Rattle.tally.specs.Tallies.{tally_of};
 ghost use Rattle.tally_bytes.specs.Bytes.{counts_from, tally_in, with_tally};
 
 use tally::Tally;
-use wire::{encode_u64, get_u64};
+use wire::{decode, encode};
 
 // The counts of the sixteen stations in the 128 bytes that begin at `at`.
 fn get_counts(bytes: &[u8], at: usize) -> [u64; 16]
     requires { at + 128 ≤ length bytes.now }
     ensures { result ≡ counts_from at bytes.now }
 {
-    let mut counts = [0u64; 16];
-    let mut i = 0;
-    while i < 16 {
-        counts[i] = get_u64(bytes, at + i * 8);
-        i += 1;
-    }
+    let mut counts = [0; 16];
+    decode(&bytes[at..at + 128], &mut counts);
     counts
 }
 
+#[tactic(auto, unfolding(crate::specs::Bytes::tally_in))]
 pub fn get_tally(bytes: &[u8]) -> Tally
     requires { 256 ≤ length bytes.now }
     ensures { tally_of result ≡ tally_in bytes.now }
@@ -36,8 +33,6 @@ pub fn put_tally(tally: Tally, bytes: &mut [u8])
     requires { 256 ≤ length bytes.old }
     ensures { bytes.new ≡ with_tally (tally_of tally) bytes.old }
 {
-    let finished = tally.finished;
-    let refused = tally.refused;
-    encode_u64(&finished, bytes);
-    encode_u64(&refused, &mut bytes[128..]);
+    encode(&tally.finished, bytes);
+    encode(&tally.refused, &mut bytes[128..]);
 }

@@ -12,7 +12,7 @@ use Rattle.model.specs.Outcome.{Outcome, refused, gate}
 use Rattle.model.specs.Tally.{Tally, Move, moved}
 use Rattle.model.specs.Call.{refusal, written}
 use Rattle.model.specs.Contract.{told, ListMeets, Grades}
-use Rattle.model.specs.declared.ListAnswer.{ListAnswer}
+use Rattle.model.specs.Answers.{ListAnswer}
 use Rattle.entry.specs.Entry.{number_of}
 use Rattle.entry.specs.Inner.{number_in, counts_in}
 use Rattle.typed.specs.Typed.{served, Told, TypedList}

@@ -1,5 +1,6 @@
 -- Lengths told through numbers, and what a typed entry returns by them.
 use mathlib.Core.Path.{◌≡◌, refl}
+use Rattle.std.specs.Prelude.{Ok, Err}
 use mathlib.Core.Bool.{Bool, true, false}
 use mathlib.Core.List.{List, [], ◌∷◌}
 use Prim.Native.Nat.{ℕ}
@@ -8,14 +9,12 @@ use Rattle.model.specs.Basics.{Lent, absent, given}
 use Rattle.model.specs.Call.{room_counts, value_room_counts, repeat_room_counts, limit_counts, written}
 use Rattle.model.specs.Form.{over}
 use Rattle.model.specs.Outcome.{Outcome, refused, made, gate}
-use Rattle.model.specs.declared.ListLengths.{ListLengths}
-use Rattle.model.specs.declared.ListLengths.TheVariants as L
-use Rattle.model.specs.declared.ValueLengths.{ValueLengths}
-use Rattle.model.specs.declared.ValueLengths.TheVariants as V'
-use Rattle.model.specs.declared.RepeatLengths.{RepeatLengths}
-use Rattle.model.specs.declared.RepeatLengths.TheVariants as R
-use Rattle.model.specs.declared.RecipeLimits.{RecipeLimits}
-use Rattle.model.specs.declared.RecipeLimits.TheVariants as T
+use Rattle.model.specs.declared.Refusal.{Refusal}
+use Rattle.model.specs.declared.ListSlots.{ListSlots}
+use Rattle.model.specs.declared.RepeatSlots.{RepeatSlots}
+use Rattle.model.specs.declared.TrayElements.{TrayElements}
+use Rattle.model.specs.declared.ValueSlots.{ValueSlots}
+use Rattle.model.specs.Answers.{number_of as refusal_number, ListLengths, ValueLengths, RepeatLengths, RecipeLimits}
 use Rattle.entry.specs.Entry.{number_of}
 use Rattle.typed.specs.Typed.{measured, TypedLengths}
 
@@ -29,35 +28,35 @@ made_told : {A : Type 0} (f : A → List ℕ) {y : Outcome A} (a : A) {c c' : Li
 unfolding number_of written
 made_told f a q h = rw q (record { number = refl; lengths = h })
 
-pub list-refused : {a : ListLengths} (k : ℕ) {c : List ℕ} → a ≡ L.Refused k → TypedLengths room_counts (asked_list a) k c c
+pub list-refused : {a : ListLengths} (k : Refusal) {c : List ℕ} → a ≡ Err k → TypedLengths room_counts (asked_list a) (refusal_number k) c c
 unfolding asked_list
-list-refused k q = refused-told room_counts k (rw q)
+list-refused k q = refused-told room_counts (refusal_number k) (rw q)
 
-pub list-made : {a : ListLengths} {o r v e : ℕ} {c c' : List ℕ} → a ≡ L.Of o r v e → c' ≡ over (o ∷ r ∷ v ∷ e ∷ []) c → TypedLengths room_counts (asked_list a) 0 c c'
+pub list-made : {a : ListLengths} {k : ListSlots} {c c' : List ℕ} → a ≡ Ok k → c' ≡ over (k.offsets ∷ k.rows ∷ k.values ∷ k.elements ∷ []) c → TypedLengths room_counts (asked_list a) 0 c c'
 unfolding asked_list
 list-made q h = made_told room_counts _ (rw q) h
 
-pub value_refused : {a : ValueLengths} (k : ℕ) {c : List ℕ} → a ≡ V'.Refused k → TypedLengths value_room_counts (asked_values a) k c c
+pub value_refused : {a : ValueLengths} (k : Refusal) {c : List ℕ} → a ≡ Err k → TypedLengths value_room_counts (asked_values a) (refusal_number k) c c
 unfolding asked_values
-value_refused k q = refused-told value_room_counts k (rw q)
+value_refused k q = refused-told value_room_counts (refusal_number k) (rw q)
 
-pub value_made_lem : {a : ValueLengths} {v r : ℕ} {c c' : List ℕ} → a ≡ V'.Of v r → c' ≡ over (v ∷ r ∷ []) c → TypedLengths value_room_counts (asked_values a) 0 c c'
+pub value_made_lem : {a : ValueLengths} {k : ValueSlots} {c c' : List ℕ} → a ≡ Ok k → c' ≡ over (k.values ∷ k.rows ∷ []) c → TypedLengths value_room_counts (asked_values a) 0 c c'
 unfolding asked_values
 value_made_lem q h = made_told value_room_counts _ (rw q) h
 
-pub repeat_refused : {a : RepeatLengths} (k : ℕ) {c : List ℕ} → a ≡ R.Refused k → TypedLengths repeat_room_counts (asked_repeat a) k c c
+pub repeat_refused : {a : RepeatLengths} (k : Refusal) {c : List ℕ} → a ≡ Err k → TypedLengths repeat_room_counts (asked_repeat a) (refusal_number k) c c
 unfolding asked_repeat
-repeat_refused k q = refused-told repeat_room_counts k (rw q)
+repeat_refused k q = refused-told repeat_room_counts (refusal_number k) (rw q)
 
-pub repeat_made : {a : RepeatLengths} {o r i j v e : ℕ} {c c' : List ℕ} → a ≡ R.Of o r i j v e → c' ≡ over (o ∷ r ∷ i ∷ j ∷ v ∷ e ∷ []) c → TypedLengths repeat_room_counts (asked_repeat a) 0 c c'
+pub repeat_made : {a : RepeatLengths} {k : RepeatSlots} {c c' : List ℕ} → a ≡ Ok k → c' ≡ over (k.offsets ∷ k.rows ∷ k.inner_offsets ∷ k.inner_rows ∷ k.values ∷ k.elements ∷ []) c → TypedLengths repeat_room_counts (asked_repeat a) 0 c c'
 unfolding asked_repeat
 repeat_made q h = made_told repeat_room_counts _ (rw q) h
 
-pub limit_refused : {a : RecipeLimits} (k : ℕ) {c : List ℕ} → a ≡ T.Refused k → TypedLengths limit_counts (asked_recipe a) k c c
+pub limit_refused : {a : RecipeLimits} (k : Refusal) {c : List ℕ} → a ≡ Err k → TypedLengths limit_counts (asked_recipe a) (refusal_number k) c c
 unfolding asked_recipe
-limit_refused k q = refused-told limit_counts k (rw q)
+limit_refused k q = refused-told limit_counts (refusal_number k) (rw q)
 
-pub limit_made : {a : RecipeLimits} {x y z : ℕ} {c c' : List ℕ} → a ≡ T.Of x y z → c' ≡ over (x ∷ y ∷ z ∷ []) c → TypedLengths limit_counts (asked_recipe a) 0 c c'
+pub limit_made : {a : RecipeLimits} {k : TrayElements} {c c' : List ℕ} → a ≡ Ok k → c' ≡ over (k.one ∷ k.two ∷ k.output ∷ []) c → TypedLengths limit_counts (asked_recipe a) 0 c c'
 unfolding asked_recipe
 limit_made q h = made_told limit_counts _ (rw q) h
 

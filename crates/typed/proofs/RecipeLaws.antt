@@ -17,7 +17,7 @@ use Rattle.model.specs.Recipe.{stationed}
 use Rattle.model.specs.Tally.{Tally, tallied}
 use Rattle.model.specs.Call.{Answer, refusal, written}
 use Rattle.model.specs.Contract.{told, ListMeets}
-use Rattle.model.specs.declared.ListAnswer.{ListAnswer}
+use Rattle.model.specs.Answers.{ListAnswer}
 use Rattle.model.proofs.BoolLaws.{or_none}
 use Rattle.model.proofs.Stations.{station_over}
 use Rattle.entry.specs.Entry.{number_of}

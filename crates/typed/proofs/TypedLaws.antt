@@ -1,5 +1,6 @@
 -- An answer told through numbers, and what a typed entry returns by it.
 use mathlib.Core.Path.{◌≡◌, refl, ap, ◌∙◌}
+use Rattle.std.specs.Prelude.{Ok, Err}
 use mathlib.Core.Bool.{Bool, true, false}
 use mathlib.Core.List.{List, [], ◌∷◌}
 use Prim.Native.Nat.{ℕ}
@@ -11,14 +12,11 @@ use Rattle.model.specs.Form.{Outer, over}
 use Rattle.model.specs.Outcome.{Outcome, refused, gate}
 use Rattle.model.specs.Call.{list_counts, value_counts, repeat_counts, row_counts, written}
 use Rattle.model.specs.Contract.{told, told_value, told_repeat, told_grade, ListMeets, ValueMeets, RepeatMeets, ViewMeets, GradeMeets, HashMeets}
-use Rattle.model.specs.declared.GradeAnswer.{GradeAnswer}
-use Rattle.model.specs.declared.GradeAnswer.TheVariants as G
-use Rattle.model.specs.declared.ListAnswer.{ListAnswer}
-use Rattle.model.specs.declared.ListAnswer.TheVariants as L
-use Rattle.model.specs.declared.ValueAnswer.{ValueAnswer}
-use Rattle.model.specs.declared.ValueAnswer.TheVariants as V'
-use Rattle.model.specs.declared.RepeatAnswer.{RepeatAnswer}
-use Rattle.model.specs.declared.RepeatAnswer.TheVariants as R
+use Rattle.model.specs.declared.Refusal.{Refusal}
+use Rattle.model.specs.declared.ListCounts.{ListCounts}
+use Rattle.model.specs.declared.RepeatCounts.{RepeatCounts}
+use Rattle.model.specs.declared.ValueCounts.{ValueCounts}
+use Rattle.model.specs.Answers.{number_of as refusal_number, GradeAnswer, ListAnswer, ValueAnswer, RepeatAnswer}
 use Rattle.entry.specs.Entry.{number_of}
 use Rattle.entry.specs.Inner.{number_in, counts_in}
 use Rattle.entry.proofs.AnswerLaws.{number_of_lem, counts_of}
@@ -26,35 +24,35 @@ use Rattle.typed.specs.Typed.{served, Told, TypedList, TypedValues, TypedRepeat,
 
 -- ---- an answer is told
 
-pub list-refused : {a : ListAnswer} (k : ℕ) {c : List ℕ} → a ≡ L.Refused k → Told (told a) k c c
+pub list-refused : {a : ListAnswer} (k : Refusal) {c : List ℕ} → a ≡ Err k → Told (told a) (refusal_number k) c c
 unfolding told number_in counts_in
 list-refused k q = rw q (record { number = refl; counts = refl })
 
-pub list-made : {a : ListAnswer} {r e n m : ℕ} {c c' : List ℕ} → a ≡ L.Counts r e n m → c' ≡ over (r ∷ e ∷ n ∷ m ∷ []) c → Told (told a) 0 c c'
+pub list-made : {a : ListAnswer} {k : ListCounts} {c c' : List ℕ} → a ≡ Ok k → c' ≡ over (k.rows ∷ k.elements ∷ k.null_rows ∷ k.null_elements ∷ []) c → Told (told a) 0 c c'
 unfolding told number_in counts_in
 list-made q h = rw q (record { number = refl; counts = h })
 
-pub value_refused : {a : ValueAnswer} (k : ℕ) {c : List ℕ} → a ≡ V'.Refused k → Told (told_value a) k c c
+pub value_refused : {a : ValueAnswer} (k : Refusal) {c : List ℕ} → a ≡ Err k → Told (told_value a) (refusal_number k) c c
 unfolding told_value number_in counts_in
 value_refused k q = rw q (record { number = refl; counts = refl })
 
-pub value_made_lem : {a : ValueAnswer} {r n : ℕ} {c c' : List ℕ} → a ≡ V'.Counts r n → c' ≡ over (r ∷ n ∷ []) c → Told (told_value a) 0 c c'
+pub value_made_lem : {a : ValueAnswer} {k : ValueCounts} {c c' : List ℕ} → a ≡ Ok k → c' ≡ over (k.rows ∷ k.null_rows ∷ []) c → Told (told_value a) 0 c c'
 unfolding told_value number_in counts_in
 value_made_lem q h = rw q (record { number = refl; counts = h })
 
-pub repeat_refused : {a : RepeatAnswer} (k : ℕ) {c : List ℕ} → a ≡ R.Refused k → Told (told_repeat a) k c c
+pub repeat_refused : {a : RepeatAnswer} (k : Refusal) {c : List ℕ} → a ≡ Err k → Told (told_repeat a) (refusal_number k) c c
 unfolding told_repeat number_in counts_in
 repeat_refused k q = rw q (record { number = refl; counts = refl })
 
-pub repeat_made : {a : RepeatAnswer} {r e n m i j : ℕ} {c c' : List ℕ} → a ≡ R.Counts r e n m i j → c' ≡ over (r ∷ e ∷ n ∷ m ∷ i ∷ j ∷ []) c → Told (told_repeat a) 0 c c'
+pub repeat_made : {a : RepeatAnswer} {k : RepeatCounts} {c c' : List ℕ} → a ≡ Ok k → c' ≡ over (k.rows ∷ k.elements ∷ k.null_rows ∷ k.null_elements ∷ k.inner_rows ∷ k.null_inner_rows ∷ []) c → Told (told_repeat a) 0 c c'
 unfolding told_repeat number_in counts_in
 repeat_made q h = rw q (record { number = refl; counts = h })
 
-pub grade_refused : {a : GradeAnswer} (k : ℕ) {c : List ℕ} → a ≡ G.Refused k → Told (told_grade a) k c c
+pub grade_refused : {a : GradeAnswer} (k : Refusal) {c : List ℕ} → a ≡ Err k → Told (told_grade a) (refusal_number k) c c
 unfolding told_grade number_in counts_in
 grade_refused k q = rw q (record { number = refl; counts = refl })
 
-pub grade_made : {a : GradeAnswer} {r : ℕ} {c c' : List ℕ} → a ≡ G.Rows r → c' ≡ over (r ∷ []) c → Told (told_grade a) 0 c c'
+pub grade_made : {a : GradeAnswer} {r : ℕ} {c c' : List ℕ} → a ≡ Ok r → c' ≡ over (r ∷ []) c → Told (told_grade a) 0 c c'
 unfolding told_grade number_in counts_in
 grade_made q h = rw q (record { number = refl; counts = h })
 

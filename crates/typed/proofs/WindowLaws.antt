@@ -15,7 +15,7 @@ use Rattle.model.specs.Recipe.{Recipe, malformed, recipe_unequal}
 use Rattle.model.specs.Window.{no_window, formed_window, window_outcome}
 use Rattle.model.specs.Call.{Answer, refusal, written}
 use Rattle.model.specs.Contract.{told, ListMeets}
-use Rattle.model.specs.declared.ListAnswer.{ListAnswer}
+use Rattle.model.specs.Answers.{ListAnswer}
 use Rattle.entry.specs.Entry.{number_of}
 use Rattle.entry.specs.Inner.{number_in, counts_in}
 use Rattle.typed.specs.Typed.{served, Told, TypedList}

@@ -11,18 +11,16 @@ ghost use Rattle.model.specs.Contract.{told, told_grade, told_repeat, told_value
 ghost use Rattle.model.specs.Form.{over};
 ghost use Rattle.typed.specs.Typed.{Told};
 
-use model::{GradeAnswer, ListAnswer, RepeatAnswer, ValueAnswer};
+use model::{
+    GradeAnswer, ListAnswer, ListCounts, RepeatAnswer, RepeatCounts, ValueAnswer, ValueCounts,
+};
 
 // Numbers over the front of a slice.
 fn put_counts(ns: &[u64], s: &mut [u64])
     requires { length ns.now ≤ length s.old }
     ensures { s.new ≡ over ns.now s.old }
 {
-    let mut i = 0;
-    while i < ns.len() {
-        s[i] = ns[i];
-        i += 1;
-    }
+    s[..ns.len()].copy_from_slice(ns);
 }
 
 pub fn put_list(answer: ListAnswer, counts: &mut [u64]) -> u32
@@ -30,13 +28,15 @@ pub fn put_list(answer: ListAnswer, counts: &mut [u64]) -> u32
     ensures { Told (told answer) result counts.old counts.new }
 {
     match answer {
-        ListAnswer::Refused(k) => k as u32,
-        ListAnswer::Counts {
-            rows,
-            elements,
-            null_rows,
-            null_elements,
-        } => {
+        Err(refusal) => u32::from(refusal),
+        Ok(
+            ListCounts {
+                rows,
+                elements,
+                null_rows,
+                null_elements,
+            },
+        ) => {
             let ns = [
                 rows as u64,
                 elements as u64,
@@ -54,8 +54,8 @@ pub fn put_values(answer: ValueAnswer, counts: &mut [u64]) -> u32
     ensures { Told (told_value answer) result counts.old counts.new }
 {
     match answer {
-        ValueAnswer::Refused(k) => k as u32,
-        ValueAnswer::Counts { rows, null_rows } => {
+        Err(refusal) => u32::from(refusal),
+        Ok(ValueCounts { rows, null_rows }) => {
             let ns = [rows as u64, null_rows as u64];
             put_counts(&ns, counts);
             0
@@ -68,8 +68,8 @@ pub fn put_grade(answer: GradeAnswer, counts: &mut [u64]) -> u32
     ensures { Told (told_grade answer) result counts.old counts.new }
 {
     match answer {
-        GradeAnswer::Refused(k) => k as u32,
-        GradeAnswer::Rows(rows) => {
+        Err(refusal) => u32::from(refusal),
+        Ok(rows) => {
             let ns = [rows as u64];
             put_counts(&ns, counts);
             0
@@ -82,15 +82,17 @@ pub fn put_repeat(answer: RepeatAnswer, counts: &mut [u64]) -> u32
     ensures { Told (told_repeat answer) result counts.old counts.new }
 {
     match answer {
-        RepeatAnswer::Refused(k) => k as u32,
-        RepeatAnswer::Counts {
-            rows,
-            elements,
-            null_rows,
-            null_elements,
-            inner_rows,
-            null_inner_rows,
-        } => {
+        Err(refusal) => u32::from(refusal),
+        Ok(
+            RepeatCounts {
+                rows,
+                elements,
+                null_rows,
+                null_elements,
+                inner_rows,
+                null_inner_rows,
+            },
+        ) => {
             let ns = [
                 rows as u64,
                 elements as u64,

@@ -39,10 +39,7 @@ pub fn k_for(counts: usize, tally: usize, k: u64) -> u64
 fn count_at(s: &[u64], i: usize) -> u64
     ensures { result ≡ get_or s.now i 0 }
 {
-    if i < s.len() {
-        return s[i];
-    }
-    0
+    s.get(i).copied().unwrap_or(0)
 }
 
 // The counts of the sixteen stations from place `at` on.
@@ -51,10 +48,8 @@ fn get_counts(s: &[u64], at: usize) -> [u64; 16]
     ensures { result ≡ counts_at at s.now }
 {
     let mut counts = [0u64; 16];
-    let mut i = 0;
-    while i < 16 {
+    for i in 0..16 {
         counts[i] = count_at(s, at + i);
-        i += 1;
     }
     counts
 }

@@ -2,8 +2,9 @@
 use mathlib.Core.Path.{◌≡◌, refl, sym, ap, ◌∙◌}
 use mathlib.Core.Bool.{true, false}
 use mathlib.Core.List.{[], ◌∷◌}
-use Prim.Native.Nat.{ℕ, ◌+◌}
-use borrow.Author.Tests.{eq-eqb, ne_eqb}
+use Prim.Native.Nat.{ℕ, ◌+◌, ◌≤◌}
+use native.Mathlib.Omega.{arith}
+use borrow.Author.Tests.{eq-eqb, ne_eqb, le-ltb}
 use lib.Dec.{ltb}
 use lib.ListN.{length}
 use Rattle.model.specs.Basics.{tab}
@@ -16,6 +17,7 @@ use Rattle.model.specs.Rows.{any_value_of, element_of}
 use Rattle.model.specs.Outcome.{refused, gate, columns_refusal, fitted_values, any_value_shown, any_value_outcome, elements_made, elements_refusal, element_shown, element_outcome}
 use Rattle.model.proofs.TabLaws.{tab_ext, map-tab}
 use Rattle.model.proofs.OutcomeLaws.{gate_open, gate_shut, beside_starts, beside_early, beside_two, beside_open}
+use Rattle.column.proofs.WalkLaws.{readable}
 use Rattle.value_places.specs.Values.{value_made, values_made, ElementChecked}
 use Rattle.value_places.specs.declared.ValueOp.TheVariants as V'
 use Rattle.value_places.proofs.FoundLaws.{four_at_lem}
@@ -70,4 +72,13 @@ refuses L c a k h o = record {
   outcome = λ l. o l ∙ sym (gate_shut k _ h);
   list = λ z. absurd (h z);
   indexes = λ z. absurd (h z);
+}
+
+-- once 13, 1, 2 and 3 are passed, what refuses element is the first row's refusal
+pub passes : (L : Limits) (c : Column) (a : Arguments) (k n : ℕ) → a.bits.start ≤ 7 → 0 ≡ columns_refusal (c ∷ []) [] → short_bits a.bits (length a.values) ≡ false → length a.values ≡ n → n ≡ row_count c.offsets
+    → k ≡ first_of (tab (four_at L c.rows a.values a.bits) 0 n) → ElementChecked L c a k
+passes L c a k n s e b m r q = record {
+  outcome = λ l. element-shown L c a l (le-ltb 7 a.bits.start s) 0 e refl b ∙ rw (q, r) (element_goes L c a l (m ∙ r));
+  list = λ z. readable c (sym e);
+  indexes = λ z. record { many = m ∙ r; bits = rw (← r, ← m) (record { small = omega arith; long = b }) };
 }

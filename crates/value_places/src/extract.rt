@@ -22,19 +22,17 @@ pub(crate) fn first_valid(
     requires column { ReadableElems values elements estart a n }
     ensures { FirstAt (lent_elem values elements estart) a n result }
 {
-    let mut p = a;
-    let mut left = n;
-    while 0 < left {
+    let end = a + n;
+    for p in a..end {
         if bitmap::is_valid(elements, estart, p, values.len()) {
             return p;
         }
-        p += 1;
-        left -= 1;
     }
-    p
+    end
 }
 
 // Whether list and index of row r are valid and the index does not fit 32 signed bits.
+#[tactic(auto, unfolding(crate::specs::Found::unfit_at))]
 pub(crate) fn is_unfit(
     rows: &[u8],
     rstart: usize,
@@ -50,13 +48,9 @@ pub(crate) fn is_unfit(
     requires r_lt_n { r < n }
     ensures { result ≡ unfit_at narrow (lent_bits rows rstart) indexes.now (lent_bits index_bits istart) r }
 {
-    if !bitmap::is_valid(rows, rstart, r, n) {
-        return false;
-    }
-    if !bitmap::is_valid(index_bits, istart, r, n) {
-        return false;
-    }
-    !index::fits_i32(indexes[r])
+    bitmap::is_valid(rows, rstart, r, n)
+        && bitmap::is_valid(index_bits, istart, r, n)
+        && !index::fits_i32(indexes[r])
 }
 
 // Where an index points in a row of len elements, or len.
@@ -68,6 +62,7 @@ fn index_bound(index: i64, len: usize, width: Width) -> usize
         Width::Narrow => index::adjusted_array_index(index, len),
         Width::Wide => large_index::adjusted_array_index(index, len),
     }
+    .unwrap_or(len)
 }
 
 // Where the index of row r points among the k elements from element a on, or the end.

@@ -8,6 +8,7 @@ mod extract;
 ghost use Rattle.std.specs.Prelude.{◌+◌, ◌<◌, ◌≤◌, length, ◌≡◌};
 ghost use Rattle.bitmap.specs.Push.{Covers};
 ghost use Rattle.column.specs.Outputs.{ReadableElems};
+ghost use Rattle.model.specs.Answers.{refused_by};
 ghost use Rattle.model.specs.Basics.{tab};
 ghost use Rattle.model.specs.Inner.{now_arguments, now_bits, lent_arguments_from, lent_at, lent_bits, lent_elem};
 ghost use Rattle.model.specs.Limits.{narrow};
@@ -17,7 +18,7 @@ ghost use Rattle.value_places.specs.Found.{four_at};
 ghost use Rattle.value_places.specs.Values.{ElementChecked, Indexed, PlaceOf};
 
 use column::widths;
-use model::Width;
+use model::{Refusal, Width};
 
 // The operations that make one value a row.
 #[derive(Clone, Copy)]
@@ -28,6 +29,7 @@ pub enum ValueOp {
 }
 
 // Where the value stands that is made of the k elements of row r from element a on, or the end.
+#[tactic(auto, unfolding(crate::specs::Values::Indexed, crate::specs::Values::PlaceOf))]
 pub fn place_of(
     op: ValueOp,
     values: &[i64],
@@ -54,7 +56,7 @@ pub fn place_of(
     }
 }
 
-// Refusal 4 of element at 32 bits, by the first row that gives it; 0 where none does.
+// An index of a valid row that does not fit 32 signed bits.
 fn index_refusal(
     rows: &[u8],
     rstart: usize,
@@ -62,25 +64,21 @@ fn index_refusal(
     indexes: &[i64],
     index_bits: &[u8],
     istart: usize,
-) -> u8
+) -> Result<(), Refusal>
     requires covers { Covers (now_bits rows rstart) n }
     requires covers_2 { Covers (now_bits index_bits istart) n }
     requires indexes_len { length indexes.now ≡ n }
-    ensures { result ≡ first_of (tab (four_at narrow (lent_bits rows rstart) indexes.now (lent_bits index_bits istart)) 0 n) }
+    ensures { refused_by result ≡ first_of (tab (four_at narrow (lent_bits rows rstart) indexes.now (lent_bits index_bits istart)) 0 n) }
 {
-    let mut r: usize = 0;
-    let mut left = n;
-    while 0 < left {
+    for r in 0..n {
         if extract::is_unfit(rows, rstart, n, indexes, index_bits, istart, r) {
-            return 4;
+            return Err(Refusal::WideIndex);
         }
-        r += 1;
-        left -= 1;
     }
-    0
+    Ok(())
 }
 
-// The number that refuses element, or 0: 13, 1 and 2, then 3, then 4, which no index of a large list gives. What is left to refuse it is 9.
+// What refuses element but for a short output. No index of a large list is too wide.
 pub fn element_refusal(
     offsets: &[i32],
     rows: &[u8],
@@ -93,27 +91,24 @@ pub fn element_refusal(
     istart: usize,
     width: Width,
     large: &[i64],
-) -> u8
-    ensures { ElementChecked (limits_at width) (lent_at width offsets large rows rstart values elements estart) (lent_arguments_from indexes index_bits istart) result }
+) -> Result<(), Refusal>
+    ensures { ElementChecked (limits_at width) (lent_at width offsets large rows rstart values elements estart) (lent_arguments_from indexes index_bits istart) (refused_by result) }
 {
     if 7 < istart {
-        return 13;
+        return Err(Refusal::BadStartingBit);
     }
-    let k = checks::list_refusal(
+    checks::list_refusal(
         offsets, rows, rstart, values, elements, estart, width, large,
-    );
-    if k != 0 {
-        return k;
-    }
+    )?;
     if bitmap::is_short(index_bits, istart, indexes.len()) {
-        return 2;
+        return Err(Refusal::ShortBitmap);
     }
     let n = widths::row_count(width, offsets, large);
     if indexes.len() != n {
-        return 3;
+        return Err(Refusal::RowCountsDiffer);
     }
     match width {
         Width::Narrow => index_refusal(rows, rstart, n, indexes, index_bits, istart),
-        Width::Wide => 0,
+        Width::Wide => Ok(()),
     }
 }

@@ -29,7 +29,7 @@ pub fn any_value(
 ) -> ValueAnswer
     ensures { ValueAnswers (any_value_outcome (lent_at width offsets large rows rows_start values elements elements_start)) result out_values out_rows }
 {
-    let k = checks::list_refusal(
+    checks::list_refusal(
         offsets,
         rows,
         rows_start,
@@ -38,10 +38,7 @@ pub fn any_value(
         elements_start,
         width,
         large,
-    );
-    if k != 0 {
-        return ValueAnswer::Refused(k);
-    }
+    )?;
     value_walk::write_fitting(
         ValueOp::AnyValue,
         offsets,
@@ -73,7 +70,7 @@ pub fn any_value_lengths(
 ) -> ValueLengths
     ensures { asked_values result ≡ any_value_lengths (lent_at width offsets large rows rows_start values elements elements_start) }
 {
-    let k = checks::list_refusal(
+    checks::list_refusal(
         offsets,
         rows,
         rows_start,
@@ -82,10 +79,7 @@ pub fn any_value_lengths(
         elements_start,
         width,
         large,
-    );
-    if k != 0 {
-        return ValueLengths::Refused(k);
-    }
+    )?;
     checks::value_lengths_for(widths::row_count(width, offsets, large))
 }
 
@@ -107,7 +101,7 @@ pub fn element(
 ) -> ValueAnswer
     ensures { ValueAnswers (element_outcome (limits_at width) (lent_at width offsets large rows rows_start values elements elements_start) (lent_arguments_from indexes index_bits index_start)) result out_values out_rows }
 {
-    let k = value_places::element_refusal(
+    value_places::element_refusal(
         offsets,
         rows,
         rows_start,
@@ -119,10 +113,7 @@ pub fn element(
         index_start,
         width,
         large,
-    );
-    if k != 0 {
-        return ValueAnswer::Refused(k);
-    }
+    )?;
     value_walk::write_fitting(
         ValueOp::Element,
         offsets,
@@ -157,7 +148,7 @@ pub fn element_lengths(
 ) -> ValueLengths
     ensures { asked_values result ≡ element_lengths (limits_at width) (lent_at width offsets large rows rows_start values elements elements_start) (lent_arguments_from indexes index_bits index_start) }
 {
-    let k = value_places::element_refusal(
+    value_places::element_refusal(
         offsets,
         rows,
         rows_start,
@@ -169,9 +160,6 @@ pub fn element_lengths(
         index_start,
         width,
         large,
-    );
-    if k != 0 {
-        return ValueLengths::Refused(k);
-    }
+    )?;
     checks::value_lengths_for(widths::row_count(width, offsets, large))
 }

@@ -28,7 +28,7 @@ pub(crate) fn write_found(
 {
     if i < end {
         elements::write_elem(values, elements, estart, i, out_values, out_rows, k);
-        return;
+    } else {
+        elements::write_null(out_values, out_rows, k);
     }
-    elements::write_null(out_values, out_rows, k);
 }

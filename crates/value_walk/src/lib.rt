@@ -20,7 +20,7 @@ ghost use Rattle.model.specs.Widths.{limits_at, used};
 ghost use Rattle.value_places.specs.Values.{Indexed, value_made, values_made};
 
 use column::widths;
-use model::{ValueAnswer, Width};
+use model::{Refusal, ValueAnswer, Width};
 use value_places::ValueOp;
 
 // Writes the value that is made of row r.
@@ -66,9 +66,7 @@ fn write_values(
     ensures { FillsValues (values_made op (lent_at width offsets large rows rstart values elements estart) (lent_arguments_from indexes index_bits istart)) out_values out_rows }
 {
     let n = widths::row_count(width, offsets, large);
-    let mut r: usize = 0;
-    let mut left = n;
-    while 0 < left {
+    for r in 0..n {
         let a = widths::offset_at(width, offsets, large, r);
         let b = widths::offset_at(width, offsets, large, r + 1);
         put_value(
@@ -76,12 +74,10 @@ fn write_values(
             indexes, index_bits, istart, r, a, b, out_values, out_rows,
             width,
         );
-        r += 1;
-        left -= 1;
     }
 }
 
-// Writes the values that the operation makes, or gives 9.
+// Writes the values that the operation makes, where the outputs have room for them.
 pub fn write_fitting(
     op: ValueOp,
     offsets: &[i32],
@@ -104,7 +100,7 @@ pub fn write_fitting(
 {
     let n = widths::row_count(width, offsets, large);
     if !checks::has_value_room(n, out_values.len(), out_rows.len()) {
-        return ValueAnswer::Refused(9);
+        return Err(Refusal::ShortOutput);
     }
     write_values(
         op, offsets, rows, rstart, values, elements, estart, indexes, index_bits, istart,

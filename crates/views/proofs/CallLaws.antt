@@ -17,8 +17,9 @@ use Rattle.model.specs.Form.{Room, flat, form_offsets, over}
 use Rattle.model.specs.Limits.{Limits}
 use Rattle.model.specs.Outcome.{Outcome, refused, made, gate, fitted, columns_refusal}
 use Rattle.model.specs.View.{View, ViewRoom, fits_view, export_shown, export_outcome, import_shown, import_outcome, view_refusal, view_rows}
-use Rattle.model.specs.declared.ListAnswer.{ListAnswer}
-use Rattle.model.specs.declared.ListAnswer.TheVariants as L
+use Rattle.model.specs.Answers.{ListAnswer, number_of}
+use Rattle.model.specs.declared.Refusal.{Refusal}
+use Rattle.std.specs.Prelude.{Err}
 use Rattle.model.proofs.BoolLaws.{and_true}
 use Rattle.model.proofs.OutcomeLaws.{gate_open, gate_shut}
 use Rattle.model.proofs.TabLaws.{length-tab}
@@ -93,7 +94,7 @@ export_short ws l h = rw h
 
 -- ---- the answer of an export
 
-pub view-refused : {x : Outcome (List Row)} (k : ℕ) {o s : List ℤ} {r : List ℕ} {v : List ℤ} {e : List ℕ} → x ≡ refused k → ViewMeets x (L.Refused k) o o s s r r v v e e
+pub view-refused : {x : Outcome (List Row)} (k : Refusal) {o s : List ℤ} {r : List ℕ} {v : List ℤ} {e : List ℕ} → x ≡ refused (number_of k) → ViewMeets x (Err k) o o s s r r v v e e
 unfolding told answer_of written
 view-refused k q = rw q (record { answer = refl; offsets = refl; sizes = refl; rows = refl; values = refl; elements = refl })
 

@@ -17,7 +17,7 @@ use Rattle.model.specs.Contract.{ViewMeets}
 use Rattle.model.specs.Form.{Room, is_val, value_of, is_row, elems_of, length_of, flat, fits_in, form_rows, form_values, form_elements}
 use Rattle.model.specs.Limits.{Limits, narrow}
 use Rattle.model.specs.Outcome.{Outcome, refused, made, gate, fitted, columns_refusal}
-use Rattle.model.specs.declared.ListAnswer.{ListAnswer}
+use Rattle.model.specs.Answers.{ListAnswer}
 use Rattle.model.specs.View.{View, view, ViewRoom, view_at, view_rows, view_outside, refusal13ᵛ, refusal2ᵛ, refusal3ᵛ, refusal11, view_refusal, WellFormedᵛ, view_offsets_from, view_offsets, view_sizes, fits_view, import_shown, import_outcome, export_shown, export_outcome}
 use Rattle.model.proofs.BoolLaws.{never}
 use Rattle.model.proofs.FormLaws.{length-pack}

@@ -15,7 +15,7 @@ ghost use Rattle.view_checks.specs.Views.{ReadableView, lent_view, now_view};
 ghost use Rattle.views.specs.ViewOutputs.{FillsView, ViewRoomIn};
 
 use column::offsets;
-use model::{ListAnswer, Width};
+use model::{ListAnswer, Refusal, Width};
 
 // Writes the rows that the view shows, in result form.
 #[rattlefmt::skip]
@@ -30,10 +30,8 @@ fn write_shown(
 {
     let n = offsets.len();
     offsets::put_offset(out_offsets, 0, 0);
-    let mut r: usize = 0;
     let mut at: usize = 0;
-    let mut left = n;
-    while 0 < left {
+    for r in 0..n {
         let a = offsets::offset_at(offsets, r);
         let size = offsets::offset_at(sizes, r);
         at = copy_rows::put_row(
@@ -42,12 +40,10 @@ fn write_shown(
             at,
         );
         offsets::put_offset(out_offsets, r + 1, at);
-        r += 1;
-        left -= 1;
     }
 }
 
-// Copies the rows that the view shows into result form, or gives 8 or 9.
+// Copies the rows that the view shows into result form, where they are not too many and the outputs have room for them.
 fn copy_shown(
     offsets: &[i32],
     sizes: &[i32],
@@ -67,7 +63,7 @@ fn copy_shown(
     let n = offsets.len();
     let m = view_checks::measure_view(offsets, sizes, rows, rstart, values, elements, estart);
     if 2147483647 < m {
-        return ListAnswer::Refused(8);
+        return Err(Refusal::TooMany);
     }
     if !checks::has_room(
         n,
@@ -77,7 +73,7 @@ fn copy_shown(
         out_values.len(),
         out_elements.len(),
     ) {
-        return ListAnswer::Refused(9);
+        return Err(Refusal::ShortOutput);
     }
     write_shown(
         offsets,
@@ -111,7 +107,7 @@ pub fn import_view(
 ) -> ListAnswer
     ensures { ListAnswers (import_outcome narrow (lent_view offsets sizes rows rows_start values elements elements_start)) result out_offsets out_rows out_values out_elements }
 {
-    let k = view_checks::view_refusal(
+    view_checks::view_refusal(
         offsets,
         sizes,
         rows,
@@ -119,10 +115,7 @@ pub fn import_view(
         values,
         elements,
         elements_start,
-    );
-    if k != 0 {
-        return ListAnswer::Refused(k);
-    }
+    )?;
     copy_shown(
         offsets,
         sizes,
@@ -150,10 +143,8 @@ fn write_view(
     ensures { FillsView (rows_of (lent_from offsets rows rstart values elements estart)) out_offsets out_sizes out_rows out_values out_elements }
 {
     let n = offsets::row_count(offsets);
-    let mut r: usize = 0;
     let mut at: usize = 0;
-    let mut left = n;
-    while 0 < left {
+    for r in 0..n {
         let a = offsets::offset_at(offsets, r);
         let b = offsets::offset_at(offsets, r + 1);
         let valid = bitmap::is_valid(rows, rstart, r, n);
@@ -167,12 +158,10 @@ fn write_view(
         offsets::put_offset(out_offsets, r, begin);
         offsets::put_offset(out_sizes, r, size);
         at = next;
-        r += 1;
-        left -= 1;
     }
 }
 
-// Writes a column that refusals 13, 1 and 2 do not apply to as a view, or gives 9.
+// Writes a column as a view, where the outputs have room for it.
 fn write_fitting(
     offsets: &[i32],
     rows: &[u8],
@@ -209,7 +198,7 @@ fn write_fitting(
         out_values.len(),
         out_elements.len(),
     ) {
-        return ListAnswer::Refused(9);
+        return Err(Refusal::ShortOutput);
     }
     write_view(
         offsets,
@@ -243,7 +232,7 @@ pub fn export_view(
 ) -> ListAnswer
     ensures { ViewAnswers (export_outcome (lent_from offsets rows rows_start values elements elements_start)) result out_offsets out_sizes out_rows out_values out_elements }
 {
-    let k = checks::list_refusal(
+    checks::list_refusal(
         offsets,
         rows,
         rows_start,
@@ -252,10 +241,7 @@ pub fn export_view(
         elements_start,
         Width::Narrow,
         values,
-    );
-    if k != 0 {
-        return ListAnswer::Refused(k);
-    }
+    )?;
     write_fitting(
         offsets,
         rows,

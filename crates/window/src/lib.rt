@@ -2,28 +2,32 @@
 #![tactic(auto)]
 
 ghost use Rattle.std.specs.Prelude.{◌+◌, ◌-◌, ◌≤◌, ltb, drop, length, take, ◌≡◌};
+ghost use Rattle.model.specs.Answers.{refused_by};
 ghost use Rattle.model.specs.Basics.{pick};
 ghost use Rattle.model.specs.Refusals.{or_else};
 ghost use Rattle.model.specs.Window.{no_window};
 
-// The number k that comes before it, else 16 where rows a up to b are not among n rows, else 0.
-pub fn refusal_after(k: u8, a: usize, b: usize, n: usize) -> u8
-    ensures { result ≡ or_else k (pick (no_window a b n) 16 0) }
+use model::Refusal;
+
+// What refuses before it, else that rows a up to b are not among n rows.
+#[tactic(auto, unfolding(model::specs::Window::no_window))]
+pub fn refusal_after(
+    first: Result<(), Refusal>,
+    a: usize,
+    b: usize,
+    n: usize,
+) -> Result<(), Refusal>
+    ensures { refused_by result ≡ or_else (refused_by first) (pick (no_window a b n) 16 0) }
 {
-    if k != 0 {
-        return k;
+    first?;
+    if b < a || n < b {
+        return Err(Refusal::RowsOutside);
     }
-    if b < a {
-        return 16;
-    }
-    if n < b {
-        return 16;
-    }
-    0
+    Ok(())
 }
 
 // The offsets of rows a up to b, one more than the rows; of fewer offsets, those that there are.
-pub fn offsets_of(offsets: &[i32], a: usize, b: usize) -> &[i32]
+pub fn offsets_of<T>(offsets: &[T], a: usize, b: usize) -> &[T]
     requires { a ≤ b }
     ensures { result.now ≡ take (b + 1 - a) (drop a offsets.now) }
 {
@@ -41,21 +45,12 @@ pub fn large_of(large: &[i64], a: usize, b: usize) -> &[i64]
     requires { a ≤ b }
     ensures { result.now ≡ take (b + 1 - a) (drop a large.now) }
 {
-    if b < large.len() {
-        return &large[a..b + 1];
-    }
-    if a < large.len() {
-        return &large[a..];
-    }
-    &large[..0]
+    offsets_of(large, a, b)
 }
 
 // Where the arguments of row a begin among len values: at row a of the first column, or at the end where there is none.
 pub fn first_argument(a: usize, len: usize) -> usize
     ensures { result ≡ pick (ltb a len) a len }
 {
-    if a < len {
-        return a;
-    }
-    len
+    a.min(len)
 }

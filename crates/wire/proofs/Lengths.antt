@@ -1,23 +1,15 @@
 -- How many numbers bytes hold, and how many bytes numbers take.
-use mathlib.Core.Path.{◌≡◌, refl, ap}
+use mathlib.Core.Path.{◌≡◌}
 use mathlib.Core.List.{List}
-use Prim.Native.Nat.{ℕ, zero, suc, ◌*◌, ◌/◌}
+use Prim.Native.Nat.{ℕ, ◌*◌, ◌/◌}
 use lib.ListN.{length}
 use lib.IntN.{ℤ}
 use mir.Syntax.{Width}
-use mir.Val.{bytes, of_z}
+use mir.Val.{bytes}
 use Rattle.model.proofs.TabLaws.{length-tab}
 use Rattle.wire.specs.Bytes.{little_endian, int, ints, nat, nats, bytes_of_int, bytes_of, bytes_of_counts}
 use Rattle.wire.proofs.Writing.{length-flat}
-
-pub length-little_endian : (k n : ℕ) → length (little_endian k n) ≡ k
-unfolding little_endian
-length-little_endian zero n = refl
-length-little_endian (suc k) n = ap suc (length-little_endian k (n / 256))
-
-pub length-bytes_of_int : (w : Width) (z : ℤ) → length (bytes_of_int w z) ≡ bytes w
-unfolding bytes_of_int
-length-bytes_of_int w z = length-little_endian (bytes w) (of_z w z)
+pub use Rattle.wire.specs.Laws.{length-little_endian, length-bytes_of_int}
 
 -- at w32, length (ints4 s) ≡ length s / 4; at w64, length (ints8 s) ≡ length s / 8
 pub length-ints : (w : Width) (s : List ℕ) → length (ints w s) ≡ length s / bytes w

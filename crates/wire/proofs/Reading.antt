@@ -1,20 +1,16 @@
 -- The loop that reads numbers, f i being the i-th: after i turns the first i stand over the beginning of d, which was e.
 use mathlib.Core.Path.{◌≡◌, refl, ap, ◌∙◌}
 use mathlib.Core.List.{List, [], ◌∷◌, ◌++◌}
-use Prim.Native.Nat.{ℕ, ◌+◌, ◌*◌, ◌<◌, ◌≤◌, ◌^◌}
-use native.Mathlib.Nat.{zero-add}
+use Prim.Native.Nat.{ℕ, zero, suc, ◌+◌, ◌*◌, ◌<◌, ◌≤◌}
+use native.Mathlib.Nat.{zero-add, zero-mul}
 use native.Mathlib.Numerals.{add-one}
 use native.Mathlib.Omega.{arith}
-use lib.ListN.{length, set, length-set}
-use lib.IntN.{ℤ}
-use lib.Signed.{mag}
-use mir.Syntax.{Width}
-use mir.Val.{bytes, to_z, of_z, hbits}
-use mir.ValLaws.{to_z-of_z}
+use lib.ListN.{length, get_or, take, drop, set, length-set}
+use Rattle.std.proofs.lemmas.List.{drop-drop}
+use Rattle.std.specs.Simd.{first_chunks}
 use Rattle.model.specs.Basics.{tab}
 use Rattle.model.specs.Form.{over}
 use Rattle.model.proofs.TabLaws.{length-tab, tab-last}
-use Rattle.wire.specs.Bytes.{number, int}
 use Rattle.wire.proofs.Writing.{written}
 
 pub record Reading {A : Type 0} (f : ℕ → A) (n : ℕ) (e d : List A) (i : ℕ) : Type 0 where
@@ -43,7 +39,8 @@ module _ {A : Type 0} (f : ℕ → A) (n : ℕ) (e : List A) where
       let k : i ≡ n = omega arith in
       r.front ∙ ap (λ m. over (tab f 0 m) e) k
 
--- u is the number read, z what it is as signed, which the code stores as to_z w (of_z w z)
-pub signed : (w : Width) (s : List ℕ) (i u : ℕ) (z : ℤ) → u ≡ number (bytes w) s (i * bytes w) → z ≡ to_z w u → mag z < 2 ^ hbits w → to_z w (of_z w z) ≡ int w s i
-unfolding int
-signed w s i u z p q f = to_z-of_z w z (record { sfits = f }) ∙ q ∙ ap (to_z w) p
+-- the i-th of the first k chunks of n elements
+pub get_or-first_chunks : {A : Type 0} (n k : ℕ) (l : List A) (i : ℕ) (e : List A) → i < k → get_or (first_chunks n k l) i e ≡ take n (drop (i * n) l)
+get_or-first_chunks n zero l i e h = absurd (omega arith)
+get_or-first_chunks n (suc k) l zero e h = rw zero-mul
+get_or-first_chunks n (suc k) l (suc i) e h = let at : n + i * n ≡ suc i * n = omega arith in get_or-first_chunks n k (drop n l) i e (omega arith) ∙ rw (drop-drop, at)

@@ -1,25 +1,20 @@
 -- The loop that writes numbers, g x being the k bytes of the number x: after i turns the bytes of the first i stand over
 -- the beginning of d, which was e.
-use mathlib.Core.Path.{◌≡◌, refl, ap, ◌∙◌}
-use mathlib.Core.List.{List, ◌++◌, flat_map}
-use Prim.Native.Nat.{ℕ, ◌+◌, ◌*◌, ◌<◌, ◌≤◌, ◌^◌}
+use mathlib.Core.Path.{◌≡◌, refl, ap, sym, ◌∙◌}
+use mathlib.Core.List.{List, ◌++◌, append_assoc, flat_map}
+use Prim.Native.Nat.{ℕ, ◌+◌, ◌*◌, ◌<◌, ◌≤◌}
 use native.Mathlib.Numerals.{add-one}
 use native.Mathlib.Omega.{arith}
 use lib.ListN.{length, get_or, take}
-use lib.Seq.{sets, length-sets, length-take-le, take_all}
-use lib.IntN.{ℤ}
-use lib.Signed.{mag}
-use mir.Syntax.{Width}
-use mir.Val.{bytes, to_z, of_z, hbits}
-use mir.ValLaws.{to_z-of_z}
+use lib.Seq.{sets, sets-eq, length-sets, length-take-le, take_all}
+use borrow.Rule.Slice.PartMut.{put_mid}
+use Rattle.std.proofs.lemmas.List.{drop-drop}
 use Rattle.model.specs.Form.{over}
-use Rattle.wire.specs.Bytes.{little_endian, bytes_of_int}
 use Rattle.wire.proofs.Writing.{written, flat-suc, length-flat}
 
--- a signed number's bytes, z being read as to_z w (of_z w z) by the code
-pub spelled : (w : Width) (z : ℤ) (u : ℕ) → mag z < 2 ^ hbits w → u ≡ of_z w (to_z w (of_z w z)) → little_endian (bytes w) u ≡ bytes_of_int w z
-unfolding bytes_of_int
-spelled w z u f p = ap (little_endian (bytes w)) (p ∙ ap (of_z w) (to_z-of_z w z (record { sfits = f })))
+-- bytes copied over a part of d
+pub stored : (d b : List ℕ) (at k : ℕ) → length b ≡ k → at + k ≤ length d → put_mid at k d b ≡ sets d at b
+stored d b at k e h = rw (drop-drop, ← e, ← append_assoc) (sym (sets-eq b d at (omega arith)))
 
 pub record Spelling {A : Type 0} (g : A → List ℕ) (v : List A) (e d : List ℕ) (i : ℕ) : Type 0 where
   pub within : i ≤ length v

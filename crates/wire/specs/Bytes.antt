@@ -54,3 +54,7 @@ bytes_of8 v = bytes_of w64 v
 -- the bytes of counts, eight each
 unfoldable pub bytes_of_counts : List ℕ → List ℕ
 bytes_of_counts v = flat_map (little_endian 8) v
+
+-- the bytes of unsigned numbers, k each
+abbrev pub bytes_of_nats : ℕ → List ℕ → List ℕ
+bytes_of_nats k v = flat_map (little_endian k) v

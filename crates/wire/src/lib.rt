@@ -1,201 +1,174 @@
 // Numbers in bytes, little-endian, signed ones by two's complement: what the C entries take and give.
 #![tactic(auto)]
 
-ghost use Rattle.std.specs.Prelude.{◌≡◌, ◌+◌, ◌*◌, ◌/◌, ◌≤◌, ◌<◌, length};
-ghost use Rattle.std.proofs.lemmas.List.Edits.{sets};
-ghost use Rattle.std.proofs.Common.{to_z, of_z};
+ghost use Rattle.std.specs.Prelude.{◌≡◌, ℕ, ◌*◌, ◌/◌, ◌≤◌, ◌<◌, List, length, take, drop};
+ghost use mathlib.Core.List.{flat_map};
 ghost use Rattle.std.specs.Int.{w32, w64};
+ghost use Rattle.model.specs.Basics.{tab};
 ghost use Rattle.model.specs.Form.{over};
-ghost use Rattle.wire.specs.Bytes.{number, little_endian, ints4, ints8, nats, bytes_of4, bytes_of8, bytes_of_counts};
+ghost use Rattle.wire.specs.Bytes.{little_endian, int, nat, ints4, ints8, nats, bytes_of_int, bytes_of4, bytes_of8, bytes_of_counts, bytes_of_nats};
+ghost use Rattle.wire.specs.Laws.{four_bytes, eight_bytes, length-little_endian, length-bytes_of_int, ints-read, nats-read, bytes_of-written, nats-written, counts-written};
 
-// A byte, with the bound that the sums below need.
-fn wide(x: u8) -> u32
-    ensures { (result ≡ x) × (result < 256) }
-{
-    x as u32
+// A number that stands in N bytes, the lowest first.
+pub trait Number<const N: usize>: Copy {
+    // The number in N bytes, and a number's bytes.
+    ghost number_in: { List ℕ → Self };
+
+    ghost bytes_of_one: { Self → List ℕ };
+
+    // All numbers in bytes, a part of one at the end left out, and the bytes of several numbers.
+    ghost numbers: { List ℕ → List Self };
+
+    ghost bytes_of: { List Self → List ℕ };
+
+    fn from_le_bytes(bytes: &[u8; N]) -> Self
+        ensures { result ≡ number_in bytes.now };
+
+    fn to_le_bytes(self) -> [u8; N]
+        ensures { result ≡ bytes_of_one self };
+
+    ghost width: { (0 < N) × (N ≤ 8) };
+
+    ghost length_of_one: { (x : Self) → length (bytes_of_one x) ≡ N };
+
+    ghost reads: { (s : List ℕ) → numbers s ≡ tab (λ i. number_in (take N (drop (i * N) s))) 0 (length s / N) };
+
+    ghost writes: { (v : List Self) → bytes_of v ≡ flat_map bytes_of_one v };
 }
 
-// The number in the four bytes of s that begin at `at`; compiled, this is one load.
-fn get_u32(s: &[u8], at: usize) -> u32
-    requires { at + 4 ≤ length s.now }
-    ensures { result ≡ number 4 s.now at }
-{
-    let b0 = wide(s[at]);
-    let b1 = wide(s[at + 1]);
-    let b2 = wide(s[at + 2]);
-    let b3 = wide(s[at + 3]);
-    b0 + 256 * (b1 + 256 * (b2 + 256 * b3))
-}
+#[tactic(auto, using(crate::proofs::StdWords::read_int4, crate::proofs::StdWords::write_int4))]
+impl Number<4> for i32 {
+    ghost number_in = { λ b. int w32 b 0 };
 
-// The number in eight bytes, one load as well.
-pub fn get_u64(s: &[u8], at: usize) -> u64
-    requires { at + 8 ≤ length s.now }
-    ensures { result ≡ number 8 s.now at }
-{
-    let low = get_u32(s, at);
-    let high = get_u32(s, at + 4);
-    low as u64 + 4294967296 * (high as u64)
-}
+    ghost bytes_of_one = { bytes_of_int w32 };
 
-// The four bytes of n, stored in d from `at` on: one store. (sets d at b is d with the list b stored so.)
-fn put_u32(d: &mut [u8], at: usize, n: u32)
-    requires { at + 4 ≤ length d.old }
-    ensures { d.new ≡ sets d.old at (little_endian 4 n) }
-{
-    d[at] = (n % 256) as u8;
-    d[at + 1] = (n / 256 % 256) as u8;
-    d[at + 2] = (n / 65536 % 256) as u8;
-    d[at + 3] = (n / 16777216 % 256) as u8;
-}
+    ghost numbers = { ints4 };
 
-// The eight bytes of n, one store as well.
-fn put_u64(d: &mut [u8], at: usize, n: u64)
-    requires { at + 8 ≤ length d.old }
-    ensures { d.new ≡ sets d.old at (little_endian 8 n) }
-{
-    let low = (n % 4294967296) as u32;
-    let high = (n / 4294967296) as u32;
-    put_u32(d, at, low);
-    put_u32(d, at + 4, high);
-}
+    ghost bytes_of = { bytes_of4 };
 
-// The bits u, read as signed. A cast may lose no bits, so what is negative goes by its complement, here and below; compiled,
-// nothing of this is left.
-fn to_i32(u: u32) -> i32
-    ensures { result ≡ to_z w32 u }
-{
-    if u < 2147483648 {
-        u as i32
-    } else {
-        let m = !u;
-        !(m as i32)
+    ghost width = { four_bytes };
+
+    ghost length_of_one = { length-bytes_of_int w32 };
+
+    ghost reads = { ints-read w32 };
+
+    ghost writes = { bytes_of-written w32 };
+
+    fn from_le_bytes(bytes: &[u8; 4]) -> i32 {
+        i32::from_le_bytes(*bytes)
+    }
+
+    fn to_le_bytes(self) -> [u8; 4] {
+        i32::to_le_bytes(self)
     }
 }
 
-fn to_i64(u: u64) -> i64
-    ensures { result ≡ to_z w64 u }
-{
-    if u < 9223372036854775808 {
-        u as i64
-    } else {
-        let m = !u;
-        !(m as i64)
+#[tactic(auto, using(crate::proofs::StdWords::read_int8, crate::proofs::StdWords::write_int8))]
+impl Number<8> for i64 {
+    ghost number_in = { λ b. int w64 b 0 };
+
+    ghost bytes_of_one = { bytes_of_int w64 };
+
+    ghost numbers = { ints8 };
+
+    ghost bytes_of = { bytes_of8 };
+
+    ghost width = { eight_bytes };
+
+    ghost length_of_one = { length-bytes_of_int w64 };
+
+    ghost reads = { ints-read w64 };
+
+    ghost writes = { bytes_of-written w64 };
+
+    fn from_le_bytes(bytes: &[u8; 8]) -> i64 {
+        i64::from_le_bytes(*bytes)
+    }
+
+    fn to_le_bytes(self) -> [u8; 8] {
+        i64::to_le_bytes(self)
     }
 }
 
-// The bits of z.
-fn from_i32(z: i32) -> u32
-    ensures { result ≡ of_z w32 z }
-{
-    if z < 0 {
-        let m = !z;
-        !(m as u32)
-    } else {
-        z as u32
+#[tactic(auto, using(crate::proofs::StdWords::read_nat4, crate::proofs::StdWords::write_nat4))]
+impl Number<4> for u32 {
+    ghost number_in = { λ b. nat 4 b 0 };
+
+    ghost bytes_of_one = { little_endian 4 };
+
+    ghost numbers = { nats 4 };
+
+    ghost bytes_of = { bytes_of_nats 4 };
+
+    ghost width = { four_bytes };
+
+    ghost length_of_one = { length-little_endian 4 };
+
+    ghost reads = { nats-read 4 };
+
+    ghost writes = { nats-written 4 };
+
+    fn from_le_bytes(bytes: &[u8; 4]) -> u32 {
+        u32::from_le_bytes(*bytes)
+    }
+
+    fn to_le_bytes(self) -> [u8; 4] {
+        u32::to_le_bytes(self)
     }
 }
 
-pub fn from_i64(z: i64) -> u64
-    ensures { result ≡ of_z w64 z }
-{
-    if z < 0 {
-        let m = !z;
-        !(m as u64)
-    } else {
-        z as u64
+#[tactic(auto, using(crate::proofs::StdWords::read_nat8, crate::proofs::StdWords::write_nat8))]
+impl Number<8> for u64 {
+    ghost number_in = { λ b. nat 8 b 0 };
+
+    ghost bytes_of_one = { little_endian 8 };
+
+    ghost numbers = { nats 8 };
+
+    ghost bytes_of = { bytes_of_counts };
+
+    ghost width = { eight_bytes };
+
+    ghost length_of_one = { length-little_endian 8 };
+
+    ghost reads = { nats-read 8 };
+
+    ghost writes = { counts-written };
+
+    fn from_le_bytes(bytes: &[u8; 8]) -> u64 {
+        u64::from_le_bytes(*bytes)
+    }
+
+    fn to_le_bytes(self) -> [u8; 8] {
+        u64::to_le_bytes(self)
     }
 }
 
-// The signed numbers in s, over the beginning of d.
-pub fn fill_i32(s: &[u8], d: &mut [i32])
-    requires { length s.now / 4 ≤ length d.old }
-    ensures { d.new ≡ over (ints4 s.now) d.old }
+// The numbers in s, over the beginning of d.
+pub fn fill<const N: usize, T: Number<N>>(s: &[u8], d: &mut [T])
+    requires { length s.now / N ≤ length d.old }
+    ensures { d.new ≡ over (T.numbers s.now) d.old }
 {
-    let n = s.len() / 4;
-    let mut i = 0;
-    while i < n {
-        let u = get_u32(s, i * 4);
-        d[i] = to_i32(u);
-        i += 1;
+    let (parts, _) = s.as_chunks::<N>();
+    for (i, part) in parts.iter().enumerate() {
+        d[i] = T::from_le_bytes(part);
     }
 }
 
-pub fn fill_i64(s: &[u8], d: &mut [i64])
-    requires { length s.now / 8 ≤ length d.old }
-    ensures { d.new ≡ over (ints8 s.now) d.old }
+// The numbers in s, where d has a place for each and no more.
+pub fn decode<const N: usize, T: Number<N>>(s: &[u8], d: &mut [T])
+    requires { length d.old ≡ length s.now / N }
+    ensures { d.new ≡ T.numbers s.now }
 {
-    let n = s.len() / 8;
-    let mut i = 0;
-    while i < n {
-        let u = get_u64(s, i * 8);
-        d[i] = to_i64(u);
-        i += 1;
-    }
-}
-
-// The unsigned numbers in s, over the beginning of d.
-pub fn fill_u32(s: &[u8], d: &mut [u32])
-    requires { length s.now / 4 ≤ length d.old }
-    ensures { d.new ≡ over (nats 4 s.now) d.old }
-{
-    let n = s.len() / 4;
-    let mut i = 0;
-    while i < n {
-        let u = get_u32(s, i * 4);
-        d[i] = u;
-        i += 1;
-    }
-}
-
-// The signed numbers in s, where d has a place for each and no more.
-pub fn decode_i32(s: &[u8], d: &mut [i32])
-    requires { length d.old ≡ length s.now / 4 }
-    ensures { d.new ≡ ints4 s.now }
-{
-    fill_i32(s, d);
-}
-
-pub fn decode_i64(s: &[u8], d: &mut [i64])
-    requires { length d.old ≡ length s.now / 8 }
-    ensures { d.new ≡ ints8 s.now }
-{
-    fill_i64(s, d);
+    fill(s, d);
 }
 
 // The bytes of v, over the beginning of d.
-pub fn encode_i32(v: &[i32], d: &mut [u8])
-    requires { length v.now * 4 ≤ length d.old }
-    ensures { d.new ≡ over (bytes_of4 v.now) d.old }
+pub fn encode<const N: usize, T: Number<N>>(v: &[T], d: &mut [u8])
+    requires { length v.now * N ≤ length d.old }
+    ensures { d.new ≡ over (T.bytes_of v.now) d.old }
 {
-    let mut i = 0;
-    while i < v.len() {
-        let u = from_i32(v[i]);
-        put_u32(d, i * 4, u);
-        i += 1;
-    }
-}
-
-pub fn encode_i64(v: &[i64], d: &mut [u8])
-    requires { length v.now * 8 ≤ length d.old }
-    ensures { d.new ≡ over (bytes_of8 v.now) d.old }
-{
-    let mut i = 0;
-    while i < v.len() {
-        let u = from_i64(v[i]);
-        put_u64(d, i * 8, u);
-        i += 1;
-    }
-}
-
-// The same of counts.
-pub fn encode_u64(v: &[u64], d: &mut [u8])
-    requires { length v.now * 8 ≤ length d.old }
-    ensures { d.new ≡ over (bytes_of_counts v.now) d.old }
-{
-    let mut i = 0;
-    while i < v.len() {
-        let u = v[i];
-        put_u64(d, i * 8, u);
-        i += 1;
+    for (i, x) in v.iter().enumerate() {
+        d[i * N..(i + 1) * N].copy_from_slice(&x.to_le_bytes());
     }
 }

@@ -7,6 +7,7 @@ use Rattle.model.specs.Bitmap.{from}
 use Rattle.model.specs.Column.{column, arguments}
 use Rattle.model.specs.Contract.{repeat_room}
 use Rattle.model.specs.Form.{Outer, RepeatRoom, fits_repeat}
+use Rattle.model.specs.declared.Refusal.TheVariants.{ShortOutput}
 use Rattle.model.specs.Widths.{used, limits_at}
 use Rattle.model.proofs.WidthLaws.{limits-fit, used-length}
 use Rattle.repeat_walk.specs.Outers.{RoomForOutersˡ}
@@ -64,7 +65,7 @@ has_room-requires : tie.Need-has_room-requires
 has_room-requires c κs = search
 
 returns-then-not-has_room : tie.Need-returns-then-not-has_room
-returns-then-not-has_room c = let s = S c.before in repeat_refused 9 (fitted_short (O s) (R s) (sym (room_is c.before) ∙ not-true _ c.if-not-has_room.true-raw))
+returns-then-not-has_room c = let s = S c.before in repeat_refused ShortOutput (fitted_short (O s) (R s) (sym (room_is c.before) ∙ not-true _ c.if-not-has_room.true-raw))
 
 write_repeats-requires : tie.Need-write_repeats-requires
 write_repeats-requires c κs = let e = tested c in let s = S e.before in (s.requires.0, (s.requires.1.0, (s.requires.1.1.0, roomy e)))

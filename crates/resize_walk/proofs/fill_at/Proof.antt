@@ -1,7 +1,7 @@
+use Rattle.std.specs.Prelude.{Some}
 use mathlib.Core.Path.{ap}
 use native.Mathlib.Omega.{arith}
 use borrow.Author.Tests.{not-true, not-false}
-use Rattle.rows.specs.declared.Fill.TheVariants as F
 use Rattle.resize_walk.specs.Resized.{fill_for}
 use Rattle.resize_walk.proofs.fill_at.Statement.{statement}
 use Rattle.resize_walk.proofs.fill_at.Tie as tie
@@ -15,7 +15,7 @@ taken_at-requires c κs = ((λ t. c.requires.0 (not-false c.args.filled c.if-not
 
 returns : tie.Need-returns
 unfolding fill_for
-returns c = rw (not-false c.args.filled c.if-not-filled.false-raw) (ap F.Own c.taken_at.ensures)
+returns c = rw (not-false c.args.filled c.if-not-filled.false-raw) (ap Some c.taken_at.ensures)
 
 pub fill_at_spec : {M : Type 1} → statement M
 fill_at_spec =

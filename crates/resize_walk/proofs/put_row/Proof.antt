@@ -23,10 +23,10 @@ abbrev made : tie.Start → Row
 made s = row_made (op_made (resize_op s.args.count s.args.fill) (es s))
 
 -- the places that are used below: a null count, a count read, the elements written, and the ends
-abbrev start-of-null : tie.In-Null → tie.Start
+abbrev start-of-null : tie.In-None → tie.Start
 start-of-null p = p.before.before.before.before
 
-abbrev null_of : tie.After-slice_known-in-Null-1 → tie.In-Null
+abbrev null_of : tie.After-slice_known-in-None-1 → tie.In-None
 null_of p = p.before.before.before.before
 
 abbrev start-of-count : tie.After-limit_of → tie.Start
@@ -35,13 +35,13 @@ start-of-count p = p.before.before.before.before.before
 abbrev count_of : tie.After-write_resized-next → tie.After-limit_of
 count_of p = p.before.before.before
 
-abbrev written_of : tie.After-slice_known-in-Value-2-1 → tie.After-write_resized-next
+abbrev written_of : tie.After-slice_known-in-Some-2-1 → tie.After-write_resized-next
 written_of p = p.before.before.before.before.before.before.before
 
 row_is : (p : tie.After-limit_of) → let s = start-of-count p in made s ≡ list_row (resized p.limit_of.result (fill_elem s.args.fill) (es s))
 row_is p =
     let s = start-of-count p in
-    list_row_lem s.args.count s.args.fill (es s) _ p.limit_of.result p.in-Value.is (rw (back64 _ p.in-Value.known_told-1-own.given.0.1) at p.limit_of.ensures)
+    list_row_lem s.args.count s.args.fill (es s) _ p.limit_of.result p.in-Some.is (rw (back64 _ p.in-Some.known_told-1-own.given.0.1) at p.limit_of.ensures)
 
 enum_told-1 : tie.Need-enum_told-1
 enum_told-1 c = search
@@ -61,21 +61,21 @@ write_resized-next-requires c κs =
     let s = start-of-count c.before.before in
     (s.requires.0, record { values = rw (row_is c.before.before) at s.requires.1.values; elements = rw (row_is c.before.before) at s.requires.1.elements })
 
-push_bit-requires-in-Value : tie.Need-push_bit-requires-in-Value
-push_bit-requires-in-Value c κs = omega (arith, (start-of-count (count_of c.before.before.before.before)).requires.1.rows)
+push_bit-requires-in-Some : tie.Need-push_bit-requires-in-Some
+push_bit-requires-in-Some c κs = omega (arith, (start-of-count (count_of c.before.before.before.before)).requires.1.rows)
 
-shape_of-out_rows-in-Null : tie.Need-shape_of-out_rows-in-Null
-shape_of-out_rows-in-Null c = c.push_bit.auto.bitmap
+shape_of-out_rows-in-None : tie.Need-shape_of-out_rows-in-None
+shape_of-out_rows-in-None c = c.push_bit.auto.bitmap
 
-returns-in-Null : tie.Need-returns-in-Null
+returns-in-None : tie.Need-returns-in-None
 unfolding is_row elems_of push_bits
-returns-in-Null c =
+returns-in-None c =
     let p = null_of c in
     let s = start-of-null p in
-    rw (null_row_lem s.args.count s.args.fill (es s) p.in-Null.is) (record { rows = c.push_bit.ensures; values = refl; elements = refl; place = omega arith })
+    rw (null_row_lem s.args.count s.args.fill (es s) p.in-None.is) (record { rows = c.push_bit.ensures; values = refl; elements = refl; place = omega arith })
 
-shape_of-out_rows-in-Value : tie.Need-shape_of-out_rows-in-Value
-shape_of-out_rows-in-Value c = c.push_bit-in-Value.auto.bitmap
+shape_of-out_rows-in-Some : tie.Need-shape_of-out_rows-in-Some
+shape_of-out_rows-in-Some c = c.push_bit-in-Some.auto.bitmap
 
 shape_of-out_values : tie.Need-shape_of-out_values
 shape_of-out_values c = (written_of c).write_resized-next.auto.out_values
@@ -83,11 +83,11 @@ shape_of-out_values c = (written_of c).write_resized-next.auto.out_values
 shape_of-out_elements : tie.Need-shape_of-out_elements
 shape_of-out_elements c = (written_of c).write_resized-next.auto.out_elements
 
-returns-in-Value : tie.Need-returns-in-Value
+returns-in-Some : tie.Need-returns-in-Some
 unfolding is_row elems_of
-returns-in-Value c =
+returns-in-Some c =
     let w = (written_of c).write_resized-next.ensures in
-    rw (row_is (count_of (written_of c))) (record { rows = c.push_bit-in-Value.ensures; values = w.values; elements = w.elements; place = w.next })
+    rw (row_is (count_of (written_of c))) (record { rows = c.push_bit-in-Some.ensures; values = w.values; elements = w.elements; place = w.next })
 
 pub put_row_spec : {M : Type 1} → statement M
 put_row_spec =
@@ -98,10 +98,10 @@ put_row_spec =
     enum_known-count
     limit_of-requires
     write_resized-next-requires
-    push_bit-requires-in-Value
-    shape_of-out_rows-in-Null
-    returns-in-Null
-    shape_of-out_rows-in-Value
+    push_bit-requires-in-Some
+    shape_of-out_rows-in-None
+    returns-in-None
+    shape_of-out_rows-in-Some
     shape_of-out_values
     shape_of-out_elements
-    returns-in-Value)
+    returns-in-Some)

@@ -8,6 +8,7 @@ use Rattle.model.specs.Widths.{limits_at, used}
 use Rattle.model.proofs.WidthLaws.{used-kept}
 use Rattle.one_list.specs.Uses.{column_at}
 use Rattle.column.specs.Front.{front}
+use Rattle.checks.proofs.RefusedLaws.{handed_on}
 use Rattle.column.proofs.AnswerLaws.{list-refused}
 use Rattle.step.specs.Step.{rows_taken}
 use Rattle.steps.proofs.ChainLaws.{answer-refused, rows-kept, chain_last, chain_refused, chain_on, carries, taken-rows, taken_next, next-rows, same_room, none_left, more_left, next_steps}
@@ -22,7 +23,7 @@ pub steps-requires : goal.steps-requires
 steps-requires t c =
     let a = c.args in
     let r = c.requires in
-    let k = carries _ _ a.n _ _ _ _ c.step_at-answer.ensures c.in-Counts.is
+    let k = carries _ _ a.n _ c.step_at-2.ensures c.in_ok-made.was
     (λ ws e. rows-kept (limits_at a.width) (step_at a.recipe.now a.k)
     (rows_taken a.k (now_column_at a.width a.offsets a.large a.rows a.rstart a.values a.elements a.estart) (front (used a.width a.from_offsets.now a.from_large.now) a.from_rows.now a.from_values.now a.from_elements.now a.n a.m))
     (rows_of (now_column_at a.width a.roffsets a.rlarge a.rrows a.r_rstart a.rvalues a.relements a.r_estart))
@@ -31,16 +32,17 @@ steps-requires t c =
     ws e ∙ taken-rows r.taken) in
     (omega (arith, c.decreases, r.steps.some), (next_steps r.steps c.if-left-eq1.false, (taken_next a.k (now_column_at a.width a.offsets a.large a.rows a.rstart a.values a.elements a.estart) k.at_front, r.beside)))
 
-pub returns-in-Refused : goal.returns-in-Refused
-returns-in-Refused t c =
-    list-refused _ (chain_refused _ _ _ _ _ _ _ _ _ _ _ _ (more_left c.requires.steps c.if-left-eq1.false) (answer-refused _ _ _ c.in-Refused.is c.step_at-answer.ensures.answer))
+pub returns-in_err-made : goal.returns-in_err-made
+returns-in_err-made t c =
+    rw (handed_on _ _ c.from_residual.ensures)
+    (list-refused _ (chain_refused _ _ _ _ _ _ _ _ _ _ _ _ (more_left c.requires.steps c.if-left-eq1.false) (answer-refused _ _ _ c.in_err-made.was c.step_at-2.ensures.answer)))
 
-pub returns-in-Counts : goal.returns-in-Counts
-returns-in-Counts t c =
+pub returns : goal.returns
+returns t c =
     let a = c.args in
     let r = c.requires in
-    let s = c.step_at-answer.auto in
-    let k = carries _ _ a.n _ _ _ _ c.step_at-answer.ensures c.in-Counts.is
+    let s = c.step_at-2.auto in
+    let k = carries _ _ a.n _ c.step_at-2.ensures c.in_ok-made.was
     (λ ws e. rows-kept (limits_at a.width) (step_at a.recipe.now a.k)
     (rows_taken a.k (now_column_at a.width a.offsets a.large a.rows a.rstart a.values a.elements a.estart) (front (used a.width a.from_offsets.now a.from_large.now) a.from_rows.now a.from_values.now a.from_elements.now a.n a.m))
     (rows_of (now_column_at a.width a.roffsets a.rlarge a.rrows a.r_rstart a.rvalues a.relements a.r_estart))

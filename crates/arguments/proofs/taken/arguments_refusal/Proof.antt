@@ -1,5 +1,5 @@
 use mathlib.Core.Bool.{Bool, false, ◌||◌}
-use mathlib.Core.Path.{◌≡◌, sym, ap, ◌∙◌}
+use mathlib.Core.Path.{◌≡◌, sym, ap}
 use lib.Dec.{ltb}
 use lib.ListN.{length}
 use Rattle.model.specs.Bitmap.{from}

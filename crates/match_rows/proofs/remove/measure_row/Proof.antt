@@ -9,11 +9,11 @@ enum_told-1 c = search
 enum_known-limit : tie.Need-enum_known-limit
 enum_known-limit c = search
 
-enum_told-in-Null-element : tie.Need-enum_told-in-Null-element
-enum_told-in-Null-element c = search
+enum_told-in-None-element : tie.Need-enum_told-in-None-element
+enum_told-in-None-element c = search
 
-enum_told-in-Value-element : tie.Need-enum_told-in-Value-element
-enum_told-in-Value-element c = search
+enum_told-in-Some-element : tie.Need-enum_told-in-Some-element
+enum_told-in-Some-element c = search
 
 limit_of-requires : tie.Need-limit_of-requires
 limit_of-requires c κs = search
@@ -21,16 +21,16 @@ limit_of-requires c κs = search
 measure_removed-requires : tie.Need-measure_removed-requires
 measure_removed-requires c κs = search
 
-returns-in-Null : tie.Need-returns-in-Null
-returns-in-Null c = null_length _ _ (unlimited _ _ c.in-Null.is)
+returns-in-None : tie.Need-returns-in-None
+returns-in-None c = null_length _ _ (unlimited _ _ c.in-None.is)
 
-returns-in-Null-element : tie.Need-returns-in-Null-element
-returns-in-Null-element c = null_length _ _ (unmatched _ _ c.in-Null-element.is)
+returns-in-None-element : tie.Need-returns-in-None-element
+returns-in-None-element c = null_length _ _ (unmatched _ _ c.in-None-element.is)
 
-returns-in-Value-element : tie.Need-returns-in-Value-element
-returns-in-Value-element c =
+returns-in-Some-element : tie.Need-returns-in-Some-element
+returns-in-Some-element c =
     let a = c.args in
-    removed-length _ _ a.element c.limit_of.result (matched _ _ _ _ _ c.in-Value-element.is c.in-Value.is (rw (back64 _ c.in-Value.known_told-1-own.given.0.1) at c.limit_of.ensures)) _ c.measure_removed.ensures
+    removed-length _ _ a.element c.limit_of.result (matched _ _ _ _ _ c.in-Some-element.is c.in-Some.is (rw (back64 _ c.in-Some.known_told-1-own.given.0.1) at c.limit_of.ensures)) _ c.measure_removed.ensures
 
 pub measure_row_spec : {M : Type 1} → statement M
 measure_row_spec =
@@ -38,10 +38,10 @@ measure_row_spec =
     (tie.spec
     enum_told-1
     enum_known-limit
-    enum_told-in-Null-element
-    enum_told-in-Value-element
+    enum_told-in-None-element
+    enum_told-in-Some-element
     limit_of-requires
     measure_removed-requires
-    returns-in-Null
-    returns-in-Null-element
-    returns-in-Value-element)
+    returns-in-None
+    returns-in-None-element
+    returns-in-Some-element)

@@ -17,13 +17,13 @@ use Rattle.match_rows.proofs.remove.put_row.Tie as tie
 abbrev start : tie.After-limit_of → tie.Start
 start l = l.before.before.before.before.before.before
 
-abbrev limited : tie.After-slice_known-in-Value-element-1 → tie.After-limit_of
+abbrev limited : tie.After-slice_known-in-Some-element-1 → tie.After-limit_of
 limited p = p.before.before.before.before.before.before
 
 -- the row that is made
 row_is : (l : tie.After-limit_of) → let a = (start l).args in let es = tab (elem_at a.values.now (from a.estart a.elements.now)) a.a a.len in row_made (op_made (remove_op a.element a.limit) es) ≡ list_row (removed l.limit_of.result (elem_of a.element) es)
 row_is l =
-    removed-made _ _ _ _ (matched _ _ _ _ _ l.in-Value-element.is l.in-Value.is (rw (back64 _ l.in-Value.known_told-1-own.given.0.1) at l.limit_of.ensures))
+    removed-made _ _ _ _ (matched _ _ _ _ _ l.in-Some-element.is l.in-Some.is (rw (back64 _ l.in-Some.known_told-1-own.given.0.1) at l.limit_of.ensures))
 
 enum_told-1 : tie.Need-enum_told-1
 enum_told-1 c = search
@@ -34,14 +34,14 @@ push_bit-requires c κs = omega (arith, c.requires.1.rows)
 enum_known-limit : tie.Need-enum_known-limit
 enum_known-limit c = search
 
-enum_told-in-Null-element : tie.Need-enum_told-in-Null-element
-enum_told-in-Null-element c = search
+enum_told-in-None-element : tie.Need-enum_told-in-None-element
+enum_told-in-None-element c = search
 
-push_bit-requires-in-Null-element : tie.Need-push_bit-requires-in-Null-element
-push_bit-requires-in-Null-element c κs = omega (arith, c.requires.1.rows)
+push_bit-requires-in-None-element : tie.Need-push_bit-requires-in-None-element
+push_bit-requires-in-None-element c κs = omega (arith, c.requires.1.rows)
 
-enum_told-in-Value-element : tie.Need-enum_told-in-Value-element
-enum_told-in-Value-element c = search
+enum_told-in-Some-element : tie.Need-enum_told-in-Some-element
+enum_told-in-Some-element c = search
 
 limit_of-requires : tie.Need-limit_of-requires
 limit_of-requires c κs = search
@@ -49,23 +49,23 @@ limit_of-requires c κs = search
 write_removed-next-requires : tie.Need-write_removed-next-requires
 write_removed-next-requires c κs = ((start c.before.before).requires.0, list-room _ _ _ _ (row_is c.before.before) (start c.before.before).requires.1)
 
-push_bit-requires-in-Value-element : tie.Need-push_bit-requires-in-Value-element
-push_bit-requires-in-Value-element c κs = omega (arith, (start (limited c.before)).requires.1.rows)
+push_bit-requires-in-Some-element : tie.Need-push_bit-requires-in-Some-element
+push_bit-requires-in-Some-element c κs = omega (arith, (start (limited c.before)).requires.1.rows)
 
-shape_of-out_rows-in-Null : tie.Need-shape_of-out_rows-in-Null
-shape_of-out_rows-in-Null c = search
+shape_of-out_rows-in-None : tie.Need-shape_of-out_rows-in-None
+shape_of-out_rows-in-None c = search
 
-returns-in-Null : tie.Need-returns-in-Null
-returns-in-Null c = null_put _ _ _ _ _ (null_made _ _ (unlimited _ _ c.in-Null.is)) c.push_bit.ensures
+returns-in-None : tie.Need-returns-in-None
+returns-in-None c = null_put _ _ _ _ _ (null_made _ _ (unlimited _ _ c.in-None.is)) c.push_bit.ensures
 
-shape_of-out_rows-in-Null-element : tie.Need-shape_of-out_rows-in-Null-element
-shape_of-out_rows-in-Null-element c = search
+shape_of-out_rows-in-None-element : tie.Need-shape_of-out_rows-in-None-element
+shape_of-out_rows-in-None-element c = search
 
-returns-in-Null-element : tie.Need-returns-in-Null-element
-returns-in-Null-element c = null_put _ _ _ _ _ (null_made _ _ (unmatched _ _ c.in-Null-element.is)) c.push_bit-in-Null-element.ensures
+returns-in-None-element : tie.Need-returns-in-None-element
+returns-in-None-element c = null_put _ _ _ _ _ (null_made _ _ (unmatched _ _ c.in-None-element.is)) c.push_bit-in-None-element.ensures
 
-shape_of-out_rows-in-Value-element : tie.Need-shape_of-out_rows-in-Value-element
-shape_of-out_rows-in-Value-element c = search
+shape_of-out_rows-in-Some-element : tie.Need-shape_of-out_rows-in-Some-element
+shape_of-out_rows-in-Some-element c = search
 
 shape_of-out_values : tie.Need-shape_of-out_values
 shape_of-out_values c = search
@@ -73,9 +73,9 @@ shape_of-out_values c = search
 shape_of-out_elements : tie.Need-shape_of-out_elements
 shape_of-out_elements c = search
 
-returns-in-Value-element : tie.Need-returns-in-Value-element
-returns-in-Value-element c =
-    list_put _ _ _ _ (row_is (limited c.before.before.before.before)) c.push_bit-in-Value-element.ensures c.write_removed-next.ensures
+returns-in-Some-element : tie.Need-returns-in-Some-element
+returns-in-Some-element c =
+    list_put _ _ _ _ (row_is (limited c.before.before.before.before)) c.push_bit-in-Some-element.ensures c.write_removed-next.ensures
 
 pub put_row_spec : {M : Type 1} → statement M
 put_row_spec =
@@ -84,17 +84,17 @@ put_row_spec =
     enum_told-1
     push_bit-requires
     enum_known-limit
-    enum_told-in-Null-element
-    push_bit-requires-in-Null-element
-    enum_told-in-Value-element
+    enum_told-in-None-element
+    push_bit-requires-in-None-element
+    enum_told-in-Some-element
     limit_of-requires
     write_removed-next-requires
-    push_bit-requires-in-Value-element
-    shape_of-out_rows-in-Null
-    returns-in-Null
-    shape_of-out_rows-in-Null-element
-    returns-in-Null-element
-    shape_of-out_rows-in-Value-element
+    push_bit-requires-in-Some-element
+    shape_of-out_rows-in-None
+    returns-in-None
+    shape_of-out_rows-in-None-element
+    returns-in-None-element
+    shape_of-out_rows-in-Some-element
     shape_of-out_values
     shape_of-out_elements
-    returns-in-Value-element)
+    returns-in-Some-element)

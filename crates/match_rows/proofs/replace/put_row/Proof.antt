@@ -17,12 +17,12 @@ use Rattle.match_rows.proofs.replace.put_row.Tie as tie
 abbrev start : tie.After-limit_of → tie.Start
 start l = l.before.before.before.before.before
 
-abbrev limited : tie.After-slice_known-in-Value-1 → tie.After-limit_of
+abbrev limited : tie.After-slice_known-in-Some-1 → tie.After-limit_of
 limited p = p.before.before.before.before.before.before
 
 -- the row that is made
 row_is : (l : tie.After-limit_of) → let a = (start l).args in let es = tab (elem_at a.values.now (from a.estart a.elements.now)) a.a a.len in row_made (op_made (replace_op a.needle a.to a.limit) es) ≡ list_row (replaced l.limit_of.result (elem_of a.needle) (elem_of a.to) es)
-row_is l = replaced-made _ _ _ _ _ _ l.in-Value.is (rw (back64 _ l.in-Value.known_told-1-own.given.0.1) at l.limit_of.ensures)
+row_is l = replaced-made _ _ _ _ _ _ l.in-Some.is (rw (back64 _ l.in-Some.known_told-1-own.given.0.1) at l.limit_of.ensures)
 
 enum_told-1 : tie.Need-enum_told-1
 enum_told-1 c = search
@@ -39,17 +39,17 @@ limit_of-requires c κs = search
 write_replaced-next-requires : tie.Need-write_replaced-next-requires
 write_replaced-next-requires c κs = ((start c.before.before).requires.0, list-room _ _ _ _ (row_is c.before.before) (start c.before.before).requires.1)
 
-push_bit-requires-in-Value : tie.Need-push_bit-requires-in-Value
-push_bit-requires-in-Value c κs = omega (arith, (start (limited c.before)).requires.1.rows)
+push_bit-requires-in-Some : tie.Need-push_bit-requires-in-Some
+push_bit-requires-in-Some c κs = omega (arith, (start (limited c.before)).requires.1.rows)
 
-shape_of-out_rows-in-Null : tie.Need-shape_of-out_rows-in-Null
-shape_of-out_rows-in-Null c = search
+shape_of-out_rows-in-None : tie.Need-shape_of-out_rows-in-None
+shape_of-out_rows-in-None c = search
 
-returns-in-Null : tie.Need-returns-in-Null
-returns-in-Null c = null_put _ _ _ _ _ (replaced_null _ _ _ _ c.in-Null.is) c.push_bit.ensures
+returns-in-None : tie.Need-returns-in-None
+returns-in-None c = null_put _ _ _ _ _ (replaced_null _ _ _ _ c.in-None.is) c.push_bit.ensures
 
-shape_of-out_rows-in-Value : tie.Need-shape_of-out_rows-in-Value
-shape_of-out_rows-in-Value c = search
+shape_of-out_rows-in-Some : tie.Need-shape_of-out_rows-in-Some
+shape_of-out_rows-in-Some c = search
 
 shape_of-out_values : tie.Need-shape_of-out_values
 shape_of-out_values c = search
@@ -57,9 +57,9 @@ shape_of-out_values c = search
 shape_of-out_elements : tie.Need-shape_of-out_elements
 shape_of-out_elements c = search
 
-returns-in-Value : tie.Need-returns-in-Value
-returns-in-Value c =
-    list_put _ _ _ _ (row_is (limited c.before.before.before.before)) c.push_bit-in-Value.ensures c.write_replaced-next.ensures
+returns-in-Some : tie.Need-returns-in-Some
+returns-in-Some c =
+    list_put _ _ _ _ (row_is (limited c.before.before.before.before)) c.push_bit-in-Some.ensures c.write_replaced-next.ensures
 
 pub put_row_spec : {M : Type 1} → statement M
 put_row_spec =
@@ -70,10 +70,10 @@ put_row_spec =
     enum_known-limit
     limit_of-requires
     write_replaced-next-requires
-    push_bit-requires-in-Value
-    shape_of-out_rows-in-Null
-    returns-in-Null
-    shape_of-out_rows-in-Value
+    push_bit-requires-in-Some
+    shape_of-out_rows-in-None
+    returns-in-None
+    shape_of-out_rows-in-Some
     shape_of-out_values
     shape_of-out_elements
-    returns-in-Value)
+    returns-in-Some)

@@ -13,4 +13,4 @@ steps_limits-later-requires t c =
 pub returns : goal.returns
 returns t c =
     let r = c.steps_limits-later in
-    limits-next _ _ _ _ _ _ _ _ c.step_limit-m.ensures _ _ _ _ _ (more_left c.requires.steps c.if-left-eq1.false) r.ensures c.greater.ensures
+    limits-next _ _ _ _ _ _ _ _ c.step_limit-m.ensures _ _ _ _ _ (more_left c.requires.steps c.if-left-eq1.false) r.ensures c.max.ensures

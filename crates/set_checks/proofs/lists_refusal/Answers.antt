@@ -1,0 +1,6 @@
+-- The earlier one of the two lists' refusals is what refuses both.
+use Rattle.set_checks.proofs.RefusalLaws.{of_both}
+use Rattle.set_checks.proofs.lists_refusal.Goals as goal
+
+pub returns : goal.returns
+returns c = rw (← of_both _ _, ← c.list_refusal-left.ensures, ← c.list_refusal-right.ensures) c.earlier.ensures

@@ -1,0 +1,21 @@
+-- The call is gated by what refuses element.
+use Rattle.std.proofs.Common.{ℕ, refl, sym, ap, ◌∙◌}
+use Rattle.model.specs.Asked.{asked_values}
+use Rattle.model.specs.Lengths.{value_room_for}
+use Rattle.model.specs.Outcome.{made}
+use Rattle.model.proofs.OutcomeLaws.{gate_open, gate_shut}
+use Rattle.checks.proofs.RefusedLaws.{handed_on, number_positive}
+use Rattle.value_run.proofs.LengthLaws.{element-lengths}
+use Rattle.value_run.proofs.element_lengths.Goals as goal
+
+pub returns-in_err-element_refusal : goal.returns-in_err-element_refusal
+unfolding asked_values
+returns-in_err-element_refusal c =
+    rw (handed_on _ _ c.from_residual.ensures)
+    (sym (element-lengths _ _ _ _ c.in_err-element_refusal.ensures ∙ gate_shut _ _ (number_positive _)))
+
+pub returns : goal.returns
+returns c =
+    c.value_lengths_for.ensures
+    ∙ ap (λ (n : ℕ). made (value_room_for n)) c.row_count.ensures
+    ∙ sym (element-lengths _ _ _ _ c.in_ok-element_refusal.ensures ∙ gate_open _ _ refl)

@@ -2,7 +2,7 @@
 use Prim.Native.Nat.{ℕ, zero, suc, ◌+◌, ◌-◌, ◌≤◌, ◌<◌}
 use mathlib.Core.Path.{◌≡◌, refl, sym, ap, ◌∙◌}
 use mathlib.Core.Bool.{Bool, true, false, ◌&&◌}
-use mathlib.Core.List.{List, [], ◌∷◌, map, map-append, reverse}
+use mathlib.Core.List.{List, [], map, map-append, reverse}
 use native.Mathlib.Omega.{arith}
 use borrow.Author.Tests.{eqb-true}
 use lib.Dec.{eqb}
@@ -17,7 +17,7 @@ use Rattle.column.proofs.RowLaws.{length-step, length_none}
 use Rattle.column.proofs.WalkLaws.{Walking, walk_begun, walk_more, walk_done}
 use Rattle.model.specs.Basics.{tab}
 use Rattle.model.specs.Bitmap.{pack, pack_n, bytes_for}
-use Rattle.model.specs.Column.{Elem, Row, list_row, bad_offsets, count, offset_at, row_count}
+use Rattle.model.specs.Column.{Elem, Row, list_row, bad_offsets, offset_at, row_count}
 use Rattle.model.specs.Elements.{unary_elems}
 use Rattle.model.specs.Form.{is_val, value_of, is_row, elems_of, flat, over}
 use Rattle.model.specs.declared.Unary.{Unary}
@@ -121,9 +121,6 @@ module _ (u : Unary) (o vs : List ℤ) (n : ℕ) where
 
     pub bare_room : length (flat (tab W 0 n)) ≤ length d → at + length es ≤ length v
     bare_room m = omega (arith, s.walk.sum, s.walk.lv, turn)
-
-    pub bare_slot : n + 1 ≤ length o₀ → r + 1 < length oo
-    bare_slot m = omega (arith, s.walk.rows, s.walk.lo)
 
     module _ {v' : List ℤ} {k : ℕ} (p : WritesBareˡ es at v v' k) where
       pub bare_small : k ≤ length (flat (tab W 0 n))

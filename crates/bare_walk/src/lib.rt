@@ -89,17 +89,13 @@ fn write_bare(
     let n = widths::row_count(width, offsets, large);
     widths::put_offset(width, out_offsets, out_large, 0, 0);
     let mut a = widths::first_offset(width, offsets, large);
-    let mut r: usize = 0;
     let mut at: usize = 0;
-    let mut left = n;
-    while 0 < left {
+    for r in 0..n {
         let b = widths::offset_at(width, offsets, large, r + 1);
         let len = b - a;
         at = put_values(op, values, a, len, out_values, at);
         widths::put_offset(width, out_offsets, out_large, r + 1, at);
         a = b;
-        r += 1;
-        left -= 1;
     }
     at
 }

@@ -34,7 +34,7 @@ fn put_word(out: &mut [u8], k: usize, word: u64)
     requires { k + 8 ≤ length out.old }
     ensures { out.new ≡ push_bits out.old (8 * k) (low_bits word 64) }
 {
-    // A loop, which becomes one store: copy_from_slice is slower here, since it first asks whether the two overlap.
+    // A loop, for speed: it becomes one store here, where copy_from_slice does not.
     let bytes = word.to_le_bytes();
     for i in 0..8 {
         out[k + i] = bytes[i];

@@ -13,7 +13,7 @@ use model::{
 // What the cases want in a null slot of a result.
 pub const UNDER_NULL: i64 = -9223372036854775808;
 
-// What `==` tells apart from everything else.
+// Types whose `==` is equality.
 pub trait Exact: PartialEq {
     ghost exact: { (a b : Self) → Decides (Self.eq a b) (a ≡ b) };
 }

@@ -5,6 +5,7 @@
 // followed by its starting bit.
 // Beside each stands how much to lend for it (`.._lengths`, and `.._limits` of a recipe): the refusal that the call would give before 9, or
 // the lengths of its output slices, in their order, at the front of `lengths`; nothing else is written.
+// They are functions of their own beside those of `duthlan`, since C calls each by its name.
 #![tactic(auto)]
 
 pub mod lengths;

@@ -9,7 +9,7 @@ pub const MOST_VALUES: usize = 16384;
 // Of argument columns and value answers.
 pub const MOST_ROWS: usize = 4096;
 
-// How many offsets, and how many values, stand in so many bytes.
+// How many offsets, and how many values, stand in so many bytes: one function of both would say less.
 pub fn offsets_in(bytes: usize) -> usize
     ensures { result ≡ bytes / 4 }
 {

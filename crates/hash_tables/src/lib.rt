@@ -32,6 +32,7 @@ fn is_chained(
     requires within { head ≤ m }
     ensures { result ≡ chained (lent_elem others oelements ostart) b m o area.now (lent_elem values elements estart i) head head }
 {
+    // A chain is followed, and no range counted.
     let mut s = head;
     while let Some(j) = s.checked_sub(1) {
         if set_elements::same_elem(

@@ -64,7 +64,7 @@ fn is_against(from: i32, to: i32, stride: i64) -> bool
 }
 
 // The steps that a distance holds, by a stride below 0: what is left falls by each of them, and its sum with the stride stays in range,
-// where the stride's size might not.
+// where the stride's size might not. Counted without a division, as the rules ask, so by no `for`.
 fn steps_of(distance: i32, stride: i32) -> i32
     requires place { IsPlace narrow distance }
     requires stride_value { is_below stride ≡ true }

@@ -1,5 +1,6 @@
 // Where an index points in a row, by signed 64-bit arithmetic: every index fits. An inner crate, for the operations above it; it asks nothing of them.
 // After extract.rs of datafusion-functions-nested 55.2.0, Apache License 2.0, Apache Software Foundation; changed, see NOTICE.
+// These are the functions of `index` at 64 bits: the rules ask for signed arithmetic of the offsets' own width.
 #![tactic(auto)]
 
 pub mod slice;

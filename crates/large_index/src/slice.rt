@@ -54,7 +54,7 @@ fn is_against(from: i64, to: i64, stride: i64) -> bool
 }
 
 // The steps that a distance holds, by a stride below 0: what is left falls by each of them, and its sum with the stride stays in range,
-// where the stride's size might not.
+// where the stride's size might not. Counted without a division, as the rules ask, so by no `for`.
 fn steps_of(distance: i64, stride: i64) -> i64
     requires place { IsPlace wide distance }
     requires stride_value { is_below stride ≡ true }

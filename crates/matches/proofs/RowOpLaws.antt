@@ -22,8 +22,8 @@ module _ (f t : Elem) where
   replaced-zero (e ∷ es) = rw (replaced-zero es)
 
   -- no limit is left
-  pub replaced_spent : (m : ℕ) (es : List Elem) → m ≡ 0 → replaced m f t es ≡ es
-  replaced_spent m es h = rw h (replaced-zero es)
+  pub replaced_spent : (m k : ℕ) (es : List Elem) → m ≤ k → replaced (m - k) f t es ≡ es
+  replaced_spent m k es h = let z : m - k ≡ 0 = omega arith in rw z (replaced-zero es)
 
   pub length-replaced : (m : ℕ) (es : List Elem) → length (replaced m f t es) ≡ length es
   unfolding replaced
@@ -61,21 +61,23 @@ module _ (f t : Elem) where
         rw (replaced-kept E m p n (omega arith) l (rw z at (e 0 (omega arith))), a, b, s)
         (ap (λ (x : List Elem). E p ∷ x) (replaced_run (suc p) (n - 1) r (omega arith) (λ i k. let q : suc p + i ≡ p + suc i = omega arith in rw q (e (suc i) (omega arith)))))
 
-    module _ (p n r : ℕ) (b : Before (λ i. same_elem (E (p + i)) f) n r) where
-      -- those before the first match come first
-      pub replaced_before : replaced m f t (tab E p n) ≡ tab E p r ++ replaced m f t (tab E (p + r) (n - r))
-      replaced_before = replaced_run p n r b.inside b.none
+  -- k of the limit are spent
+  module _ (E : ℕ → Elem) (m k : ℕ) (l : k < m) (p n r : ℕ) (b : Before (λ i. same_elem (E (p + i)) f) n r) where
+    -- those before the first match come first
+    pub replaced_before : replaced (m - k) f t (tab E p n) ≡ tab E p r ++ replaced (m - k) f t (tab E (p + r) (n - r))
+    replaced_before = replaced_run E (m - k) (omega arith) p n r b.inside b.none
 
-      pub replaced_all : r ≡ n → replaced m f t (tab E p n) ≡ tab E p r
-      replaced_all h = replaced_before ∙ rw (replaced-none E m (p + r) (n - r) (omega arith)) (append-nil (tab E p r))
+    pub replaced_all : r ≡ n → replaced (m - k) f t (tab E p n) ≡ tab E p r
+    replaced_all h = replaced_before ∙ rw (replaced-none E (m - k) (p + r) (n - r) (omega arith)) (append-nil (tab E p r))
 
-      pub replaced-next : (r ≡ n → ⊥) → replaced m f t (tab E p n) ≡ tab E p r ++ (t ∷ replaced (m - 1) f t (tab E (p + (r + 1)) (n - (r + 1))))
-      replaced-next h =
-          let i = b.inside in
-          let k : r < n = omega arith in
-          let x : p + r + 1 ≡ p + (r + 1) = omega arith in
-          let y : n - r - 1 ≡ n - (r + 1) = omega arith in
-          replaced_before ∙ rw (replaced_hit E m (p + r) (n - r) (omega arith) l (b.found k), x, y)
+    pub replaced-next : (r ≡ n → ⊥) → replaced (m - k) f t (tab E p n) ≡ tab E p r ++ (t ∷ replaced (m - (k + 1)) f t (tab E (p + (r + 1)) (n - (r + 1))))
+    replaced-next h =
+        let i = b.inside in
+        let q : r < n = omega arith in
+        let x : p + r + 1 ≡ p + (r + 1) = omega arith in
+        let y : n - r - 1 ≡ n - (r + 1) = omega arith in
+        let z : m - k - 1 ≡ m - (k + 1) = omega arith in
+        replaced_before ∙ rw (replaced_hit E (m - k) (p + r) (n - r) (omega arith) (omega arith) (b.found q), x, y, z)
 
 -- ---- remove
 
@@ -86,8 +88,8 @@ module _ (f : Elem) where
   removed-zero (e ∷ es) = rw (removed-zero es)
 
   -- no limit is left
-  pub removed_spent : (m : ℕ) (es : List Elem) → m ≡ 0 → removed m f es ≡ es
-  removed_spent m es h = rw h (removed-zero es)
+  pub removed_spent : (m k : ℕ) (es : List Elem) → m ≤ k → removed (m - k) f es ≡ es
+  removed_spent m k es h = let z : m - k ≡ 0 = omega arith in rw z (removed-zero es)
 
   pub length_removed : (m : ℕ) (es : List Elem) → length (removed m f es) ≤ length es
   unfolding removed
@@ -125,18 +127,20 @@ module _ (f : Elem) where
         rw (removed-kept E m p n (omega arith) l (rw z at (e 0 (omega arith))), a, b, s)
         (ap (λ (x : List Elem). E p ∷ x) (removed_run (suc p) (n - 1) r (omega arith) (λ i k. let q : suc p + i ≡ p + suc i = omega arith in rw q (e (suc i) (omega arith)))))
 
-    module _ (p n r : ℕ) (b : Before (λ i. same_elem (E (p + i)) f) n r) where
-      -- those before the first match come first
-      pub removed_before : removed m f (tab E p n) ≡ tab E p r ++ removed m f (tab E (p + r) (n - r))
-      removed_before = removed_run p n r b.inside b.none
+  -- k of the limit are spent
+  module _ (E : ℕ → Elem) (m k : ℕ) (l : k < m) (p n r : ℕ) (b : Before (λ i. same_elem (E (p + i)) f) n r) where
+    -- those before the first match come first
+    pub removed_before : removed (m - k) f (tab E p n) ≡ tab E p r ++ removed (m - k) f (tab E (p + r) (n - r))
+    removed_before = removed_run E (m - k) (omega arith) p n r b.inside b.none
 
-      pub removed_all : r ≡ n → removed m f (tab E p n) ≡ tab E p r
-      removed_all h = removed_before ∙ rw (removed-none E m (p + r) (n - r) (omega arith)) (append-nil (tab E p r))
+    pub removed_all : r ≡ n → removed (m - k) f (tab E p n) ≡ tab E p r
+    removed_all h = removed_before ∙ rw (removed-none E (m - k) (p + r) (n - r) (omega arith)) (append-nil (tab E p r))
 
-      pub removed-next : (r ≡ n → ⊥) → removed m f (tab E p n) ≡ tab E p r ++ removed (m - 1) f (tab E (p + (r + 1)) (n - (r + 1)))
-      removed-next h =
-          let i = b.inside in
-          let k : r < n = omega arith in
-          let x : p + r + 1 ≡ p + (r + 1) = omega arith in
-          let y : n - r - 1 ≡ n - (r + 1) = omega arith in
-          removed_before ∙ rw (removed_hit E m (p + r) (n - r) (omega arith) l (b.found k), x, y)
+    pub removed-next : (r ≡ n → ⊥) → removed (m - k) f (tab E p n) ≡ tab E p r ++ removed (m - (k + 1)) f (tab E (p + (r + 1)) (n - (r + 1)))
+    removed-next h =
+        let i = b.inside in
+        let q : r < n = omega arith in
+        let x : p + r + 1 ≡ p + (r + 1) = omega arith in
+        let y : n - r - 1 ≡ n - (r + 1) = omega arith in
+        let z : m - k - 1 ≡ m - (k + 1) = omega arith in
+        removed_before ∙ rw (removed_hit E (m - k) (p + r) (n - r) (omega arith) (omega arith) (b.found q), x, y, z)

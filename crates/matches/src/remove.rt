@@ -23,9 +23,8 @@ pub fn measure_removed(
 {
     let mut p = a;
     let mut left = n;
-    let mut most = limit;
     let mut kept: usize = 0;
-    while 0 < most {
+    for _ in 0..limit {
         let run = utils::before_match(values, elements, estart, p, left, element);
         kept += run;
         if run == left {
@@ -33,7 +32,6 @@ pub fn measure_removed(
         }
         p += run + 1;
         left -= run + 1;
-        most -= 1;
     }
     kept + left
 }
@@ -57,9 +55,8 @@ pub fn write_removed(
 {
     let mut p = a;
     let mut left = n;
-    let mut most = limit;
     let mut k = at;
-    while 0 < most {
+    for _ in 0..limit {
         let run = utils::before_match(values, elements, estart, p, left, element);
         k = utils::write_forward(
             values,
@@ -76,7 +73,6 @@ pub fn write_removed(
         }
         p += run + 1;
         left -= run + 1;
-        most -= 1;
     }
     utils::write_forward(
         values,

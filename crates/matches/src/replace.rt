@@ -27,9 +27,8 @@ pub fn write_replaced(
 {
     let mut p = a;
     let mut left = n;
-    let mut most = limit;
     let mut k = at;
-    while 0 < most {
+    for _ in 0..limit {
         let run = utils::before_match(values, elements, estart, p, left, needle);
         k = utils::write_forward(
             values,
@@ -48,7 +47,6 @@ pub fn write_replaced(
         k += 1;
         p += run + 1;
         left -= run + 1;
-        most -= 1;
     }
     utils::write_forward(
         values,

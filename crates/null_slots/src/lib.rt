@@ -33,7 +33,7 @@ pub fn put_few(word: u64, m: usize, out: &mut [i64], at: usize)
     }
 }
 
-// The same, the last bit's place first; one body for both, given the place by a closure, is no plainer.
+// The same, the last bit's place first: only the place differs, and one body with a closure for it would be longer.
 fn put_few_back(word: u64, m: usize, out: &mut [i64], at: usize)
     requires m_bound { m ≤ 64 }
     requires m_in_bounds { at + m ≤ length out.old }

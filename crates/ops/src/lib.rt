@@ -1,4 +1,4 @@
-// The operations on one list, what each takes of its argument columns, and what is done to a row. An inner crate: its callers meet what it asks.
+// The operations on one list, and what each takes of its argument columns. An inner crate: its callers meet what it asks.
 #![tactic(auto)]
 
 ghost use Rattle.ops.specs.Ops.{table};

@@ -111,11 +111,9 @@ fn write_each(
 {
     let n = widths::row_count(width, offsets, large);
     widths::put_offset(width, out_offsets, out_large, 0, 0);
-    let mut r: usize = 0;
     let mut at: usize = 0;
-    let mut left = n;
-    while 0 < left {
-        let a = widths::offset_at(width, offsets, large, r);
+    let mut a = widths::first_offset(width, offsets, large);
+    for r in 0..n {
         let b = widths::offset_at(width, offsets, large, r + 1);
         let len = b - a;
         let valid = bitmap::is_valid(rows, rstart, r, n);
@@ -125,8 +123,7 @@ fn write_each(
             at,
         );
         widths::put_offset(width, out_offsets, out_large, r + 1, at);
-        r += 1;
-        left -= 1;
+        a = b;
     }
 }
 

@@ -63,11 +63,9 @@ pub fn write_rows(
 {
     let n = widths::row_count(width, offsets, large);
     widths::put_offset(width, out_offsets, out_large, 0, 0);
-    let mut r: usize = 0;
     let mut at: usize = 0;
-    let mut left = n;
     let mut a = widths::first_offset(width, offsets, large);
-    while 0 < left {
+    for r in 0..n {
         let b = widths::offset_at(width, offsets, large, r + 1);
         let len = b - a;
         let limit = match_rows::limit_at(rows, rstart, n, ys, ybits, ystart, r);
@@ -79,7 +77,5 @@ pub fn write_rows(
         );
         widths::put_offset(width, out_offsets, out_large, r + 1, at);
         a = b;
-        r += 1;
-        left -= 1;
     }
 }

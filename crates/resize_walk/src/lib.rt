@@ -130,10 +130,8 @@ pub fn write_rows(
     let n = widths::row_count(width, offsets, large);
     let filled = is_filled(op);
     widths::put_offset(width, out_offsets, out_large, 0, 0);
-    let mut r: usize = 0;
     let mut at: usize = 0;
-    let mut left = n;
-    while 0 < left {
+    for r in 0..n {
         let a = widths::offset_at(width, offsets, large, r);
         let b = widths::offset_at(width, offsets, large, r + 1);
         let len = b - a;
@@ -145,7 +143,5 @@ pub fn write_rows(
             at,
         );
         widths::put_offset(width, out_offsets, out_large, r + 1, at);
-        r += 1;
-        left -= 1;
     }
 }

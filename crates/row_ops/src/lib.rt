@@ -13,6 +13,7 @@ use model::Unary;
 use rows::utils;
 
 // The number of elements that the operation makes of the n elements from element a on.
+#[tactic(auto, unfolding(model::specs::Elements::unary_elems))]
 pub fn measure_plain(
     op: Unary,
     values: &[i64],
@@ -33,6 +34,7 @@ pub fn measure_plain(
 }
 
 // Writes what the operation makes of the n elements from element a on; gives the next place.
+#[tactic(auto, using(set_elements::proofs::ElementLaws::pop_front, set_elements::proofs::ElementLaws::pop_back), unfolding(model::specs::Elements::unary_elems))]
 pub fn write_plain(
     op: Unary,
     values: &[i64],

@@ -6,7 +6,7 @@ use Rattle.model.specs.Column.{Elem, nul, val}
 abbrev pub Cell : Type 0
 Cell = Option ℤ
 
--- what a row is filled with: nothing that is lent, or the row's own
+-- what a row is filled with: nulls where no fill is lent, else the row's own
 abbrev pub Fill : Type 0
 Fill = Option (Option ℤ)
 

@@ -92,6 +92,7 @@ fn before_null(values: &[i64], elements: &[u8], estart: usize, a: usize, n: usiz
 }
 
 // How many of the n elements from element a on come before the first that is v; the validity bit is read only where the value is v.
+// It goes from match to match, so a `for` would need a step of its own.
 fn before_equal(values: &[i64], elements: &[u8], estart: usize, a: usize, n: usize, v: i64) -> usize
     requires column { ReadableElems values elements estart a n }
     ensures { Before (λ i. same_elem (lent_elem values elements estart (a + i)) (elem_of (Some v))) n result }

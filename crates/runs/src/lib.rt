@@ -1,4 +1,4 @@
-// Runs of elements without nulls, or of nulls alone: values in plain loops, and whole bytes of bits at a time. An inner crate: its callers meet what it asks.
+// Runs of elements without nulls, or of nulls alone: values at once, and whole bytes of bits at a time. An inner crate: its callers meet what it asks.
 #![tactic(auto)]
 
 ghost use Rattle.std.specs.Prelude.{◌%◌, ◌*◌, ◌+◌, ◌-◌, ◌/◌, ◌<◌, ◌^◌, ◌≤◌, length, replicate, reverse, ◌≡◌};

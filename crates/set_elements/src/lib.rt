@@ -81,6 +81,7 @@ pub fn before_value(values: &[i64], a: usize, k: usize, v: i64) -> usize
 }
 
 // Whether a value is one of the valid elements among the k from element a on: the bit is read only where the value is equal.
+// It goes from match to match, so a `for` would need a step of its own.
 fn has_valid(others: &[i64], oelements: &[u8], ostart: usize, a: usize, k: usize, v: i64) -> bool
     requires k_in_bounds { a + k ≤ length others.now }
     requires covers { Covers (now_bits oelements ostart) (length others.now) }

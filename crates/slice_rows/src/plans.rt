@@ -50,7 +50,7 @@ pub fn plan_at(
     plan_of(len, xs[r], ys[r], stride_at(by, zs, r), width)
 }
 
-// The number of places of a plan.
+// The number of places of an accepted plan.
 #[tactic(auto, unfolding(crate::specs::Sliced::steps_count))]
 pub fn count_of(steps: Option<Steps>) -> usize
     ensures { result ≡ steps_count steps }

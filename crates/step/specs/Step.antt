@@ -17,7 +17,7 @@ use Rattle.codes.specs.Codes.{operation_of}
 use Rattle.codes.specs.declared.Operation.{Operation}
 use Rattle.codes.specs.declared.Operation.TheVariants as S
 
--- the call that it makes of the carried rows, the second list's rows and three argument columns (a code that is none is refused before)
+-- the call that it makes of the carried rows, the second list's rows and three argument columns (a code that names none is refused before)
 unfoldable pub op_call : Option Operation → List Row → List Row → List Elem → List Elem → List Elem → ListCall (List Row) (List Elem)
 op_call (Some (S.One op)) ws rs a b c = call_of op ws a b c
 op_call (Some (S.Two op)) ws rs a b c = set_op_call op ws rs

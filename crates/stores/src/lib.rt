@@ -25,6 +25,16 @@ pub fn byte_of(on: bool) -> u8
     if on { 255 } else { 0 }
 }
 
+// Copies four values: all are read before one is written, so that they are moved at once.
+fn copy_four(values: &[i64], p: usize, out: &mut [i64], k: usize)
+    requires p_in_bounds { p + 4 ≤ length values.now }
+    requires k_in_bounds { k + 4 ≤ length out.old }
+    ensures { out.new ≡ sets out.old k (tab (λ i. get_or values.now i (pos 0)) p 4) }
+{
+    let four: [i64; 4] = *values[p..].first_chunk().unwrap();
+    out[k..k + 4].copy_from_slice(&four);
+}
+
 // Copies fewer than nine values: the first four and the last four, which may overlap, or one after the other.
 // Four are moved at once, where a copy of a length not known before would be a call.
 fn copy_short(values: &[i64], a: usize, n: usize, out: &mut [i64], at: usize)
@@ -40,8 +50,8 @@ fn copy_short(values: &[i64], a: usize, n: usize, out: &mut [i64], at: usize)
         return;
     }
     let last = n - 4;
-    out[at..at + 4].copy_from_slice(&values[a..a + 4]);
-    out[at + last..at + last + 4].copy_from_slice(&values[a + last..a + last + 4]);
+    copy_four(values, a, out, at);
+    copy_four(values, a + last, out, at + last);
 }
 
 // Copies the n values from value a on, from place at on.

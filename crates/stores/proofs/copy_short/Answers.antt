@@ -4,7 +4,7 @@ use Rattle.column.proofs.OffsetLaws.{back64}
 use Rattle.model.specs.Basics.{tab}
 use Rattle.model.proofs.TabLaws.{length-tab, get_or-tab}
 use Rattle.std.proofs.lemmas.List.Edits.{sets}
-use Rattle.stores.proofs.StoreLaws.{next_stored, all_stored, part_copied, sets_tab}
+use Rattle.stores.proofs.StoreLaws.{next_stored, all_stored, sets_tab}
 use Rattle.stores.proofs.copy_short.Goals as goal
 
 pub loop-i-preserved : goal.loop-i-preserved
@@ -26,9 +26,8 @@ returns c =
     let G : ℕ → ℤ = λ i. get_or a.values.now i (pos 0) in
     let last : ℕ = a.n - 4 in
     let all : last + 4 ≡ a.n = omega arith in
-    let first = part_copied a.values.now (pos 0) c.copy_from_slice.new.self a.out.now a.a a.at 4 _ (a.at + 4 - a.at) (omega arith) (omega arith) (omega arith) (omega arith) c.copy_from_slice.ensures.after in
-    let room = ap length first ∙ length-sets a.out.now a.at (tab G a.a 4) in
-    part_copied a.values.now (pos 0) c.copy_from_slice-2.new.self _ (a.a + last) (a.at + last) 4 _ _ (omega arith) (omega arith) (omega arith) (omega (arith, room)) c.copy_from_slice-2.ensures.after
-    ∙ ap (λ (l : List ℤ). sets l (a.at + last) (tab G (a.a + last) 4)) first
+    let room = ap length c.copy_four.ensures ∙ length-sets a.out.now a.at (tab G a.a 4) in
+    c.copy_four-2.ensures
+    ∙ ap (λ (l : List ℤ). sets l (a.at + last) (tab G (a.a + last) 4)) c.copy_four.ensures
     ∙ sets_tab G a.a 4 last 4 a.out.now a.at (omega arith) (omega arith)
     ∙ ap (λ (i : ℕ). sets a.out.now a.at (tab G a.a i)) all

@@ -2,37 +2,52 @@
 #![tactic(auto)]
 
 ghost use Rattle.std.specs.Prelude.{◌≤◌, length, ◌≡◌};
-ghost use Rattle.column.specs.Answers.{list_answer_from, value_answer_from};
+ghost use Rattle.column.specs.Answers.{list_answer_from, unset, value_answer_from};
 ghost use Rattle.model.specs.Bitmap.{bytes_for};
 
+use column::elements::ValueOutput;
+use column::lists::ListOutput;
 use model::{ListAnswer, ListCounts, ValueAnswer, ValueCounts};
 
-// The answer for n rows and m elements.
-#[tactic(auto, unfolding(column::specs::Answers::list_answer_from))]
-pub fn list_answer(out_rows: &[u8], n: usize, out_elements: &[u8], m: usize) -> ListAnswer
-    requires n_in_bounds { bytes_for n ≤ length out_rows.now }
-    requires m_in_bounds { bytes_for m ≤ length out_elements.now }
-    ensures { result ≡ list_answer_from out_rows.now n out_elements.now m }
+// How many of the first n bits are 0.
+pub fn count_nulls(bits: &[u8], n: usize) -> usize
+    requires { bytes_for n ≤ length bits.now }
+    ensures { result ≡ unset bits.now n }
 {
-    let valid_rows = bit_words::count_set(out_rows, n);
-    let valid_elements = bit_words::count_set(out_elements, m);
-    let null_rows = n - valid_rows;
-    let null_elements = m - valid_elements;
+    n - bit_words::count_set(bits, n)
+}
+
+// How many of the first m elements written are null.
+pub fn null_elements(out: &ValueOutput, m: usize) -> usize
+    requires { bytes_for m ≤ length out.now.bits.now }
+    ensures { result ≡ unset out.now.bits.now m }
+{
+    count_nulls(out.bits, m)
+}
+
+// The answer for n rows and m elements written.
+#[tactic(auto, unfolding(column::specs::Answers::list_answer_from))]
+pub fn list_answer<O>(out: &ListOutput<O>, n: usize, m: usize) -> ListAnswer
+    requires n_in_bounds { bytes_for n ≤ length out.now.rows.now }
+    requires m_in_bounds { bytes_for m ≤ length out.now.elements.now.bits.now }
+    ensures { result ≡ list_answer_from out.now.rows.now n out.now.elements.now.bits.now m }
+{
     Ok(ListCounts {
         rows: n,
         elements: m,
-        null_rows,
-        null_elements,
+        null_rows: count_nulls(out.rows, n),
+        null_elements: null_elements(out.elements, m),
     })
 }
 
-// The answer for n values.
+// The answer for n values written.
 #[tactic(auto, unfolding(column::specs::Answers::value_answer_from))]
-pub fn value_answer(out_rows: &[u8], n: usize) -> ValueAnswer
-    requires { bytes_for n ≤ length out_rows.now }
-    ensures { result ≡ value_answer_from out_rows.now n }
+pub fn value_answer(out: &ValueOutput, n: usize) -> ValueAnswer
+    requires { bytes_for n ≤ length out.now.bits.now }
+    ensures { result ≡ value_answer_from out.now.bits.now n }
 {
-    let valid_rows = bit_words::count_set(out_rows, n);
-    let null_rows = n - valid_rows;
-    Ok(ValueCounts { rows: n, null_rows })
+    Ok(ValueCounts {
+        rows: n,
+        null_rows: count_nulls(out.bits, n),
+    })
 }

@@ -17,6 +17,7 @@ use Rattle.model.proofs.ColumnLaws.{argument_at, row_at_lem, length-shown}
 use Rattle.column.proofs.RowLaws.{elem_valid, elem_null}
 use Rattle.rows.specs.Cells.{elem_of}
 use Rattle.ops.specs.Ops.{call_of, takes_of, second_limit, third_limit, table}
+use Rattle.ops.specs.declared.Arity.{Arity}
 use Rattle.ops.specs.declared.ListOp.{ListOp}
 use Rattle.ops.specs.declared.ListOp.TheVariants as L
 use Rattle.arguments.specs.Taken.{cell_of, place_in, taken_at, Serves, Served, over_if, start_over, short_if, wrong_if, arguments_refusal}
@@ -37,17 +38,6 @@ module _ (vs : List ℤ) (b : Bits) (i : ℕ) where
   pub cell_null : valid_at b i ≡ false → None ≡ cell_of (elem_at vs b i)
   unfolding cell_of
   cell_null h = rw (elem_null vs b i h)
-
--- ---- where it stands
-
-module _ (limit : Bool) (len r : ℕ) (t : Bool) (e : t ≡ (limit && eqb len 1)) where
-  pub place-first : t ≡ true → 0 ≡ place_in limit len r
-  unfolding place_in
-  place-first h = rw (← e, h)
-
-  pub place_own : t ≡ false → r ≡ place_in limit len r
-  unfolding place_in
-  place_own h = rw (← e, h)
 
 -- ---- what is taken is what the definition takes
 
@@ -93,6 +83,12 @@ over_is op k x y z e = rw e
 pub none_over : (op : ListOp) (k x y z : ℕ) → takes_of op ≡ k → start_over op x y z ≡ false → (over_if (ltb 0 k) x ≡ false) × (over_if (ltb 1 k) y ≡ false) × (over_if (ltb 2 k) z ≡ false)
 unfolding start_over
 none_over op k x y z e h = rw (← e) (none_of (over_if (ltb 0 (takes_of op)) x) (over_if (ltb 1 (takes_of op)) y) (over_if (ltb 2 (takes_of op)) z) h)
+
+-- 2 of the columns that are taken, else 3, by what the operation takes
+pub refusal_is : (op : ListOp) (t : Arity) (n : ℕ) (x y z : Arguments) → t ≡ table op
+    → arguments_refusal op n x y z ≡ pick (short_if (ltb 0 t.columns) x || short_if (ltb 1 t.columns) y || short_if (ltb 2 t.columns) z) 2 (pick (wrong_if (ltb 0 t.columns) false n (length x.values) || wrong_if (ltb 1 t.columns) (t.limited && eqb t.columns 2) n (length y.values) || wrong_if (ltb 2 t.columns) (t.limited && eqb t.columns 3) n (length z.values)) 3 0)
+unfolding arguments_refusal
+refusal_is op t n x y z e = rw e
 
 none_left : (p q : Bool) → ◌≡◌ {A = ℕ} (pick p 2 (pick q 3 0)) 0 → (p ≡ false) × (q ≡ false)
 none_left true q e = let z : ⊥ = omega arith in absurd z

@@ -1,22 +1,24 @@
 // The arguments of a row, taken from the columns that the operation takes, and refusals 13, 2 and 3 of those.
-ghost use Rattle.std.specs.Prelude.{◌<◌, eqb, length, ◌&&◌, false, true, ◌≡◌};
 ghost use Rattle.arguments.specs.Taken.{Serves, arguments_refusal, cell_of, over_if, place_in, short_if, start_over, taken_at, wrong_if};
 ghost use Rattle.bitmap.specs.Push.{Covers};
+ghost use Rattle.bitmap.specs.Reads.{bits_in};
+ghost use Rattle.column.specs.Columns.{values_in, elem_in};
 ghost use Rattle.model.specs.Answers.{refused_by};
-ghost use Rattle.model.specs.Inner.{now_arguments, now_bits, lent_arguments_from, lent_elem};
+ghost use Rattle.std.specs.Prelude.{◌<◌, eqb, length, ◌&&◌, false, true, ◌≡◌};
 
+use column::elements::ValueColumn;
 use model::Refusal;
 use ops::ListOp;
 use rows::Cell;
 
 // The argument at place i.
-fn cell_at(values: &[i64], bits: &[u8], start: usize, i: usize) -> Cell
-    requires covers { Covers (now_bits bits start) (length values.now) }
-    requires i_in_bounds { i < length values.now }
-    ensures { result ≡ cell_of (lent_elem values bits start i) }
+fn cell_at(column: ValueColumn, i: usize) -> Cell
+    requires covers { Covers (bits_in column.bits) (length column.values.now) }
+    requires i_in_bounds { i < length column.values.now }
+    ensures { result ≡ cell_of (elem_in column.entry i) }
 {
-    if bitmap::is_valid(bits, start, i, values.len()) {
-        return Some(values[i]);
+    if column.bits.is_valid(i, column.values.len()) {
+        return Some(column.values[i]);
     }
     None
 }
@@ -41,56 +43,49 @@ fn place_in(limit: bool, len: usize, r: usize) -> usize
 
 // Row r's argument of n; a null where the column is not taken.
 #[tactic(auto, unfolding(crate::specs::Taken::taken_at))]
-pub fn taken_at(
-    on: bool,
-    limit: bool,
-    values: &[i64],
-    bits: &[u8],
-    start: usize,
-    n: usize,
-    r: usize,
-) -> Cell
-    requires serves { on ≡ true → Serves limit n (now_arguments values bits start) }
+pub fn taken_at(on: bool, limit: bool, column: ValueColumn, n: usize, r: usize) -> Cell
+    requires serves { on ≡ true → Serves limit n (values_in column) }
     requires r_lt_n { r < n }
-    ensures { result ≡ taken_at on limit (lent_arguments_from values bits start) r }
+    ensures { result ≡ taken_at on limit (values_in column.entry) r }
 {
     if !on {
         return None;
     }
-    let i = place_in(limit, values.len(), r);
-    cell_at(values, bits, start, i)
+    let i = place_in(limit, column.values.len(), r);
+    cell_at(column, i)
 }
 
 // Whether a column that is taken has a starting bit over 7.
 #[tactic(auto, unfolding(crate::specs::Taken::over_if))]
-fn is_over_if(on: bool, start: usize) -> bool
-    ensures { result ≡ over_if on start }
+fn is_over_if(on: bool, column: ValueColumn) -> bool
+    ensures { result ≡ over_if on column.entry.bits.start }
 {
-    on && 7 < start
+    on && column.bits.is_start_over()
 }
 
 // Whether any column that is taken has one; the others are not looked at.
-pub fn is_start_over(op: ListOp, xstart: usize, ystart: usize, zstart: usize) -> bool
-    ensures { result ≡ start_over op xstart ystart zstart }
+pub fn is_start_over(op: ListOp, xs: ValueColumn, ys: ValueColumn, zs: ValueColumn) -> bool
+    ensures { result ≡ start_over op xs.entry.bits.start ys.entry.bits.start zs.entry.bits.start }
 {
     let t = ops::takes(op);
     let k = t.columns;
-    is_over_if(0 < k, xstart) | is_over_if(1 < k, ystart) | is_over_if(2 < k, zstart)
+    is_over_if(0 < k, xs) | is_over_if(1 < k, ys) | is_over_if(2 < k, zs)
 }
 
 // Whether a column that is taken has too short a bitmap.
-fn is_short_if(on: bool, values: &[i64], bits: &[u8], start: usize) -> bool
-    requires { over_if on start ≡ false }
-    ensures { result ≡ short_if on (lent_arguments_from values bits start) }
+fn is_short_if(on: bool, column: ValueColumn) -> bool
+    requires { over_if on column.bits.start ≡ false }
+    ensures { result ≡ short_if on (values_in column.entry) }
 {
-    on && bitmap::is_short(bits, start, values.len())
+    on && column.bits.is_short(column.values.len())
 }
 
 // Whether a column that is taken has another number of rows than n, and is no limit of one row.
 #[tactic(auto, unfolding(crate::specs::Taken::wrong_if))]
-fn is_wrong_if(on: bool, limit: bool, n: usize, len: usize) -> bool
-    ensures { result ≡ wrong_if on limit n len }
+fn is_wrong_if(on: bool, limit: bool, n: usize, column: ValueColumn) -> bool
+    ensures { result ≡ wrong_if on limit n (length column.entry.values.now) }
 {
+    let len = column.values.len();
     on && !serves_all(limit, len) && len != n
 }
 
@@ -98,38 +93,23 @@ fn is_wrong_if(on: bool, limit: bool, n: usize, len: usize) -> bool
 pub fn arguments_refusal(
     op: ListOp,
     n: usize,
-    xs: &[i64],
-    xbits: &[u8],
-    xstart: usize,
-    ys: &[i64],
-    ybits: &[u8],
-    ystart: usize,
-    zs: &[i64],
-    zbits: &[u8],
-    zstart: usize,
+    xs: ValueColumn,
+    ys: ValueColumn,
+    zs: ValueColumn,
 ) -> Result<(), Refusal>
-    requires { start_over op xstart ystart zstart ≡ false }
-    ensures { refused_by result ≡ arguments_refusal op n (lent_arguments_from xs xbits xstart) (lent_arguments_from ys ybits ystart) (lent_arguments_from zs zbits zstart) }
+    requires { start_over op xs.bits.start ys.bits.start zs.bits.start ≡ false }
+    ensures { refused_by result ≡ arguments_refusal op n (values_in xs.entry) (values_in ys.entry) (values_in zs.entry) }
 {
     let t = ops::takes(op);
     let k = t.columns;
-    let limit = t.limit;
-    if is_short_if(0 < k, xs, xbits, xstart) {
+    let short = is_short_if(0 < k, xs) | is_short_if(1 < k, ys) | is_short_if(2 < k, zs);
+    if short {
         return Err(Refusal::ShortBitmap);
     }
-    if is_short_if(1 < k, ys, ybits, ystart) {
-        return Err(Refusal::ShortBitmap);
-    }
-    if is_short_if(2 < k, zs, zbits, zstart) {
-        return Err(Refusal::ShortBitmap);
-    }
-    if is_wrong_if(0 < k, false, n, xs.len()) {
-        return Err(Refusal::RowCountsDiffer);
-    }
-    if is_wrong_if(1 < k, limit == 2, n, ys.len()) {
-        return Err(Refusal::RowCountsDiffer);
-    }
-    if is_wrong_if(2 < k, limit == 3, n, zs.len()) {
+    let wrong = is_wrong_if(0 < k, false, n, xs)
+        | is_wrong_if(1 < k, t.limits(2), n, ys)
+        | is_wrong_if(2 < k, t.limits(3), n, zs);
+    if wrong {
         return Err(Refusal::RowCountsDiffer);
     }
     Ok(())

@@ -27,7 +27,7 @@ use Rattle.model.proofs.TabLaws.{length-tab, map-tab}
 use Rattle.set_elements.proofs.ElementLaws.{pop_front, pop_back}
 use Rattle.stores.proofs.StoreLaws.{length_back}
 use Rattle.runs.proofs.PlainLaws.{map_back, back_same, tab_same}
-use Rattle.bare_walk.specs.Bare.{copies, is_bare, bare_elem, bare_elems, bare_at, bare_rows, WritesBareˡ, WritesFormˡ}
+use Rattle.bare_walk.specs.Bare.{copies, is_bare, bare_elem, bare_elems, bare_at, bare_rows, WritesBare, WritesFormˡ}
 
 -- ---- the test
 
@@ -52,7 +52,7 @@ module _ (u : Unary) (vs : List ℤ) (a n : ℕ) where
   last-length e = rw (e, pop_back (bare_elem vs) a n) (length-tab (bare_elem vs) a (n - 1))
 
 module _ (vs : List ℤ) (at : ℕ) {vo vo' : List ℤ} where
-  forward_written : (a n : ℕ) → vo' ≡ sets vo at (tab (λ i. get_or vs i (pos 0)) a n) → WritesBareˡ (bare_elems vs a n) at vo vo' (at + n)
+  forward_written : (a n : ℕ) → vo' ≡ sets vo at (tab (λ i. get_or vs i (pos 0)) a n) → WritesBare (bare_elems vs a n) at vo vo' (at + n)
   unfolding value_of
   forward_written a n v = record {
     values = v ∙ ap (λ (l : List ℤ). sets vo at l) (sym (map-tab value_of (bare_elem vs) a n));
@@ -60,7 +60,7 @@ module _ (vs : List ℤ) (at : ℕ) {vo vo' : List ℤ} where
   }
 
   module _ (u : Unary) (a n : ℕ) where
-    pub back_written : u ≡ Reverse → vo' ≡ sets vo at (reverse (tab (λ i. get_or vs i (pos 0)) a n)) → WritesBareˡ (unary_elems u (bare_elems vs a n)) at vo vo' (at + n)
+    pub back_written : u ≡ Reverse → vo' ≡ sets vo at (reverse (tab (λ i. get_or vs i (pos 0)) a n)) → WritesBare (unary_elems u (bare_elems vs a n)) at vo vo' (at + n)
     unfolding unary_elems value_of
     back_written e v = rw e (record {
       values = v ∙ ap (λ (l : List ℤ). sets vo at l) (sym (map_back value_of (bare_elem vs) (λ i. get_or vs i (pos 0)) a n (λ i. refl)));
@@ -68,10 +68,10 @@ module _ (vs : List ℤ) (at : ℕ) {vo vo' : List ℤ} where
     })
 
     module _ (k : ℕ) (less : k ≡ n - 1) where
-      pub front-written : u ≡ PopFront → vo' ≡ sets vo at (tab (λ i. get_or vs i (pos 0)) (a + (n - k)) k) → WritesBareˡ (unary_elems u (bare_elems vs a n)) at vo vo' (at + k)
+      pub front-written : u ≡ PopFront → vo' ≡ sets vo at (tab (λ i. get_or vs i (pos 0)) (a + (n - k)) k) → WritesBare (unary_elems u (bare_elems vs a n)) at vo vo' (at + k)
       front-written e v = rw (e, pop_front (bare_elem vs) a n, ← less) (forward_written (a + (n - k)) k v)
 
-      pub last_written : u ≡ PopBack → vo' ≡ sets vo at (tab (λ i. get_or vs i (pos 0)) a k) → WritesBareˡ (unary_elems u (bare_elems vs a n)) at vo vo' (at + k)
+      pub last_written : u ≡ PopBack → vo' ≡ sets vo at (tab (λ i. get_or vs i (pos 0)) a k) → WritesBare (unary_elems u (bare_elems vs a n)) at vo vo' (at + k)
       last_written e v = rw (e, pop_back (bare_elem vs) a n, ← less) (forward_written a k v)
 
 pub not_distinct : {A : Type 0} (u : Unary) → u ≡ Distinct → copies u ≡ true → A
@@ -122,7 +122,7 @@ module _ (u : Unary) (o vs : List ℤ) (n : ℕ) where
     pub bare_room : length (flat (tab W 0 n)) ≤ length d → at + length es ≤ length v
     bare_room m = omega (arith, s.walk.sum, s.walk.lv, turn)
 
-    module _ {v' : List ℤ} {k : ℕ} (p : WritesBareˡ es at v v' k) where
+    module _ {v' : List ℤ} {k : ℕ} (p : WritesBare es at v v' k) where
       pub bare_small : k ≤ length (flat (tab W 0 n))
       bare_small = omega (arith, s.walk.sum, p.next, turn)
 

@@ -2,14 +2,13 @@
 use Rattle.std.specs.Prelude.{ℕ, ◌+◌, ◌-◌, ◌≡◌, Bool, true, false, ◌&&◌, List, eqb, ℤ, pos, length, get_or}
 use Rattle.model.specs.Basics.{tab}
 use Rattle.model.specs.Column.{Elem, val, Row, list_row, offset_at, row_count}
-use Rattle.model.specs.Contract.{MutSlice}
 use Rattle.model.specs.Elements.{unary_elems}
 use Rattle.model.specs.Form.{flat, over, form_offsets, form_values}
-use Rattle.model.specs.Widths.{mut_entry_at, exit_at}
 use Rattle.model.specs.declared.Unary.{Unary}
 use Rattle.model.specs.declared.Unary.TheVariants.{Reverse, Distinct, PopFront, PopBack}
-use Rattle.model.specs.declared.Width.{Width}
 use Rattle.column.specs.Put.{put_values}
+use Rattle.column.specs.Outputs.{SameLists}
+use Rattle.column.specs.declared.lists.ListOutput.{ListOutput}
 
 -- does the operation take a row's elements by their places alone
 unfoldable pub copies : Unary → Bool
@@ -38,7 +37,7 @@ unfoldable pub bare_rows : Unary → List ℤ → List ℤ → List Row
 bare_rows u o vs = tab (bare_at u o vs) 0 (row_count o)
 
 -- the values of the elements es were written from place k on, and r is the place after them
-pub record WritesBareˡ (es : List Elem) (k : ℕ) (vo vo' : List ℤ) (r : ℕ) : Type 0 where
+pub record WritesBare (es : List Elem) (k : ℕ) (vo vo' : List ℤ) (r : ℕ) : Type 0 where
   pub values : vo' ≡ put_values vo k es
   pub next : r ≡ k + length es
 
@@ -48,9 +47,9 @@ pub record WritesFormˡ (ws : List Row) (oo oo' vo vo' : List ℤ) (m : ℕ) : T
   pub values : vo' ≡ over (form_values (flat ws)) vo
   pub count : m ≡ length (flat ws)
 
--- the same, said of slices
-abbrev pub WritesBare : List Elem → ℕ → MutSlice ℤ → ℕ → Type 0
-WritesBare es k v r = WritesBareˡ es k v.entry.now v.exit.now r
-
-abbrev pub WritesForm : Width → List Row → MutSlice ℤ → MutSlice ℤ → MutSlice ℤ → ℕ → Type 0
-WritesForm w ws o x v m = WritesFormˡ ws (mut_entry_at w o x) (exit_at w o x) v.entry.now v.exit.now m
+-- the same, said of an output whose bits stay as they were; numbers are those of its offsets
+pub record WritesForm {A : Type 0} (numbers : List A → List ℤ) (ws : List Row) (o o' : ListOutput A) (m : ℕ) : Type 0 where
+  pub written : WritesFormˡ ws (numbers o.offsets.now) (numbers o'.offsets.now) o.elements.now.values.now o'.elements.now.values.now m
+  pub rows : o'.rows.now ≡ o.rows.now
+  pub bits : o'.elements.now.bits.now ≡ o.elements.now.bits.now
+  pub same : SameLists o o'

@@ -1,1 +1,2 @@
 pub mod Push
+pub mod Reads

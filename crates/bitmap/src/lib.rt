@@ -3,8 +3,9 @@
 
 ghost use Rattle.std.specs.Prelude.{◌%◌, ◌+◌, ◌/◌, ◌<◌, ◌≤◌, length, ◌≡◌};
 ghost use Rattle.bitmap.specs.Push.{Covers, bits_from, push_bit};
+ghost use Rattle.bitmap.specs.Reads.{bits_in};
 ghost use Rattle.model.specs.Bitmap.{bit_at, bytes_for, short_bits, valid_at};
-ghost use Rattle.model.specs.Inner.{now_bits, lent_bits};
+ghost use Rattle.model.specs.Column.{over_seven};
 
 // Whether bit i is set.
 fn bit_at(bitmap: &[u8], i: usize) -> bool
@@ -22,6 +23,68 @@ fn bit_from(bitmap: &[u8], start: usize, i: usize) -> bool
 {
     let p = start + i % 8;
     (bitmap[i / 8 + p / 8] >> (p % 8)) & 1 == 1
+}
+
+// Which rows or elements are valid: those whose bit is set, counted from a starting bit. No bytes say that all are.
+#[derive(Clone, Copy)]
+pub struct Validity<'a> {
+    pub bytes: &'a [u8],
+    pub start: usize,
+}
+
+impl<'a> Validity<'a> {
+    // Whether the starting bit is over 7, also beside no bytes.
+    pub fn is_start_over(self) -> bool
+        ensures { result ≡ over_seven (bits_in self.entry) }
+    {
+        7 < self.start
+    }
+
+    // Whether bytes are lent, and fewer than n bits.
+    #[tactic(auto, unfolding(model::specs::Bitmap::short_bits))]
+    pub fn is_short(self, n: usize) -> bool
+        requires { self.start < 8 }
+        ensures { result ≡ short_bits (bits_in self.entry) n }
+    {
+        !self.bytes.is_empty() && self.bytes.len() < bytes_from(self.start, n)
+    }
+
+    // Whether item i of n is valid; a bitmap that starts at bit 0, as most do, needs no counting from a start.
+    #[tactic(auto, unfolding(model::specs::Bitmap::valid_at))]
+    pub fn is_valid(self, i: usize, n: usize) -> bool
+        requires covers { Covers (bits_in self) n }
+        requires i_lt_n { i < n }
+        ensures { result ≡ valid_at (bits_in self.entry) i }
+    {
+        if self.bytes.is_empty() {
+            return true;
+        }
+        if self.start == 0 {
+            return bit_at(self.bytes, i);
+        }
+        bit_from(self.bytes, self.start, i)
+    }
+
+    // The items from item a of n on: from the byte on that holds its bit.
+    #[tactic(auto, unfolding(crate::specs::Push::bits_from))]
+    pub fn tail(self, a: usize, n: usize) -> Validity<'a>
+        requires covers { Covers (bits_in self) n }
+        requires a_le_n { a ≤ n }
+        ensures { bits_in result ≡ bits_from (bits_in self.entry) a }
+    {
+        let start = start_from(self.start, a);
+        if self.bytes.is_empty() {
+            return Validity {
+                bytes: self.bytes,
+                start,
+            };
+        }
+        let byte = a / 8 + (self.start + a % 8) / 8;
+        Validity {
+            bytes: &self.bytes[byte..],
+            start,
+        }
+    }
 }
 
 // Appends bit i, the bits before it being written: the first bit of a byte starts the byte anew.
@@ -53,46 +116,7 @@ fn bytes_from(start: usize, n: usize) -> usize
     n / 8 + (n % 8 + start).div_ceil(8)
 }
 
-// Whether a bitmap that is not empty has fewer than n bits.
-#[tactic(auto, unfolding(model::specs::Bitmap::short_bits))]
-pub fn is_short(bitmap: &[u8], start: usize, n: usize) -> bool
-    requires { start < 8 }
-    ensures { result ≡ short_bits (lent_bits bitmap start) n }
-{
-    !bitmap.is_empty() && bitmap.len() < bytes_from(start, n)
-}
-
-// Whether bit i of n is set, or the bitmap is empty; a bitmap that starts at bit 0, as most do, needs no counting from a start.
-#[tactic(auto, unfolding(model::specs::Bitmap::valid_at))]
-pub fn is_valid(bitmap: &[u8], start: usize, i: usize, n: usize) -> bool
-    requires covers { Covers (now_bits bitmap start) n }
-    requires i_lt_n { i < n }
-    ensures { result ≡ valid_at (lent_bits bitmap start) i }
-{
-    if bitmap.is_empty() {
-        return true;
-    }
-    if start == 0 {
-        return bit_at(bitmap, i);
-    }
-    bit_from(bitmap, start, i)
-}
-
-// The bitmap from bit a on: from the byte on that holds that bit.
-#[tactic(auto, unfolding(crate::specs::Push::bits_from))]
-pub fn bits_from(bitmap: &[u8], start: usize, a: usize, n: usize) -> &[u8]
-    requires covers { Covers (now_bits bitmap start) n }
-    requires a_le_n { a ≤ n }
-    ensures { result.now ≡ (bits_from (lent_bits bitmap start) a).bytes }
-{
-    if bitmap.is_empty() {
-        return bitmap;
-    }
-    let byte = a / 8 + (start + a % 8) / 8;
-    &bitmap[byte..]
-}
-
-// The place of that bit in its byte.
+// The place of bit a, counted from a starting bit, in its byte.
 pub fn start_from(start: usize, a: usize) -> usize
     requires { start < 8 }
     ensures { result ≡ (start + a) % 8 }

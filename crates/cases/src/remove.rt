@@ -1,31 +1,20 @@
 // Case N: remove 7 from [7,-,7,7]. Two calls; the null lies over 7.
+use column::elements::ValueOutput;
+use column::lists::ListOutput;
 use compare::UNDER_NULL;
 use model::ListAnswer;
+use slice_cases::columns::{bits, lists, values};
 
-fn remove_sevens(
-    n: i64,
-    out_offsets: &mut [i32],
-    out_rows: &mut [u8],
-    out_values: &mut [i64],
-    out_elements: &mut [u8],
-) -> ListAnswer {
+fn remove_sevens(n: i64, out: &mut ListOutput<i32>) -> ListAnswer {
     lists::remove::general_remove(
-        &[0, 4],
-        &[],
-        0,
-        &[7, 7, 7, 7],
-        &[0b1111_1101],
-        0,
-        &[7],
-        &[],
-        0,
-        &[n],
-        &[1],
-        0,
-        out_offsets,
-        out_rows,
-        out_values,
-        out_elements,
+        lists(
+            &[0, 4],
+            bits(&[], 0),
+            values(&[7, 7, 7, 7], bits(&[0b1111_1101], 0)),
+        ),
+        values(&[7], bits(&[], 0)),
+        values(&[n], bits(&[1], 0)),
+        out,
     )
 }
 
@@ -35,13 +24,16 @@ fn two_removed() -> bool {
     let mut out_rows = [0xaau8; 2];
     let mut out_values = [77i64; 5];
     let mut out_elements = [0xaau8; 2];
-    let answer = remove_sevens(
-        2,
-        &mut out_offsets,
-        &mut out_rows,
-        &mut out_values,
-        &mut out_elements,
-    );
+    let mut elements = ValueOutput {
+        values: &mut out_values,
+        bits: &mut out_elements,
+    };
+    let mut out = ListOutput {
+        offsets: &mut out_offsets,
+        rows: &mut out_rows,
+        elements: &mut elements,
+    };
+    let answer = remove_sevens(2, &mut out);
     compare::list_counts(answer, 1, 2, 0, 1)
         && compare::same(&out_offsets, &[0, 2, 77])
         && compare::same(&out_rows, &[1, 0xaa])
@@ -55,13 +47,16 @@ fn none_removed() -> bool {
     let mut out_rows = [0xaau8; 2];
     let mut out_values = [77i64; 5];
     let mut out_elements = [0xaau8; 2];
-    let answer = remove_sevens(
-        -1,
-        &mut out_offsets,
-        &mut out_rows,
-        &mut out_values,
-        &mut out_elements,
-    );
+    let mut elements = ValueOutput {
+        values: &mut out_values,
+        bits: &mut out_elements,
+    };
+    let mut out = ListOutput {
+        offsets: &mut out_offsets,
+        rows: &mut out_rows,
+        elements: &mut elements,
+    };
+    let answer = remove_sevens(-1, &mut out);
     compare::list_counts(answer, 1, 4, 0, 1)
         && compare::same(&out_offsets, &[0, 4, 77])
         && compare::same(&out_rows, &[1, 0xaa])

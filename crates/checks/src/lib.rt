@@ -1,67 +1,36 @@
 // The refusals that every operation starts with, and the last one. An inner crate: its callers meet what it asks.
 #![tactic(auto)]
 
-ghost use Rattle.std.specs.Prelude.{◌<◌, ltb, ◌||◌, [], ◌∷◌, ◌≡◌};
+ghost use Rattle.column.specs.Columns.{column_in};
 ghost use Rattle.model.specs.Answers.{refused_by};
 ghost use Rattle.model.specs.Asked.{asked_list, asked_values};
-ghost use Rattle.model.specs.Contract.{room, value_room};
-ghost use Rattle.model.specs.Form.{fits_in, fits_values};
-ghost use Rattle.model.specs.Inner.{lent_at};
 ghost use Rattle.model.specs.Lengths.{room_for, value_room_for};
 ghost use Rattle.model.specs.Limits.{largest};
 ghost use Rattle.model.specs.Outcome.{columns_refusal, made};
+ghost use Rattle.std.specs.Prelude.{◌<◌, ◌||◌, [], ◌∷◌, ◌≡◌};
 
-use column::widths;
-use model::{ListLengths, ListSlots, Refusal, ValueLengths, ValueSlots, Width};
-
-// Whether a starting bit of either bitmap is over 7.
-pub fn is_start_over(rstart: usize, estart: usize) -> bool
-    ensures { result ≡ ltb 7 rstart || ltb 7 estart }
-{
-    7 < rstart || 7 < estart
-}
+use column::lists::ListColumn;
+use model::offsets::Offset;
+use model::{ListLengths, ListSlots, Refusal, ValueLengths, ValueSlots};
 
 // A starting bit over 7, bad offsets and a short bitmap of a list column, in this order.
 #[tactic(auto, unfolding(model::specs::Outcome::columns_refusal, model::specs::Basics::any, model::specs::Column::refusal13, model::specs::Column::refusal2))]
-pub fn list_refusal(
-    offsets: &[i32],
-    rows: &[u8],
-    rstart: usize,
-    values: &[i64],
-    elements: &[u8],
-    estart: usize,
-    width: Width,
-    large: &[i64],
-) -> Result<(), Refusal>
-    ensures { refused_by result ≡ columns_refusal (lent_at width offsets large rows rstart values elements estart ∷ []) [] }
+pub fn list_refusal<O: Offset>(list: ListColumn<O>) -> Result<(), Refusal>
+    ensures { refused_by result ≡ columns_refusal (column_in O.numbers list.entry ∷ []) [] }
 {
-    if is_start_over(rstart, estart) {
+    if list.rows.is_start_over() || list.elements.bits.is_start_over() {
         return Err(Refusal::BadStartingBit);
     }
-    if widths::are_bad(width, offsets, large, values.len()) {
+    if list.has_bad_offsets() {
         return Err(Refusal::BadOffsets);
     }
-    if bitmap::is_short(rows, rstart, widths::row_count(width, offsets, large)) {
+    if list.rows.is_short(list.row_count()) {
         return Err(Refusal::ShortBitmap);
     }
-    if bitmap::is_short(elements, estart, values.len()) {
+    if list.elements.bits.is_short(list.elements.values.len()) {
         return Err(Refusal::ShortBitmap);
     }
     Ok(())
-}
-
-// Whether the result form of n rows and m elements fits outputs of these lengths.
-pub fn has_room(n: usize, m: usize, lo: usize, lr: usize, lv: usize, le: usize) -> bool
-    ensures { result ≡ fits_in n m (room lo lr lv le) }
-{
-    n < lo && bitmap::bytes_for(n) <= lr && m <= lv && bitmap::bytes_for(m) <= le
-}
-
-// Whether n values and their bitmap fit outputs of these lengths.
-pub fn has_value_room(n: usize, lv: usize, lr: usize) -> bool
-    ensures { result ≡ fits_values n (value_room lv lr) }
-{
-    n <= lv && bitmap::bytes_for(n) <= lr
 }
 
 // The lengths of the result form of n rows and m elements.

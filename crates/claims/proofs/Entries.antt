@@ -36,7 +36,7 @@ use Rattle.entry_repeat.specs.Repeat.{RepeatReturned}
 use Rattle.entry_recipe.specs.Recipe.{recipe_size_refusal, tally_after}
 use Rattle.tally_bytes.specs.Bytes.{tally_in, with_tally}
 use Rattle.tally_bytes.proofs.ReadBack.{read_back}
-use Rattle.recipes.specs.Recipes.{recipe as recipeOf}
+use Rattle.recipe_refusal.specs.Refused.{recipe as recipeOf}
 use Rattle.duthlan_bytes.proofs.duthlan_bytes_list.Reads as OneList
 use Rattle.duthlan_bytes.proofs.duthlan_bytes_list_with.Reads as ListWith
 use Rattle.duthlan_bytes.proofs.duthlan_bytes_lists.Reads as TwoLists
@@ -54,7 +54,7 @@ one_end L q q' f f' a = (agreement L q q' f f' a).shares
 pub one-end-written : (L : Limits) (P : End → Type 0) {q q' : Call Column Arguments View} → Formed q → Formed q' → Alike q q' → P (end L q') → P (end L q)
 one-end-written L P {q} {q'} f f' a h = rw (one_end L q q' f f' a) h
 
--- "two such calls that are alike return one number and write the same bytes" (DECISIONS C2): what the two say of their ends, P and P', they
+-- "two such calls that are alike return one number and write the same bytes": what the two say of their ends, P and P', they
 -- say of one end, that which the definitions give from what is shown, the same of both (`same_written` below says what that makes of the bytes)
 pub same_bytes : (P P' : End → Type 0) {q q' : Call Column Arguments View} → Formed q → Formed q' → Alike q q' → P (end narrow q) → P' (end narrow q') → P (end_shown narrow (shown q)) × P' (end_shown narrow (shown q))
 same_bytes P P' {q} {q'} f f' a h h' =

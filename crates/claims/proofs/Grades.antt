@@ -1,4 +1,4 @@
--- Note 6 of document 02: "Unseen bytes change no grade." Gradings are calls of the one claim: what the contracts of `grade_column` and `grade_recipe`
+-- "Unseen bytes change no grade." Gradings are calls of the one claim: what the contracts of `grade_column` and `grade_recipe`
 -- say of a call makes it a run, of which `demand_3` (Runs.antt) is the claim, `same_grades` its case for the grades of two columns, and `sums_grow` the
 -- claim over many calls; and the typed entries tell what the call ends in.
 use Prim.Native.Nat.{ℕ}
@@ -8,12 +8,12 @@ use lib.ListN.{length}
 use contract.Lifetimes.{Lfts}
 use Rattle.model.specs.Basics.{none, more}
 use Rattle.model.specs.Column.{Row, Column, rows_of, WellFormed, EqualRows}
-use Rattle.model.specs.Contract.{Slice, MutSlice, Clears}
+use Rattle.model.specs.Contract.{Slice, MutSlice}
 use Rattle.model.specs.Form.{Room}
 use Rattle.model.specs.Grade.{graded, grade_outcome}
 use Rattle.model.specs.Limits.{narrow}
 use Rattle.model.specs.Outcome.{Outcome, refused, made}
-use Rattle.model.specs.Recipe.{Recipe, recipe_outcome, stationed}
+use Rattle.model.specs.Recipe.{recipe_outcome, stationed}
 use Rattle.model.specs.Call.{grade_column, grade_recipe, End, Formed, alike_grade_column, end, grade_end, graded_end, recipe_end, trays_end, list_end, answer_of, written, lists_of, arguments_of, views_of}
 use Rattle.model.specs.Run.{Run, grade_column_run, grade_recipe_run}
 use Rattle.model.specs.Answers.{GradeAnswer}
@@ -21,28 +21,35 @@ use Rattle.grades.proofs.grade_column.Reads as GradeColumn
 use Rattle.grades.proofs.grade_recipe.Reads as GradeRecipe
 use Rattle.duthlan.proofs.grade.duthlan_typed_grade.Reads as TypedGrade
 use Rattle.duthlan.proofs.grade.duthlan_typed_grade_recipe.Reads as TypedRecipe
-use Rattle.recipes.specs.Recipes.{recipe}
+use Rattle.recipe_refusal.specs.Refused.{recipe}
 use Rattle.tally.specs.declared.RecipeAnswer.{RecipeAnswer}
 use Rattle.tally.specs.declared.Tally.{Tally}
 use Rattle.entry.specs.Entry.{number_of}
 use Rattle.entry.specs.Inner.{number_in, counts_in}
 use Rattle.typed.specs.Typed.{TypedGrades}
 use Rattle.typed.specs.Tallies.{tally_at}
-use Rattle.claims.specs.Slots.{Slices, LentList, LentValues, list_lent, values_lent, slices_room, entry4, exit4, entry6, exit6, entry3, exit3, GradeRuns, GradedRuns}
+use Rattle.claims.specs.Slots.{Slices, LentList, LentValues, list_lent, values_lent, slices_room, entry4, exit4, entry6, exit6, entry3, exit3}
+use Rattle.claims.specs.Columns.{Passed, MutPassed, itself, GradeRuns, GradedRuns}
+use Rattle.column.specs.Columns.{column_in}
+use Rattle.column.specs.declared.lists.ListColumn.{ListColumn}
+use Rattle.column.specs.declared.lists.ListOutput.{ListOutput}
+use Rattle.recipe_refusal.specs.declared.Inputs.{Inputs}
+use Rattle.recipe_refusal.specs.declared.Recipe as D
+use lib.IntN.{ℤ}
 use Rattle.claims.specs.Numbers.{GradeTyped, GradedTyped, tally_over}
 use Rattle.claims.proofs.Runs.{demand_3}
 use Rattle.claims.proofs.Typed.{long, was_served, list-served, Same, same, SameAnswer, same_answer}
 
--- k is what is graded by, c the list lent, g the grades, a the answer
-pub grades : (κs : Lfts 5) (k k' : ℕ) (c : LentList) (g : MutSlice ℕ) (a : GradeAnswer) → GradeColumn.Post κs (k, entry6 c (g.entry, tt)) a (k', exit6 c (g.exit, tt)) → GradeRuns k (list_lent c) a g
+-- k is what is graded by, c the list, g the grades, a the answer
+pub grades : (κs : Lfts 2) (k k' : ℕ) (c : Passed (ListColumn ℤ)) (g : MutSlice ℕ) (a : GradeAnswer)
+    → GradeColumn.Post κs (k, (c.entry, (g.entry, tt))) a (k', (c.exit, (g.exit, tt))) → GradeRuns k (column_in itself c.entry) a g
 grades κs k k' c g a h = grade_column_run h
 
--- t is the tally that goes in, s the station, ns are the recipe's numbers, j how many argument columns there are, c and d the lists, l and m the
--- trays, o the output
-pub graded_recipes : (κs : Lfts 23) (t t' : Tally) (k k' s s' : ℕ) (ns : Slice ℕ) (j j' : ℕ) (c d : LentList) (x : LentValues) (l m o : Slices) (g : MutSlice ℕ) (a : RecipeAnswer)
-    → GradeRecipe.Post κs (t, (k, (s, (ns.entry, (j, entry6 c (entry6 d (entry3 x (entry4 l (entry4 m (entry4 o (g.entry, tt))))))))))) a (t', (k', (s', (ns.exit, (j', exit6 c (exit6 d (exit3 x (exit4 l (exit4 m (exit4 o (g.exit, tt)))))))))))
-    → GradedRuns k s (recipe ns.entry.now j) c d x l m o g t a
-graded_recipes κs t t' k k' s s' ns j j' c d x l m o g a h = grade_recipe_run h.0 h.1.0 h.1.1.0 h.1.1.1.0 h.1.1.1.1
+-- t is the tally that goes in, s the station, p the recipe, i what it reads, l and m the trays, o the output
+pub graded_recipes : (κs : Lfts 12) (t t' : Tally) (k k' s s' : ℕ) (p : Passed D.Recipe) (i : Passed (Inputs ℤ)) (l m o : MutPassed (ListOutput ℤ)) (g : MutSlice ℕ) (a : RecipeAnswer)
+    → GradeRecipe.Post κs (t, (k, (s, (p.entry, (i.entry, (l.entry, (m.entry, (o.entry, (g.entry, tt))))))))) a (t', (k', (s', (p.exit, (i.exit, (l.exit, (m.exit, (o.exit, (g.exit, tt)))))))))
+    → GradedRuns k s p.entry i.entry l m o g t a
+graded_recipes κs t t' k k' s s' p i l m o g a h = grade_recipe_run h.0.meets h.1.0.zeroed h.1.1.0.zeroed h.1.1.1.0 h.1.1.1.1
 
 -- "Unseen bytes change no grade": two gradings of columns that show equal rows, by one k into as many places, write the same grades
 pub same_grades : (k g : ℕ) {c d : Column} {e e' : End} → Run narrow (grade_column k c g) e → Run narrow (grade_column k d g) e' → WellFormed c → WellFormed d → EqualRows c d → e.grades ≡ e'.grades
@@ -59,13 +66,13 @@ unfolding grade_end answer_of written number_of number_in counts_in
 grade_typed k (refused j) g c h = record { answer = record { number = h.number; counts = h.counts }; grades = h.grades }
 grade_typed k (made ws) g c h = record { answer = record { number = h.number; counts = h.counts }; grades = h.grades }
 
-pub typed_grade : (κs : Lfts 6) (k k' : ℕ) (c : LentList) (g cs : MutSlice ℕ) (n : ℕ)
+pub typed_grade : (κs : Lfts 3) (k k' : ℕ) (c : LentList) (g cs : MutSlice ℕ) (n : ℕ)
     → TypedGrade.Post κs (k, entry6 c (g.entry, (cs.entry, tt))) n (k', exit6 c (g.exit, (cs.exit, tt)))
     → (n ≡ 100 → ⊥) → GradeTyped (end narrow (grade_column k (list_lent c) (length g.entry.now))) n g cs
 unfolding end
 typed_grade κs k k' c g cs n h s = grade_typed k _ g cs (rw (was_served (grade_outcome k (list_lent c)) (length g.entry.now) s _ h.number) at h)
 
-pub typed_recipe : (κs : Lfts 25) (k k' t t' j j' : ℕ) (ns : Slice ℕ) (c d : LentList) (x : LentValues) (l m o : Slices) (g cs u : MutSlice ℕ) (n : ℕ)
+pub typed_recipe : (κs : Lfts 5) (k k' t t' j j' : ℕ) (ns : Slice ℕ) (c d : LentList) (x : LentValues) (l m o : Slices) (g cs u : MutSlice ℕ) (n : ℕ)
     → TypedRecipe.Post κs (k, (t, (ns.entry, (j, entry6 c (entry6 d (entry3 x (entry4 l (entry4 m (entry4 o (g.entry, (cs.entry, (u.entry, tt))))))))))))
     n (k', (t', (ns.exit, (j', exit6 c (exit6 d (exit3 x (exit4 l (exit4 m (exit4 o (g.exit, (cs.exit, (u.exit, tt))))))))))))
     → (n ≡ 100 → ⊥)

@@ -1,4 +1,4 @@
--- How much to lend (Note 1 of document 02), over the code: what the contract of each `.._lengths` function of `lists`, and of `recipe_limits`, says of
+-- How much to lend, over the code: what the contract of each `.._lengths` function of `lists`, and of `recipe_limits`, says of
 -- a call makes the call a run of demand 3's claim (Runs.antt); and what a typed C entry returns and writes, where its number is not 100, are the
 -- numbers of what such a call ends in. That the lengths are those that the run needs is `nine_exactly`, that a recipe's limits rule out 9
 -- is `rules_out_nine`.
@@ -11,26 +11,31 @@ use Rattle.model.specs.Basics.{Lent, given}
 use Rattle.model.specs.Column.{Column, Arguments}
 use Rattle.model.specs.View.{View}
 use Rattle.model.specs.Form.{over}
-use Rattle.model.specs.Lengths.{TrayLimits, list_lengths, any_value_lengths, element_lengths, repeat_lengths, recipe_limits}
+use Rattle.model.specs.Lengths.{list_lengths, any_value_lengths, element_lengths, repeat_lengths, recipe_limits}
 use Rattle.model.specs.Limits.{Limits, narrow}
 use Rattle.model.specs.Rows.{unary, set_op_call, slice, resize, replace, remove, on_lent}
 use Rattle.model.specs.Outcome.{Outcome, gate}
 use Rattle.model.specs.Recipe.{Recipe}
-use Rattle.model.specs.Call.{Call, End, end, answer_of, measure_end, measure_list, measure_any_value, measure_element, measure_repeat, limit_recipe, room_counts, value_room_counts, repeat_room_counts, limit_counts, written}
-use Rattle.model.specs.Contract.{Slice, MutSlice, lent_if, told_lengths, told_value_lengths, told_repeat_lengths, told_limits}
+use Rattle.model.specs.Call.{Call, end, answer_of, measure_end, measure_list, measure_any_value, measure_element, measure_repeat, limit_recipe, room_counts, value_room_counts, repeat_room_counts, limit_counts}
+use Rattle.model.specs.Contract.{Slice, MutSlice, told_lengths, told_value_lengths, told_repeat_lengths, told_limits}
 use Rattle.model.specs.Run.{Run, measure_list_run, measure_any_value_run, measure_element_run, measure_repeat_run, limit_recipe_run}
 use Rattle.model.proofs.AskedLaws.{list_measures, value_measures, repeat_measures, recipe_limited}
 use Rattle.model.specs.Answers.{ListLengths, ValueLengths, RepeatLengths, RecipeLimits}
-use Rattle.model.specs.declared.Optional.{Optional}
 use Rattle.model.specs.declared.SetOp.{SetOp}
 use Rattle.model.specs.declared.Unary.TheVariants as U
 use Rattle.ops.specs.Ops.{call_of}
 use Rattle.ops.specs.declared.ListOp.{ListOp}
 use Rattle.entry.specs.Entry.{number_of}
-use Rattle.entry.specs.Inner.{number_in, counts_in}
 use Rattle.entry.proofs.AnswerLaws.{number_of_lem, counts_of}
 use Rattle.entry_codes.specs.Calls.{one_of, one_lengths, set_of, set_lengths}
-use Rattle.recipe_refusal.specs.Refused.{recipe}
+use Rattle.recipe_refusal.specs.Refused.{recipe, recipe_in}
+use Rattle.recipe_refusal.specs.declared.Inputs.{Inputs}
+use Rattle.recipe_refusal.specs.declared.Recipe as R
+use Rattle.column.specs.Columns.{column_in, lent_in, values_in}
+use Rattle.column.specs.declared.elements.ValueColumn.{ValueColumn}
+use Rattle.column.specs.declared.lists.ListColumn.{ListColumn}
+use Rattle.std.specs.Prelude.{Option}
+use Rattle.claims.specs.Columns.{Width, Offsets, limits, numbers, at, Passed}
 use Rattle.typed.specs.Typed.{measured, TypedLengths, LengthsServed}
 use Rattle.lists.proofs.reverse.general_array_reverse_lengths.Reads as Reverse
 use Rattle.lists.proofs.set_ops.general_array_distinct_lengths.Reads as Distinct
@@ -54,7 +59,7 @@ use Rattle.duthlan.proofs.lengths.duthlan_typed_recipe_limits.Reads as TypedLimi
 use Rattle.claims.specs.Slots.{LentList, LentValues, list_lent, values_lent, entry6, exit6, entry3, exit3}
 use Rattle.claims.specs.Numbers.{AnswerTyped}
 
--- ---- the functions of `lists`, and `recipe_limits`: c and d are the lists lent, x, y and z the argument columns, a the answer
+-- ---- the functions of `lists`, and `recipe_limits`, at any width W: c and d are the lists, x, y and z the argument columns, a the answer
 
 abbrev pub ListAsked : Limits → Call Column Arguments View → ListLengths → Type 0
 ListAsked L q a = Run L q (measure_end (told_lengths a))
@@ -62,51 +67,77 @@ ListAsked L q a = Run L q (measure_end (told_lengths a))
 abbrev pub ValueAsked : Limits → Call Column Arguments View → ValueLengths → Type 0
 ValueAsked L q a = Run L q (measure_end (told_value_lengths a))
 
-pub reverse : (κs : Lfts 4) (c : LentList) (a : ListLengths) → Reverse.Post κs (entry6 c tt) a (exit6 c tt) → ListAsked narrow (measure_list (unary U.Reverse (list_lent c))) a
-reverse κs c a h = measure_list_run (list_measures h)
+abbrev pub RepeatAsked : Limits → Call Column Arguments View → RepeatLengths → Type 0
+RepeatAsked L q a = Run L q (measure_end (told_repeat_lengths a))
 
-pub distinct : (κs : Lfts 4) (c : LentList) (a : ListLengths) → Distinct.Post κs (entry6 c tt) a (exit6 c tt) → ListAsked narrow (measure_list (unary U.Distinct (list_lent c))) a
-distinct κs c a h = measure_list_run (list_measures h)
+abbrev pub LimitsAsked : Limits → Call Column Arguments View → RecipeLimits → Type 0
+LimitsAsked L q a = Run L q (measure_end (told_limits a))
 
-pub pop_front : (κs : Lfts 4) (c : LentList) (a : ListLengths) → PopFront.Post κs (entry6 c tt) a (exit6 c tt) → ListAsked narrow (measure_list (unary U.PopFront (list_lent c))) a
-pop_front κs c a h = measure_list_run (list_measures h)
+pub reverse : (W : Width) (κs : Lfts 2) (c : Passed (ListColumn (Offsets W))) (a : ListLengths)
+    → at W Reverse.Post κs (c.entry, tt) a (c.exit, tt)
+    → ListAsked (limits W) (measure_list (unary U.Reverse (column_in (numbers W) c.entry))) a
+reverse W κs c a h = measure_list_run (list_measures h)
 
-pub pop_back : (κs : Lfts 4) (c : LentList) (a : ListLengths) → PopBack.Post κs (entry6 c tt) a (exit6 c tt) → ListAsked narrow (measure_list (unary U.PopBack (list_lent c))) a
-pop_back κs c a h = measure_list_run (list_measures h)
+pub distinct : (W : Width) (κs : Lfts 2) (c : Passed (ListColumn (Offsets W))) (a : ListLengths)
+    → at W Distinct.Post κs (c.entry, tt) a (c.exit, tt)
+    → ListAsked (limits W) (measure_list (unary U.Distinct (column_in (numbers W) c.entry))) a
+distinct W κs c a h = measure_list_run (list_measures h)
 
-pub set-lists : (κs : Lfts 7) (k k' : SetOp) (c d : LentList) (a : ListLengths) → Sets.Post κs (entry6 c (entry6 d (k, tt))) a (exit6 c (exit6 d (k', tt))) → ListAsked narrow (measure_list (set_op_call k (list_lent c) (list_lent d))) a
-set-lists κs k k' c d a h = measure_list_run (list_measures h)
+pub pop_front : (W : Width) (κs : Lfts 2) (c : Passed (ListColumn (Offsets W))) (a : ListLengths)
+    → at W PopFront.Post κs (c.entry, tt) a (c.exit, tt)
+    → ListAsked (limits W) (measure_list (unary U.PopFront (column_in (numbers W) c.entry))) a
+pop_front W κs c a h = measure_list_run (list_measures h)
 
-pub slices : (κs : Lfts 10) (s s' : Optional) (c : LentList) (x y z : LentValues) (a : ListLengths) → Sliced.Post κs (entry6 c (entry3 x (entry3 y (s, entry3 z tt)))) a (exit6 c (exit3 x (exit3 y (s', exit3 z tt))))
-    → ListAsked narrow (measure_list (slice (list_lent c) (values_lent x) (values_lent y) (lent_if s (values_lent z)))) a
-slices κs s s' c x y z a h = measure_list_run (list_measures h)
+pub pop_back : (W : Width) (κs : Lfts 2) (c : Passed (ListColumn (Offsets W))) (a : ListLengths)
+    → at W PopBack.Post κs (c.entry, tt) a (c.exit, tt)
+    → ListAsked (limits W) (measure_list (unary U.PopBack (column_in (numbers W) c.entry))) a
+pop_back W κs c a h = measure_list_run (list_measures h)
 
-pub resizes : (κs : Lfts 8) (s s' : Optional) (c : LentList) (x y : LentValues) (a : ListLengths) → Resize.Post κs (entry6 c (entry3 x (s, entry3 y tt))) a (exit6 c (exit3 x (s', exit3 y tt)))
-    → ListAsked narrow (measure_list (resize (list_lent c) (values_lent x) (lent_if s (values_lent y)))) a
-resizes κs s s' c x y a h = measure_list_run (list_measures h)
+pub set-lists : (W : Width) (κs : Lfts 3) (k k' : SetOp) (c d : Passed (ListColumn (Offsets W))) (a : ListLengths)
+    → at W Sets.Post κs (c.entry, (d.entry, (k, tt))) a (c.exit, (d.exit, (k', tt)))
+    → ListAsked (limits W) (measure_list (set_op_call k (column_in (numbers W) c.entry) (column_in (numbers W) d.entry))) a
+set-lists W κs k k' c d a h = measure_list_run (list_measures h)
 
-pub replaces : (κs : Lfts 10) (c : LentList) (x y z : LentValues) (a : ListLengths) → Replace.Post κs (entry6 c (entry3 x (entry3 y (entry3 z tt)))) a (exit6 c (exit3 x (exit3 y (exit3 z tt))))
-    → ListAsked narrow (measure_list (replace (list_lent c) (values_lent x) (values_lent y) (values_lent z))) a
-replaces κs c x y z a h = measure_list_run (list_measures h)
+pub slices : (W : Width) (κs : Lfts 5) (c : Passed (ListColumn (Offsets W))) (x y : Passed ValueColumn) (z : Passed (Option ValueColumn)) (a : ListLengths)
+    → at W Sliced.Post κs (c.entry, (x.entry, (y.entry, (z.entry, tt)))) a (c.exit, (x.exit, (y.exit, (z.exit, tt))))
+    → ListAsked (limits W) (measure_list (slice (column_in (numbers W) c.entry) (values_in x.entry) (values_in y.entry) (lent_in z.entry))) a
+slices W κs c x y z a h = measure_list_run (list_measures h)
 
-pub removes : (κs : Lfts 8) (c : LentList) (x y : LentValues) (a : ListLengths) → Remove.Post κs (entry6 c (entry3 x (entry3 y tt))) a (exit6 c (exit3 x (exit3 y tt)))
-    → ListAsked narrow (measure_list (remove (list_lent c) (values_lent x) (values_lent y))) a
-removes κs c x y a h = measure_list_run (list_measures h)
+pub resizes : (W : Width) (κs : Lfts 4) (c : Passed (ListColumn (Offsets W))) (x : Passed ValueColumn) (y : Passed (Option ValueColumn)) (a : ListLengths)
+    → at W Resize.Post κs (c.entry, (x.entry, (y.entry, tt))) a (c.exit, (x.exit, (y.exit, tt)))
+    → ListAsked (limits W) (measure_list (resize (column_in (numbers W) c.entry) (values_in x.entry) (lent_in y.entry))) a
+resizes W κs c x y a h = measure_list_run (list_measures h)
 
-pub any_value_lem : (κs : Lfts 4) (c : LentList) (a : ValueLengths) → AnyValue.Post κs (entry6 c tt) a (exit6 c tt) → ValueAsked narrow (measure_any_value (list_lent c)) a
-any_value_lem κs c a h = measure_any_value_run (value_measures h)
+pub replaces : (W : Width) (κs : Lfts 5) (c : Passed (ListColumn (Offsets W))) (x y z : Passed ValueColumn) (a : ListLengths)
+    → at W Replace.Post κs (c.entry, (x.entry, (y.entry, (z.entry, tt)))) a (c.exit, (x.exit, (y.exit, (z.exit, tt))))
+    → ListAsked (limits W) (measure_list (replace (column_in (numbers W) c.entry) (values_in x.entry) (values_in y.entry) (values_in z.entry))) a
+replaces W κs c x y z a h = measure_list_run (list_measures h)
 
-pub elements : (κs : Lfts 6) (c : LentList) (x : LentValues) (a : ValueLengths) → Element.Post κs (entry6 c (entry3 x tt)) a (exit6 c (exit3 x tt)) → ValueAsked narrow (measure_element (list_lent c) (values_lent x)) a
-elements κs c x a h = measure_element_run (value_measures h)
+pub removes : (W : Width) (κs : Lfts 4) (c : Passed (ListColumn (Offsets W))) (x y : Passed ValueColumn) (a : ListLengths)
+    → at W Remove.Post κs (c.entry, (x.entry, (y.entry, tt))) a (c.exit, (x.exit, (y.exit, tt)))
+    → ListAsked (limits W) (measure_list (remove (column_in (numbers W) c.entry) (values_in x.entry) (values_in y.entry))) a
+removes W κs c x y a h = measure_list_run (list_measures h)
 
-pub repeats : (κs : Lfts 6) (c : LentList) (x : LentValues) (a : RepeatLengths) → Repeat.Post κs (entry6 c (entry3 x tt)) a (exit6 c (exit3 x tt)) → Run narrow (measure_repeat (list_lent c) (values_lent x)) (measure_end (told_repeat_lengths a))
-repeats κs c x a h = measure_repeat_run (repeat_measures h)
+pub any_value_lem : (W : Width) (κs : Lfts 2) (c : Passed (ListColumn (Offsets W))) (a : ValueLengths)
+    → at W AnyValue.Post κs (c.entry, tt) a (c.exit, tt)
+    → ValueAsked (limits W) (measure_any_value (column_in (numbers W) c.entry)) a
+any_value_lem W κs c a h = measure_any_value_run (value_measures h)
 
--- ns are the recipe's numbers, k how many argument columns there are
-pub recipe-limits : (κs : Lfts 10) (ns : Slice ℕ) (k k' : ℕ) (c d : LentList) (x : LentValues) (a : RecipeLimits)
-    → Limited.Post κs (ns.entry, (k, entry6 c (entry6 d (entry3 x tt)))) a (ns.exit, (k', exit6 c (exit6 d (exit3 x tt))))
-    → Run narrow (limit_recipe (recipe ns.entry.now k) (list_lent c) (list_lent d) (values_lent x)) (measure_end (told_limits a))
-recipe-limits κs ns k k' c d x a h = limit_recipe_run (recipe_limited h)
+pub elements : (W : Width) (κs : Lfts 3) (c : Passed (ListColumn (Offsets W))) (x : Passed ValueColumn) (a : ValueLengths)
+    → at W Element.Post κs (c.entry, (x.entry, tt)) a (c.exit, (x.exit, tt))
+    → ValueAsked (limits W) (measure_element (column_in (numbers W) c.entry) (values_in x.entry)) a
+elements W κs c x a h = measure_element_run (value_measures h)
+
+pub repeats : (W : Width) (κs : Lfts 3) (c : Passed (ListColumn (Offsets W))) (x : Passed ValueColumn) (a : RepeatLengths)
+    → at W Repeat.Post κs (c.entry, (x.entry, tt)) a (c.exit, (x.exit, tt))
+    → RepeatAsked (limits W) (measure_repeat (column_in (numbers W) c.entry) (values_in x.entry)) a
+repeats W κs c x a h = measure_repeat_run (repeat_measures h)
+
+-- p is the recipe, i what it reads
+pub recipe-limits : (W : Width) (κs : Lfts 3) (p : Passed R.Recipe) (i : Passed (Inputs (Offsets W))) (a : RecipeLimits)
+    → at W Limited.Post κs (p.entry, (i.entry, tt)) a (p.exit, (i.exit, tt))
+    → LimitsAsked (limits W) (limit_recipe (recipe_in p.entry) (column_in (numbers W) i.entry.list) (column_in (numbers W) i.entry.second) (values_in i.entry.arguments)) a
+recipe-limits W κs p i a h = limit_recipe_run (recipe_limited h)
 
 -- ---- the typed entries: cs is the slice of the lengths, n the number returned
 
@@ -156,29 +187,29 @@ module _ (L : Limits) {n : ℕ} (s : n ≡ 100 → ⊥) (c : LentList) (cs : Mut
   unfolding end
   recipe-measured p d x h = told limit_counts s _ (recipe_limits L p (list_lent c) (list_lent d) (values_lent x)) cs refl h
 
-pub typed_one : (κs : Lfts 11) (op op' : ℕ) (c : LentList) (x y z : LentValues) (cs : MutSlice ℕ) (n : ℕ) (k : ListOp)
+pub typed_one : (κs : Lfts 2) (op op' : ℕ) (c : LentList) (x y z : LentValues) (cs : MutSlice ℕ) (n : ℕ) (k : ListOp)
     → TypedOne.Post κs (op, entry6 c (entry3 x (entry3 y (entry3 z (cs.entry, tt))))) n (op', exit6 c (exit3 x (exit3 y (exit3 z (cs.exit, tt)))))
     → (n ≡ 100 → ⊥) → one_of op ≡ given k → AnswerTyped (end narrow (measure_list (call_of k (list_lent c) (values_lent x) (values_lent y) (values_lent z)))) n cs
 typed_one κs op op' c x y z cs n k h s e = one-measured narrow s c cs op x y z k h e
 
-pub typed_two : (κs : Lfts 8) (op op' : ℕ) (c d : LentList) (cs : MutSlice ℕ) (n : ℕ) (k : SetOp)
+pub typed_two : (κs : Lfts 2) (op op' : ℕ) (c d : LentList) (cs : MutSlice ℕ) (n : ℕ) (k : SetOp)
     → TypedTwo.Post κs (op, entry6 c (entry6 d (cs.entry, tt))) n (op', exit6 c (exit6 d (cs.exit, tt)))
     → (n ≡ 100 → ⊥) → set_of op ≡ given k → AnswerTyped (end narrow (measure_list (set_op_call k (list_lent c) (list_lent d)))) n cs
 typed_two κs op op' c d cs n k h s e = two-measured narrow s c cs op d k h e
 
-pub typed_any_value : (κs : Lfts 5) (c : LentList) (cs : MutSlice ℕ) (n : ℕ) → TypedAnyValue.Post κs (entry6 c (cs.entry, tt)) n (exit6 c (cs.exit, tt))
+pub typed_any_value : (κs : Lfts 2) (c : LentList) (cs : MutSlice ℕ) (n : ℕ) → TypedAnyValue.Post κs (entry6 c (cs.entry, tt)) n (exit6 c (cs.exit, tt))
     → (n ≡ 100 → ⊥) → AnswerTyped (end narrow (measure_any_value (list_lent c))) n cs
 typed_any_value κs c cs n h s = any-measured narrow s c cs h
 
-pub typed_element : (κs : Lfts 7) (c : LentList) (x : LentValues) (cs : MutSlice ℕ) (n : ℕ) → TypedElement.Post κs (entry6 c (entry3 x (cs.entry, tt))) n (exit6 c (exit3 x (cs.exit, tt)))
+pub typed_element : (κs : Lfts 2) (c : LentList) (x : LentValues) (cs : MutSlice ℕ) (n : ℕ) → TypedElement.Post κs (entry6 c (entry3 x (cs.entry, tt))) n (exit6 c (exit3 x (cs.exit, tt)))
     → (n ≡ 100 → ⊥) → AnswerTyped (end narrow (measure_element (list_lent c) (values_lent x))) n cs
 typed_element κs c x cs n h s = element-measured narrow s c cs x h
 
-pub typed_repeat : (κs : Lfts 7) (c : LentList) (x : LentValues) (cs : MutSlice ℕ) (n : ℕ) → TypedRepeat.Post κs (entry6 c (entry3 x (cs.entry, tt))) n (exit6 c (exit3 x (cs.exit, tt)))
+pub typed_repeat : (κs : Lfts 2) (c : LentList) (x : LentValues) (cs : MutSlice ℕ) (n : ℕ) → TypedRepeat.Post κs (entry6 c (entry3 x (cs.entry, tt))) n (exit6 c (exit3 x (cs.exit, tt)))
     → (n ≡ 100 → ⊥) → AnswerTyped (end narrow (measure_repeat (list_lent c) (values_lent x))) n cs
 typed_repeat κs c x cs n h s = repeats_measured narrow s c cs x h
 
-pub typed_limits : (κs : Lfts 11) (ns : Slice ℕ) (k k' : ℕ) (c d : LentList) (x : LentValues) (cs : MutSlice ℕ) (n : ℕ)
+pub typed_limits : (κs : Lfts 2) (ns : Slice ℕ) (k k' : ℕ) (c d : LentList) (x : LentValues) (cs : MutSlice ℕ) (n : ℕ)
     → TypedLimits.Post κs (ns.entry, (k, entry6 c (entry6 d (entry3 x (cs.entry, tt))))) n (ns.exit, (k', exit6 c (exit6 d (exit3 x (cs.exit, tt)))))
     → (n ≡ 100 → ⊥) → AnswerTyped (end narrow (limit_recipe (recipe ns.entry.now k) (list_lent c) (list_lent d) (values_lent x))) n cs
 typed_limits κs ns k k' c d x cs n h s = recipe-measured narrow s c cs (recipe ns.entry.now k) d x h

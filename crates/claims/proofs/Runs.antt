@@ -1,9 +1,9 @@
 -- Demand 3 over the code, in one place: `demand_3` is the claim, over any two runs at one width, whose limits are L; `sums_grow` is the claim
--- of Note 10 over many calls. Each line after them says of a public function of `lists`, and of `run_recipe`, that what its contract, F.Post,
+-- over many calls. Each line after them says of a public function of `lists`, and of `run_recipe`, that what its contract, F.Post,
 -- says of a call makes the call a run. If a contract said less of its answer, written results, trays or tally than the definitions, its line
--- would not hold. Large.antt does the same for large lists, Entries.antt for the C entries over bytes, Typed.antt for the typed ones.
+-- would not hold. Each is of offsets of any width W, so of both (`widths`): Large.antt cites them at 64 bits. Entries.antt does the same for the C entries over bytes, Typed.antt for the typed ones.
 use Prim.Native.Nat.{ℕ, ◌+◌, ◌-◌, ◌<◌}
-use mathlib.Core.Path.{◌≡◌}
+use mathlib.Core.Path.{◌≡◌, refl}
 use mathlib.Core.Bool.{true}
 use mathlib.Core.List.{List, map}
 use lib.IntN.{ℤ}
@@ -13,10 +13,9 @@ use Rattle.model.specs.Basics.{given}
 use Rattle.model.specs.Bitmap.{Bits, valid_at}
 use Rattle.model.specs.Column.{Column, column, Arguments, arguments, row_count, offset_at, EqualRows, EqualArguments}
 use Rattle.model.specs.View.{View}
-use Rattle.model.specs.Limits.{Limits, narrow}
+use Rattle.model.specs.Limits.{Limits, narrow, wide}
 use Rattle.model.specs.Rows.{unary, set_op_call, slice, resize, replace, remove}
 use Rattle.model.specs.Call.{Call, any_value, element, list_repeat, End, Formed, Alike, end, move_in, Chain, finished_by, refused_by}
-use Rattle.model.specs.Contract.{Slice, lent_if}
 use Rattle.model.specs.Run.{Run, list_run, any_value_run, element_run, repeat_run, recipe_run}
 use Rattle.model.specs.Tally.{Sixteen, While}
 use Rattle.model.specs.Tally as M
@@ -24,9 +23,7 @@ use Rattle.model.proofs.Agreement.{Agree, runs_agree}
 use Rattle.model.proofs.Stations.{recipes_split, run_gives}
 use Rattle.model.proofs.ColumnLaws.{other_bits, other_bitsᵃ}
 use Rattle.model.specs.Answers.{ListAnswer, RepeatAnswer, ValueAnswer}
-use Rattle.model.specs.declared.Optional.{Optional}
 use Rattle.model.specs.declared.SetOp.{SetOp}
-use Rattle.model.specs.declared.Unary.{Unary}
 use Rattle.model.specs.declared.Unary.TheVariants as U
 use Rattle.lists.proofs.reverse.general_array_reverse.Reads as Reverse
 use Rattle.lists.proofs.set_ops.general_array_distinct.Reads as Distinct
@@ -40,11 +37,19 @@ use Rattle.lists.proofs.resize.general_list_resize.Reads as Resize
 use Rattle.lists.proofs.replace.general_replace.Reads as Replace
 use Rattle.lists.proofs.remove.general_remove.Reads as Remove
 use Rattle.lists.proofs.repeat.general_list_repeat.Reads as Repeat
-use Rattle.recipes.specs.Recipes.{recipe}
 use Rattle.tally.specs.declared.RecipeAnswer.{RecipeAnswer}
 use Rattle.tally.specs.declared.Tally.{Tally}
-use Rattle.recipes.proofs.run_recipe.Reads as Recipe
-use Rattle.claims.specs.Slots.{Slices, Pair, LentList, LentValues, list_lent, values_lent, entry4, exit4, entry2, exit2, entry6, exit6, entry3, exit3, ListRuns, ValueRuns, RepeatRuns, RecipeRuns}
+use Rattle.recipes.proofs.run_recipe.Reads as Recipes
+use Rattle.recipe_refusal.specs.declared.Inputs.{Inputs}
+use Rattle.recipe_refusal.specs.declared.Recipe.{Recipe}
+use Rattle.column.specs.Columns.{column_in, lent_in, values_in}
+use Rattle.column.specs.declared.elements.ValueColumn.{ValueColumn}
+use Rattle.column.specs.declared.elements.ValueOutput.{ValueOutput}
+use Rattle.column.specs.declared.lists.ListColumn.{ListColumn}
+use Rattle.column.specs.declared.lists.ListOutput.{ListOutput}
+use Rattle.column.specs.declared.lists.OuterOutput.{OuterOutput}
+use Rattle.std.specs.Prelude.{Option}
+use Rattle.claims.specs.Columns.{Width, Offsets, limits, numbers, at, i32, i64, Passed, MutPassed, itself, ListRuns, ValueRuns, RepeatRuns, RecipeRuns}
 
 -- "Take any two runs of one operation or one recipe, whatever its steps and whichever of them, if any, is refused.": two runs on
 -- well-formed columns, alike in what is shown, in arguments, lengths lent, station and tally, end in the same, and that is what the definitions
@@ -53,7 +58,7 @@ pub demand_3 : (L : Limits) {q q' : Call Column Arguments View} {e e' : End} →
 demand_3 L r r' f f' a = runs_agree L r r' f f' a
 
 -- "Where each call takes the tally the last one gave, and while no count has reached its largest value, the sums over stations grow by
--- the calls made, split by outcome" (Note 10 of document 02): of any recipes, the first taking t and the last giving u. What a run gave
+-- the calls made, split by outcome": of any recipes, the first taking t and the last giving u. What a run gave
 -- is what its call gives (`gave`), so runs are calls of such a chain; Entries.antt says so of the C entry (`recipes_gave`).
 pub sums_grow : (L : Limits) {t u : M.Tally} (qs : List (Call Column Arguments View)) → Chain L t qs u → Sixteen t → While (map (move_in L) qs) t
     → (M.total u.finished ≡ M.total t.finished + M.total (map (finished_by L) qs)) × (M.total u.refused ≡ M.total t.refused + M.total (map (refused_by L) qs))
@@ -76,61 +81,78 @@ pub other_startsᵃ : (L : Limits) (K : Arguments → Call Column Arguments View
     → (e e' : End) → Run L (K (arguments v b)) e → Run L (K (arguments v b')) e' → Formed (K (arguments v b)) → Formed (K (arguments v b')) → Agree L (K (arguments v b)) (K (arguments v b')) e e'
 other_startsᵃ L K same v b b' h e e' x x' f f' = demand_3 L x x' f f' (same _ _ (other_bitsᵃ v b b' h))
 
--- c is the list lent, x, y and z the argument columns, each bitmap with its starting bit; o is the output, a the answer
+-- what the two widths decide, and the numbers that their offsets are
+pub widths : ((limits i32 ≡ narrow) × (limits i64 ≡ wide)) × ((numbers i32 ≡ itself) × (numbers i64 ≡ itself))
+widths = ((refl, refl), (refl, refl))
 
-pub reverse : (κs : Lfts 8) (c : LentList) (o : Slices) (a : ListAnswer) → Reverse.Post κs (entry6 c (entry4 o tt)) a (exit6 c (exit4 o tt)) → ListRuns narrow (unary U.Reverse (list_lent c)) a o
-reverse κs c o a h = list_run h
+-- c is the list, x, y and z the argument columns; o is the output, a the answer
 
-pub distinct : (κs : Lfts 8) (c : LentList) (o : Slices) (a : ListAnswer) → Distinct.Post κs (entry6 c (entry4 o tt)) a (exit6 c (exit4 o tt)) → ListRuns narrow (unary U.Distinct (list_lent c)) a o
-distinct κs c o a h = list_run h
+pub reverse : (W : Width) (κs : Lfts 5) (c : Passed (ListColumn (Offsets W))) (o : MutPassed (ListOutput (Offsets W))) (a : ListAnswer)
+    → at W Reverse.Post κs (c.entry, (o.entry, tt)) a (c.exit, (o.exit, tt))
+    → ListRuns (limits W) (numbers W) (unary U.Reverse (column_in (numbers W) c.entry)) a o
+reverse W κs c o a h = list_run h.meets
 
-pub pop_front : (κs : Lfts 8) (c : LentList) (o : Slices) (a : ListAnswer) → PopFront.Post κs (entry6 c (entry4 o tt)) a (exit6 c (exit4 o tt)) → ListRuns narrow (unary U.PopFront (list_lent c)) a o
-pop_front κs c o a h = list_run h
+pub distinct : (W : Width) (κs : Lfts 5) (c : Passed (ListColumn (Offsets W))) (o : MutPassed (ListOutput (Offsets W))) (a : ListAnswer)
+    → at W Distinct.Post κs (c.entry, (o.entry, tt)) a (c.exit, (o.exit, tt))
+    → ListRuns (limits W) (numbers W) (unary U.Distinct (column_in (numbers W) c.entry)) a o
+distinct W κs c o a h = list_run h.meets
 
-pub pop_back : (κs : Lfts 8) (c : LentList) (o : Slices) (a : ListAnswer) → PopBack.Post κs (entry6 c (entry4 o tt)) a (exit6 c (exit4 o tt)) → ListRuns narrow (unary U.PopBack (list_lent c)) a o
-pop_back κs c o a h = list_run h
+pub pop_front : (W : Width) (κs : Lfts 5) (c : Passed (ListColumn (Offsets W))) (o : MutPassed (ListOutput (Offsets W))) (a : ListAnswer)
+    → at W PopFront.Post κs (c.entry, (o.entry, tt)) a (c.exit, (o.exit, tt))
+    → ListRuns (limits W) (numbers W) (unary U.PopFront (column_in (numbers W) c.entry)) a o
+pop_front W κs c o a h = list_run h.meets
+
+pub pop_back : (W : Width) (κs : Lfts 5) (c : Passed (ListColumn (Offsets W))) (o : MutPassed (ListOutput (Offsets W))) (a : ListAnswer)
+    → at W PopBack.Post κs (c.entry, (o.entry, tt)) a (c.exit, (o.exit, tt))
+    → ListRuns (limits W) (numbers W) (unary U.PopBack (column_in (numbers W) c.entry)) a o
+pop_back W κs c o a h = list_run h.meets
 
 -- k is union or intersect, c and d are its two lists
-pub set-lists : (κs : Lfts 11) (k k' : SetOp) (c d : LentList) (o : Slices) (a : ListAnswer) → Sets.Post κs (entry6 c (entry6 d (k, entry4 o tt))) a (exit6 c (exit6 d (k', exit4 o tt))) → ListRuns narrow (set_op_call k (list_lent c) (list_lent d)) a o
-set-lists κs k k' c d o a h = list_run h
+pub set-lists : (W : Width) (κs : Lfts 6) (k k' : SetOp) (c d : Passed (ListColumn (Offsets W))) (o : MutPassed (ListOutput (Offsets W))) (a : ListAnswer)
+    → at W Sets.Post κs (c.entry, (d.entry, (k, (o.entry, tt)))) a (c.exit, (d.exit, (k', (o.exit, tt))))
+    → ListRuns (limits W) (numbers W) (set_op_call k (column_in (numbers W) c.entry) (column_in (numbers W) d.entry)) a o
+set-lists W κs k k' c d o a h = list_run h.meets
 
--- s says whether the stride is lent
-pub slices : (κs : Lfts 14) (s s' : Optional) (c : LentList) (x y z : LentValues) (o : Slices) (a : ListAnswer)
-    → Sliced.Post κs (entry6 c (entry3 x (entry3 y (s, entry3 z (entry4 o tt))))) a (exit6 c (exit3 x (exit3 y (s', exit3 z (exit4 o tt)))))
-    → ListRuns narrow (slice (list_lent c) (values_lent x) (values_lent y) (lent_if s (values_lent z))) a o
-slices κs s s' c x y z o a h = list_run h
+-- z is the stride, if one is lent
+pub slices : (W : Width) (κs : Lfts 8) (c : Passed (ListColumn (Offsets W))) (x y : Passed ValueColumn) (z : Passed (Option ValueColumn)) (o : MutPassed (ListOutput (Offsets W))) (a : ListAnswer)
+    → at W Sliced.Post κs (c.entry, (x.entry, (y.entry, (z.entry, (o.entry, tt))))) a (c.exit, (x.exit, (y.exit, (z.exit, (o.exit, tt)))))
+    → ListRuns (limits W) (numbers W) (slice (column_in (numbers W) c.entry) (values_in x.entry) (values_in y.entry) (lent_in z.entry)) a o
+slices W κs c x y z o a h = list_run h.meets
 
--- and the fill
-pub resizes : (κs : Lfts 12) (s s' : Optional) (c : LentList) (x y : LentValues) (o : Slices) (a : ListAnswer)
-    → Resize.Post κs (entry6 c (entry3 x (s, entry3 y (entry4 o tt)))) a (exit6 c (exit3 x (s', exit3 y (exit4 o tt))))
-    → ListRuns narrow (resize (list_lent c) (values_lent x) (lent_if s (values_lent y))) a o
-resizes κs s s' c x y o a h = list_run h
+-- y is the fill, if one is lent
+pub resizes : (W : Width) (κs : Lfts 7) (c : Passed (ListColumn (Offsets W))) (x : Passed ValueColumn) (y : Passed (Option ValueColumn)) (o : MutPassed (ListOutput (Offsets W))) (a : ListAnswer)
+    → at W Resize.Post κs (c.entry, (x.entry, (y.entry, (o.entry, tt)))) a (c.exit, (x.exit, (y.exit, (o.exit, tt))))
+    → ListRuns (limits W) (numbers W) (resize (column_in (numbers W) c.entry) (values_in x.entry) (lent_in y.entry)) a o
+resizes W κs c x y o a h = list_run h.meets
 
-pub replaces : (κs : Lfts 14) (c : LentList) (x y z : LentValues) (o : Slices) (a : ListAnswer)
-    → Replace.Post κs (entry6 c (entry3 x (entry3 y (entry3 z (entry4 o tt))))) a (exit6 c (exit3 x (exit3 y (exit3 z (exit4 o tt)))))
-    → ListRuns narrow (replace (list_lent c) (values_lent x) (values_lent y) (values_lent z)) a o
-replaces κs c x y z o a h = list_run h
+pub replaces : (W : Width) (κs : Lfts 8) (c : Passed (ListColumn (Offsets W))) (x y z : Passed ValueColumn) (o : MutPassed (ListOutput (Offsets W))) (a : ListAnswer)
+    → at W Replace.Post κs (c.entry, (x.entry, (y.entry, (z.entry, (o.entry, tt))))) a (c.exit, (x.exit, (y.exit, (z.exit, (o.exit, tt)))))
+    → ListRuns (limits W) (numbers W) (replace (column_in (numbers W) c.entry) (values_in x.entry) (values_in y.entry) (values_in z.entry)) a o
+replaces W κs c x y z o a h = list_run h.meets
 
-pub removes : (κs : Lfts 12) (c : LentList) (x y : LentValues) (o : Slices) (a : ListAnswer)
-    → Remove.Post κs (entry6 c (entry3 x (entry3 y (entry4 o tt)))) a (exit6 c (exit3 x (exit3 y (exit4 o tt))))
-    → ListRuns narrow (remove (list_lent c) (values_lent x) (values_lent y)) a o
-removes κs c x y o a h = list_run h
+pub removes : (W : Width) (κs : Lfts 7) (c : Passed (ListColumn (Offsets W))) (x y : Passed ValueColumn) (o : MutPassed (ListOutput (Offsets W))) (a : ListAnswer)
+    → at W Remove.Post κs (c.entry, (x.entry, (y.entry, (o.entry, tt)))) a (c.exit, (x.exit, (y.exit, (o.exit, tt))))
+    → ListRuns (limits W) (numbers W) (remove (column_in (numbers W) c.entry) (values_in x.entry) (values_in y.entry)) a o
+removes W κs c x y o a h = list_run h.meets
 
-pub any_value_lem : (κs : Lfts 6) (c : LentList) (o : Pair) (a : ValueAnswer) → AnyValue.Post κs (entry6 c (entry2 o tt)) a (exit6 c (exit2 o tt)) → ValueRuns narrow (any_value (list_lent c)) a o
-any_value_lem κs c o a h = any_value_run h
+pub any_value_lem : (W : Width) (κs : Lfts 4) (c : Passed (ListColumn (Offsets W))) (o : MutPassed ValueOutput) (a : ValueAnswer)
+    → at W AnyValue.Post κs (c.entry, (o.entry, tt)) a (c.exit, (o.exit, tt))
+    → ValueRuns (limits W) (any_value (column_in (numbers W) c.entry)) a o
+any_value_lem W κs c o a h = any_value_run h.meets
 
-pub elements : (κs : Lfts 8) (c : LentList) (x : LentValues) (o : Pair) (a : ValueAnswer) → Element.Post κs (entry6 c (entry3 x (entry2 o tt))) a (exit6 c (exit3 x (exit2 o tt))) → ValueRuns narrow (element (list_lent c) (values_lent x)) a o
-elements κs c x o a h = element_run h
+pub elements : (W : Width) (κs : Lfts 5) (c : Passed (ListColumn (Offsets W))) (x : Passed ValueColumn) (o : MutPassed ValueOutput) (a : ValueAnswer)
+    → at W Element.Post κs (c.entry, (x.entry, (o.entry, tt))) a (c.exit, (x.exit, (o.exit, tt)))
+    → ValueRuns (limits W) (element (column_in (numbers W) c.entry) (values_in x.entry)) a o
+elements W κs c x o a h = element_run h.meets
 
--- b is the output's outer lists
-pub repeats : (κs : Lfts 12) (c : LentList) (x : LentValues) (b : Pair) (o : Slices) (a : RepeatAnswer)
-    → Repeat.Post κs (entry6 c (entry3 x (entry2 b (entry4 o tt)))) a (exit6 c (exit3 x (exit2 b (exit4 o tt))))
-    → RepeatRuns narrow (list_repeat (list_lent c) (values_lent x)) a b o
-repeats κs c x b o a h = repeat_run h
+-- b is the output's outer lists, o its inner lists
+pub repeats : (W : Width) (κs : Lfts 8) (c : Passed (ListColumn (Offsets W))) (x : Passed ValueColumn) (b : MutPassed (OuterOutput (Offsets W))) (o : MutPassed (ListOutput (Offsets W))) (a : RepeatAnswer)
+    → at W Repeat.Post κs (c.entry, (x.entry, (b.entry, (o.entry, tt)))) a (c.exit, (x.exit, (b.exit, (o.exit, tt))))
+    → RepeatRuns (limits W) (numbers W) (list_repeat (column_in (numbers W) c.entry) (values_in x.entry)) a b o
+repeats W κs c x b o a h = repeat_run h.meets
 
--- t is the tally that goes in, s the station, ns are the recipe's numbers, k how many argument columns there are, c and d the lists, l and
--- m the trays
-pub run_recipe : (κs : Lfts 22) (t t' : Tally) (s s' : ℕ) (ns : Slice ℕ) (k k' : ℕ) (c d : LentList) (x : LentValues) (l m o : Slices) (a : RecipeAnswer)
-    → Recipe.Post κs (t, (s, (ns.entry, (k, entry6 c (entry6 d (entry3 x (entry4 l (entry4 m (entry4 o tt))))))))) a (t', (s', (ns.exit, (k', exit6 c (exit6 d (exit3 x (exit4 l (exit4 m (exit4 o tt)))))))))
-    → RecipeRuns narrow s (recipe ns.entry.now k) c d x l m o t a
-run_recipe κs t t' s s' ns k k' c d x l m o a h = recipe_run h.0 h.1.0 h.1.1.0 h.1.1.1
+-- t is the tally that goes in, s the station, p the recipe, i what it reads, l and m the trays
+pub run_recipe : (W : Width) (κs : Lfts 12) (t t' : Tally) (s s' : ℕ) (p : Passed Recipe) (i : Passed (Inputs (Offsets W))) (l m o : MutPassed (ListOutput (Offsets W))) (a : RecipeAnswer)
+    → at W Recipes.Post κs (t, (s, (p.entry, (i.entry, (l.entry, (m.entry, (o.entry, tt))))))) a (t', (s', (p.exit, (i.exit, (l.exit, (m.exit, (o.exit, tt)))))))
+    → RecipeRuns (limits W) (numbers W) s p.entry i.entry l m o t a
+run_recipe W κs t t' s s' p i l m o a h = recipe_run h.0.meets h.1.0.zeroed h.1.1.0.zeroed h.1.1.1

@@ -9,10 +9,10 @@ use mathlib.Core.List.{List, ◌++◌}
 use contract.Lifetimes.{Lfts}
 use lib.ListN.{length, take}
 use lib.Seq.{take_at}
-use Rattle.model.specs.Basics.{pick, Lent, given}
+use Rattle.model.specs.Basics.{Lent, given}
 use Rattle.model.specs.Column.{Elem, Row, Column, Arguments}
 use Rattle.model.specs.View.{View}
-use Rattle.model.specs.Form.{Room, ValueRoom, RepeatRoom, Outer}
+use Rattle.model.specs.Form.{Room, Outer}
 use Rattle.model.specs.Limits.{Limits, narrow}
 use Rattle.model.specs.Rows.{set_op_call, on_lent}
 use Rattle.model.specs.Outcome.{Outcome, refused, made, gate, list_outcome, any_value_outcome, element_outcome, repeat_outcome}
@@ -27,7 +27,7 @@ use Rattle.ops.specs.declared.ListOp.{ListOp}
 use Rattle.entry.specs.Entry.{number_of}
 use Rattle.entry.specs.Inner.{number_in, counts_in}
 use Rattle.entry_codes.specs.Calls.{one_of, one_call, set_of, set_call}
-use Rattle.recipes.specs.Recipes.{recipe as recipeOf}
+use Rattle.recipe_refusal.specs.Refused.{recipe as recipeOf}
 use Rattle.typed.specs.Typed.{served, TypedList, TypedValues, TypedRepeat, ListServed, ValueServed, RepeatServed}
 use Rattle.typed.specs.Tallies.{tally_at, with_tally, tally_after, RecipeServed}
 use Rattle.typed.proofs.ReadBack.{read_back}
@@ -166,33 +166,33 @@ module _ (L : Limits) {n : ℕ} (s : n ≡ 100 → ⊥) (c : LentList) (cs : Mut
 
 -- ---- the entries of `duthlan`
 
-pub one_list : (κs : Lfts 15) (op op' : ℕ) (c : LentList) (x y z : LentValues) (o : Slices) (cs : MutSlice ℕ) (n : ℕ) (k : ListOp)
+pub one_list : (κs : Lfts 3) (op op' : ℕ) (c : LentList) (x y z : LentValues) (o : Slices) (cs : MutSlice ℕ) (n : ℕ) (k : ListOp)
     → OneList.Post κs (op, entry6 c (entry3 x (entry3 y (entry3 z (entry4 o (cs.entry, tt)))))) n (op', exit6 c (exit3 x (exit3 y (exit3 z (exit4 o (cs.exit, tt))))))
     → (n ≡ 100 → ⊥) → one_of op ≡ given k → ListTyped (end narrow (list (call_of k (list_lent c) (values_lent x) (values_lent y) (values_lent z)) (slices_room o))) n o cs
 one_list κs op op' c x y z o cs n k h s e = one_typed narrow s c cs op x y z o k h e
 
-pub two-lists : (κs : Lfts 12) (op op' : ℕ) (c d : LentList) (o : Slices) (cs : MutSlice ℕ) (n : ℕ) (k : SetOp)
+pub two-lists : (κs : Lfts 3) (op op' : ℕ) (c d : LentList) (o : Slices) (cs : MutSlice ℕ) (n : ℕ) (k : SetOp)
     → TwoLists.Post κs (op, entry6 c (entry6 d (entry4 o (cs.entry, tt)))) n (op', exit6 c (exit6 d (exit4 o (cs.exit, tt))))
     → (n ≡ 100 → ⊥) → set_of op ≡ given k → ListTyped (end narrow (list (set_op_call k (list_lent c) (list_lent d)) (slices_room o))) n o cs
 two-lists κs op op' c d o cs n k h s e = two_typed narrow s c cs op d o k h e
 
-pub any_value_lem : (κs : Lfts 7) (c : LentList) (o : Pair) (cs : MutSlice ℕ) (n : ℕ)
+pub any_value_lem : (κs : Lfts 3) (c : LentList) (o : Pair) (cs : MutSlice ℕ) (n : ℕ)
     → AnyValue.Post κs (entry6 c (entry2 o (cs.entry, tt))) n (exit6 c (exit2 o (cs.exit, tt)))
     → (n ≡ 100 → ⊥) → ValueTyped (end narrow (any_value (list_lent c) (pair_room o))) n o cs
 any_value_lem κs c o cs n h s = any_typed narrow s c cs o h
 
-pub elements : (κs : Lfts 9) (c : LentList) (x : LentValues) (o : Pair) (cs : MutSlice ℕ) (n : ℕ)
+pub elements : (κs : Lfts 3) (c : LentList) (x : LentValues) (o : Pair) (cs : MutSlice ℕ) (n : ℕ)
     → Element.Post κs (entry6 c (entry3 x (entry2 o (cs.entry, tt)))) n (exit6 c (exit3 x (exit2 o (cs.exit, tt))))
     → (n ≡ 100 → ⊥) → ValueTyped (end narrow (element (list_lent c) (values_lent x) (pair_room o))) n o cs
 elements κs c x o cs n h s = element_typed narrow s c cs x o h
 
-pub repeats : (κs : Lfts 13) (c : LentList) (x : LentValues) (p : Pair) (o : Slices) (cs : MutSlice ℕ) (n : ℕ)
+pub repeats : (κs : Lfts 3) (c : LentList) (x : LentValues) (p : Pair) (o : Slices) (cs : MutSlice ℕ) (n : ℕ)
     → ListRepeat.Post κs (entry6 c (entry3 x (entry2 p (entry4 o (cs.entry, tt))))) n (exit6 c (exit3 x (exit2 p (exit4 o (cs.exit, tt)))))
     → (n ≡ 100 → ⊥) → RepeatTyped (end narrow (list_repeat (list_lent c) (values_lent x) (repeat_room_of p.values p.bits o.offsets o.rows o.values o.elements))) n p o cs
 repeats κs c x p o cs n h s = repeats_typed narrow s c cs x p o h
 
 -- ns are the recipe's numbers, k how many argument columns there are
-pub recipes : (κs : Lfts 24) (t t' k k' : ℕ) (ns : Slice ℕ) (c d : LentList) (x : LentValues) (l m o : Slices) (cs u : MutSlice ℕ) (n : ℕ)
+pub recipes : (κs : Lfts 4) (t t' k k' : ℕ) (ns : Slice ℕ) (c d : LentList) (x : LentValues) (l m o : Slices) (cs u : MutSlice ℕ) (n : ℕ)
     → Recipes.Post κs (t, (ns.entry, (k, entry6 c (entry6 d (entry3 x (entry4 l (entry4 m (entry4 o (cs.entry, (u.entry, tt))))))))))
     n (t', (ns.exit, (k', exit6 c (exit6 d (exit3 x (exit4 l (exit4 m (exit4 o (cs.exit, (u.exit, tt))))))))))
     → (n ≡ 100 → ⊥) → RecipeTyped (end narrow (recipe t (recipeOf ns.entry.now k) (list_lent c) (list_lent d) (values_lent x) (slices_room l) (slices_room m) (slices_room o) (tally_at u.entry.now))) n l m o cs u

@@ -1,3 +1,4 @@
+pub mod Columns
 pub mod Slots
 pub mod Bytes
 pub mod Numbers

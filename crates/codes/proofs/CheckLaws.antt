@@ -6,13 +6,13 @@ use mathlib.Core.Bool.{Bool, true, false, ◌||◌}
 use mathlib.Core.List.{List, [], ◌∷◌, ◌++◌}
 use native.Mathlib.Omega.{arith}
 use Rattle.model.specs.Basics.{tab, any}
-use Rattle.model.specs.Recipe.{columns_of, wrong_number, wrong_step}
+use Rattle.model.specs.Recipe.{Step, columns_of, wrong_number, wrong_step}
 use borrow.Author.Tests.{ltb-true, ltb-false}
 use lib.Dec.{ltb}
 use Rattle.model.proofs.TabLaws.{get_d_map, tab_split}
 use Rattle.ops.specs.Ops.{table}
 use Rattle.codes.specs.declared.Operation.{Operation}
-use Rattle.codes.specs.Codes.{step, operations, operation_of, is_none, columns_taken}
+use Rattle.codes.specs.Codes.{operations, operation_of, is_none, columns_taken}
 
 -- a code that names no operation is over 10, and one that does takes the columns that a recipe's step uses
 after_ten : {A : Type 0} (f : ℕ → A) (x : A) (c : ℕ) → ((n : ℕ) → f (suc (suc (suc (suc (suc (suc (suc (suc (suc (suc (suc n))))))))))) ≡ x) → 10 < c → f c ≡ x
@@ -64,26 +64,26 @@ unfolding columns_of operation_of columns_taken table
 columns-taken c = get_d_map columns_taken (map Some operations) c None
 
 -- a step is wrong if its code names no operation, and otherwise if one of its numbers is
-pub wrong_at_none : (columns code a b c : ℕ) → None ≡ operation_of code → true ≡ wrong_step columns (step code a b c)
+pub wrong_at_none : (columns : ℕ) (s : Step) → None ≡ operation_of s.code → true ≡ wrong_step columns s
 unfolding wrong_step is_none
-wrong_at_none columns code a b c e = let n : ltb 10 code ≡ true = sym (none_is code) ∙ ap is_none (sym e) in rw n
+wrong_at_none columns s e = let n : ltb 10 s.code ≡ true = sym (none_is s.code) ∙ ap is_none (sym e) in rw n
 
-module _ (columns code a b c k : ℕ) (o : Operation) (named : Some o ≡ operation_of code) (taken : k ≡ columns_taken (Some o)) where
-  wrong_at_some : wrong_step columns (step code a b c) ≡ (wrong_number columns (ltb 0 k) a || wrong_number columns (ltb 1 k) b || wrong_number columns (ltb 2 k) c)
+module _ (columns : ℕ) (s : Step) (k : ℕ) (o : Operation) (named : Some o ≡ operation_of s.code) (taken : k ≡ columns_taken (Some o)) where
+  wrong_at_some : wrong_step columns s ≡ (wrong_number columns (ltb 0 k) s.first || wrong_number columns (ltb 1 k) s.second || wrong_number columns (ltb 2 k) s.third)
   unfolding wrong_step is_none
   wrong_at_some =
-      let n : ltb 10 code ≡ false = sym (none_is code) ∙ ap is_none (sym named) in
-      let m : columns_of code ≡ k = columns-taken code ∙ ap columns_taken (sym named) ∙ sym taken in
+      let n : ltb 10 s.code ≡ false = sym (none_is s.code) ∙ ap is_none (sym named) in
+      let m : columns_of s.code ≡ k = columns-taken s.code ∙ ap columns_taken (sym named) ∙ sym taken in
       rw (n, m)
 
-  pub wrong_first : (r : Bool) → r ≡ wrong_number columns (ltb 0 k) a → r ≡ true → true ≡ wrong_step columns (step code a b c)
+  pub wrong_first : (r : Bool) → r ≡ wrong_number columns (ltb 0 k) s.first → r ≡ true → true ≡ wrong_step columns s
   wrong_first r h e = rw (wrong_at_some, ← h, e)
 
-  pub wrong_second : (r s : Bool) → r ≡ wrong_number columns (ltb 0 k) a → r ≡ false → s ≡ wrong_number columns (ltb 1 k) b → s ≡ true → true ≡ wrong_step columns (step code a b c)
-  wrong_second r s h e i f = rw (wrong_at_some, ← h, e, ← i, f)
+  pub wrong_second : (r t : Bool) → r ≡ wrong_number columns (ltb 0 k) s.first → r ≡ false → t ≡ wrong_number columns (ltb 1 k) s.second → t ≡ true → true ≡ wrong_step columns s
+  wrong_second r t h e i f = rw (wrong_at_some, ← h, e, ← i, f)
 
-  pub wrong_third : (r s t : Bool) → r ≡ wrong_number columns (ltb 0 k) a → r ≡ false → s ≡ wrong_number columns (ltb 1 k) b → s ≡ false → t ≡ wrong_number columns (ltb 2 k) c → t ≡ wrong_step columns (step code a b c)
-  wrong_third r s t h e i f j = rw (wrong_at_some, ← h, e, ← i, f) j
+  pub wrong_third : (r t u : Bool) → r ≡ wrong_number columns (ltb 0 k) s.first → r ≡ false → t ≡ wrong_number columns (ltb 1 k) s.second → t ≡ false → u ≡ wrong_number columns (ltb 2 k) s.third → u ≡ wrong_step columns s
+  wrong_third r t u h e i f j = rw (wrong_at_some, ← h, e, ← i, f) j
 
 -- one of the first elements of a table
 module _ {A : Type 0} (p : A → Bool) (f : ℕ → A) where

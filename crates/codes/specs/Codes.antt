@@ -7,10 +7,11 @@ use Rattle.ops.specs.Ops.{takes_of}
 use Rattle.ops.specs.declared.ListOp.TheVariants as L
 use Rattle.codes.specs.declared.Operation.{Operation}
 use Rattle.codes.specs.declared.Operation.TheVariants as S
+use Rattle.codes.specs.declared.Step as D
 
--- a step's numbers
-abbrev pub step : ℕ → ℕ → ℕ → ℕ → Step
-step code a b c = record { code = code; first = a; second = b; third = c }
+-- how a clause names a step
+abbrev pub step_in : D.Step → Step
+step_in s = record { code = s.code; first = s.first; second = s.second; third = s.third }
 
 -- "Codes: 0 reverse, 1 distinct, 2 pop front, 3 pop back, 4 slice (from, to, stride), 5 slice without stride, 6 resize (count, fill),
 -- 7 replace (from, to, limit), 8 remove (element, limit), 9 union, 10 intersect."

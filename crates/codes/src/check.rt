@@ -1,10 +1,10 @@
 // What makes a recipe malformed.
+ghost use Rattle.codes.specs.Codes.{columns_taken, step_in};
 ghost use Rattle.model.specs.Basics.{any, tab};
 ghost use Rattle.model.specs.Recipe.{malformed, step_at, wrong_number, wrong_step};
-ghost use Rattle.codes.specs.Codes.{columns_taken, step};
 ghost use Rattle.std.specs.Prelude.{◌*◌, ◌≤◌, length, ◌≡◌, Some};
 
-use crate::Operation;
+use crate::{Operation, Step};
 
 // How many argument columns the operation takes.
 #[tactic(auto, unfolding(crate::specs::Codes::columns_taken))]
@@ -25,21 +25,21 @@ fn is_wrong_number(columns: usize, used: bool, k: usize) -> bool
     if used { columns <= k } else { k != 0 }
 }
 
-#[tactic(auto, using(crate::proofs::CheckLaws::wrong_at_none, crate::proofs::CheckLaws::wrong_first, crate::proofs::CheckLaws::wrong_second, crate::proofs::CheckLaws::wrong_third))]
-fn is_wrong_step(columns: usize, code: u32, first: u32, second: u32, third: u32) -> bool
-    ensures { result ≡ wrong_step columns (step code first second third) }
+#[tactic(auto, using(crate::proofs::CheckLaws::wrong_at_none))]
+fn is_wrong_step(columns: usize, step: Step) -> bool
+    ensures { result ≡ wrong_step columns (step_in step) }
 {
-    let Some(operation) = crate::operation_of(code) else {
+    let Some(operation) = crate::operation_of(step.code) else {
         return true;
     };
     let k = columns_of(operation);
-    if is_wrong_number(columns, 0 < k, first as usize) {
+    if is_wrong_number(columns, 0 < k, step.first) {
         return true;
     }
-    if is_wrong_number(columns, 1 < k, second as usize) {
+    if is_wrong_number(columns, 1 < k, step.second) {
         return true;
     }
-    is_wrong_number(columns, 2 < k, third as usize)
+    is_wrong_number(columns, 2 < k, step.third)
 }
 
 // Whether one of the first n steps is wrong.
@@ -49,14 +49,7 @@ fn has_wrong_step(recipe: &[u32], columns: usize, n: usize) -> bool
     ensures { result ≡ any (wrong_step columns) (tab (step_at recipe.now) 0 n) }
 {
     for k in 0..n {
-        let i = 4 * k;
-        if is_wrong_step(
-            columns,
-            recipe[i],
-            recipe[i + 1],
-            recipe[i + 2],
-            recipe[i + 3],
-        ) {
+        if is_wrong_step(columns, crate::step_at(recipe, k)) {
             return true;
         }
     }
@@ -64,18 +57,10 @@ fn has_wrong_step(recipe: &[u32], columns: usize, n: usize) -> bool
 }
 
 // Length not a multiple of 4, over 32 steps, over eight columns, or a wrong step.
+#[tactic(auto, unfolding(model::specs::Recipe::malformed, model::specs::Recipe::steps_of))]
 pub fn is_malformed(recipe: &[u32], columns: usize) -> bool
     ensures { result ≡ malformed (record { numbers = recipe.now; columns = columns }) }
 {
-    if recipe.len() % 4 != 0 {
-        return true;
-    }
     let n = recipe.len() / 4;
-    if 32 < n {
-        return true;
-    }
-    if 8 < columns {
-        return true;
-    }
-    has_wrong_step(recipe, columns, n)
+    recipe.len() % 4 != 0 || 32 < n || 8 < columns || has_wrong_step(recipe, columns, n)
 }

@@ -1,10 +1,11 @@
-// Operation codes: the table of what each names, and what makes a recipe's numbers malformed. An inner crate.
+// Operation codes: the table of what each names, a recipe's steps, and what makes a recipe's numbers malformed. An inner crate.
 #![tactic(auto)]
 
 pub mod check;
 
-ghost use Rattle.codes.specs.Codes.{operation_of};
-ghost use Rattle.std.specs.Prelude.{◌≡◌};
+ghost use Rattle.codes.specs.Codes.{operation_of, step_in};
+ghost use Rattle.model.specs.Recipe.{step_at};
+ghost use Rattle.std.specs.Prelude.{◌*◌, ◌+◌, ◌≤◌, length, ◌≡◌};
 
 use model::{SetOp, Unary};
 use ops::ListOp;
@@ -14,6 +15,15 @@ use ops::ListOp;
 pub enum Operation {
     One(ListOp),
     Two(SetOp),
+}
+
+// The four numbers of a step: its code, and three argument columns.
+#[derive(Clone, Copy)]
+pub struct Step {
+    pub code: u32,
+    pub first: usize,
+    pub second: usize,
+    pub third: usize,
 }
 
 // The table of codes: what a code names, if it names an operation.
@@ -35,4 +45,18 @@ pub fn operation_of(code: u32) -> Option<Operation>
         10 => Operation::Two(SetOp::Intersect),
         _ => return None,
     })
+}
+
+// Step k of a recipe.
+pub fn step_at(recipe: &[u32], k: usize) -> Step
+    requires { 4 * k + 4 ≤ length recipe.now }
+    ensures { step_in result ≡ step_at recipe.now k }
+{
+    let i = 4 * k;
+    Step {
+        code: recipe[i],
+        first: recipe[i + 1] as usize,
+        second: recipe[i + 2] as usize,
+        third: recipe[i + 3] as usize,
+    }
 }

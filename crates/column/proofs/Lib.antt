@@ -7,3 +7,4 @@ pub mod WalkLaws
 pub mod AnswerLaws
 pub mod ReadLaws
 pub mod RoundLaws
+pub mod SameLaws

@@ -1,5 +1,6 @@
 pub mod Put
 pub mod Rows
 pub mod Answers
+pub mod Columns
 pub mod Outputs
 pub mod Front

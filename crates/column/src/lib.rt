@@ -1,7 +1,8 @@
-// Reading, checking and writing list columns, slot by slot. An inner crate: its callers meet what it asks.
+// List and value columns as they are lent, and outputs as they are written, slot by slot. The columns ask nothing of their callers; what reads
+// and writes them is an inner crate.
 #![tactic(auto)]
 
 pub mod elements;
+pub mod lists;
 pub mod offsets;
 pub mod rows;
-pub mod widths;

@@ -1,89 +1,74 @@
 // The rows of a column, measured and written in result form. An inner crate: its callers meet what it asks.
 #![tactic(auto)]
 
-ghost use Rattle.std.specs.Prelude.{◌≤◌, length, ◌≡◌};
-ghost use Rattle.column.specs.Outputs.{FillsAt, ReadableRow, RoomAt, RoomForRow, WritesRow};
+ghost use Rattle.bitmap.specs.Reads.{bits_in};
+ghost use Rattle.column.specs.Columns.{elem_in, column_in};
+ghost use Rattle.column.specs.Outputs.{RoomFor, RoomForRow, WritesRow, Fills, ReadableRow};
 ghost use Rattle.column.specs.Put.{Readable};
 ghost use Rattle.column.specs.Rows.{row_from};
 ghost use Rattle.model.specs.Column.{row_count, rows_of};
 ghost use Rattle.model.specs.Form.{flat};
-ghost use Rattle.model.specs.Inner.{lent_at, lent_bits, lent_elem, now_bits, now_column_at, now_elem};
-ghost use Rattle.model.specs.Widths.{limits_at, used};
+ghost use Rattle.std.specs.Prelude.{◌≤◌, length, ◌≡◌};
 
-use column::widths;
-use model::Width;
+use bitmap::Validity;
+use column::elements::ValueColumn;
+use column::lists::{ListColumn, ListOutput};
+use column::offsets;
+use model::offsets::Offset;
 use rows::utils;
 
 // The number of elements that the column shows.
-pub fn measure_rows(
-    offsets: &[i32],
-    rows: &[u8],
-    rstart: usize,
-    values: &[i64],
-    elements: &[u8],
-    estart: usize,
-    width: Width,
-    large: &[i64],
-) -> usize
-    requires column { Readable (now_column_at width offsets large rows rstart values elements estart) }
-    ensures value { result ≡ length (flat (rows_of (lent_at width offsets large rows rstart values elements estart))) }
-    ensures upper_bound { result ≤ (limits_at width).offset }
+pub fn measure_rows<O: Offset>(list: ListColumn<O>) -> usize
+    requires column { Readable (column_in O.numbers list) }
+    ensures value { result ≡ length (flat (rows_of (column_in O.numbers list.entry))) }
+    ensures upper_bound { result ≤ O.LIMITS.offset }
 {
-    let n = widths::row_count(width, offsets, large);
+    let n = list.row_count();
     let mut found: usize = 0;
     for r in 0..n {
-        let a = widths::offset_at(width, offsets, large, r);
-        let b = widths::offset_at(width, offsets, large, r + 1);
-        found += column::rows::row_len(rows, rstart, n, r, a, b);
+        let a = list.offset_at(r);
+        let b = list.offset_at(r + 1);
+        found += column::rows::row_len(list.rows, n, r, a, b);
     }
     found
 }
 
 // Writes row r, but for its offset; gives the number of elements then written.
-#[rattlefmt::skip]
-pub fn put_row(
-    rows: &[u8], rstart: usize, n: usize, values: &[i64], elements: &[u8], estart: usize,
-    r: usize, a: usize, b: usize, out_rows: &mut [u8], out_values: &mut [i64], out_elements: &mut [u8],
+pub fn put_row<O: Offset>(
+    rows: Validity,
+    n: usize,
+    elements: ValueColumn,
+    r: usize,
+    a: usize,
+    b: usize,
+    out: &mut ListOutput<O>,
     at: usize,
 ) -> usize
-    requires column { ReadableRow rows rstart n values elements estart r a b }
-    requires room { RoomForRow (row_from (now_bits rows rstart) (now_elem values elements estart) r a b) r at out_rows out_values out_elements }
-    ensures { WritesRow (row_from (lent_bits rows rstart) (lent_elem values elements estart) r a b) r at out_rows out_values out_elements result }
+    requires column { ReadableRow rows n elements r a b }
+    requires room { RoomForRow (row_from (bits_in rows) (elem_in elements) r a b) r at out.old }
+    ensures { WritesRow (row_from (bits_in rows.entry) (elem_in elements.entry) r a b) r at out.old out.new result }
 {
-    let valid = bitmap::is_valid(rows, rstart, r, n);
-    let len = column::rows::row_len(rows, rstart, n, r, a, b);
-    let next = utils::write_forward(
-        values, elements, estart,
-        a, len, out_values, out_elements,
-        at,
-    );
-    bitmap::push_bit(out_rows, r, valid);
+    let valid = rows.is_valid(r, n);
+    let len = column::rows::row_len(rows, n, r, a, b);
+    let next = utils::write_forward(elements, a, len, out.elements, at);
+    bitmap::push_bit(out.rows, r, valid);
     next
 }
 
 // Writes the rows of the column, in result form.
-#[rattlefmt::skip]
-pub fn write_rows(
-    offsets: &[i32], rows: &[u8], rstart: usize, values: &[i64], elements: &[u8], estart: usize,
-    out_offsets: &mut [i32], out_rows: &mut [u8], out_values: &mut [i64], out_elements: &mut [u8],
-    width: Width, large: &[i64], out_large: &mut [i64],
-)
-    requires column { Readable (now_column_at width offsets large rows rstart values elements estart) }
-    requires small { length (flat (rows_of (now_column_at width offsets large rows rstart values elements estart))) ≤ (limits_at width).offset }
-    requires room { RoomAt width (row_count (used width offsets.now large.now)) (length (flat (rows_of (now_column_at width offsets large rows rstart values elements estart)))) out_offsets out_large out_rows out_values out_elements }
-    ensures { FillsAt width (rows_of (lent_at width offsets large rows rstart values elements estart)) out_offsets out_large out_rows out_values out_elements }
+pub fn write_rows<O: Offset>(list: ListColumn<O>, out: &mut ListOutput<O>)
+    requires column { Readable (column_in O.numbers list) }
+    requires small { length (flat (rows_of (column_in O.numbers list))) ≤ O.LIMITS.offset }
+    requires room { RoomFor (row_count (O.numbers list.offsets.now)) (length (flat (rows_of (column_in O.numbers list)))) out.old }
+    ensures { Fills O.numbers (rows_of (column_in O.numbers list.entry)) out.old out.new }
 {
-    let n = widths::row_count(width, offsets, large);
-    widths::put_offset(width, out_offsets, out_large, 0, 0);
+    let n = list.row_count();
+    offsets::put_offset(out.offsets, 0, 0);
     let mut at: usize = 0;
     for r in 0..n {
-        let a = widths::offset_at(width, offsets, large, r);
-        let b = widths::offset_at(width, offsets, large, r + 1);
-        at = put_row(
-            rows, rstart, n, values, elements, estart,
-            r, a, b, out_rows, out_values, out_elements,
-            at,
-        );
-        widths::put_offset(width, out_offsets, out_large, r + 1, at);
+        let a = list.offset_at(r);
+        let b = list.offset_at(r + 1);
+        at = put_row(list.rows, n, list.elements, r, a, b, out, at);
+        offsets::put_offset(out.offsets, r + 1, at);
     }
 }

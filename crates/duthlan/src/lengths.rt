@@ -8,39 +8,27 @@ ghost use Rattle.model.specs.Limits.{narrow};
 ghost use Rattle.recipe_refusal.specs.Refused.{recipe};
 ghost use Rattle.typed.specs.Typed.{LengthsServed};
 
-use entry_codes::{one_of, set_of};
-use lists::{extract, repeat, set_ops};
+use recipe_refusal::{Inputs, Recipe};
+use typed::{columns, measures};
 
 // Four lengths: offsets, row bitmap, values, element bitmap.
 #[unsafe(no_mangle)]
 #[rattlefmt::skip]
-pub extern "C" fn duthlan_typed_list_lengths(
+pub extern "C" fn duthlan_typed_list_lengths<'a>(
     op: u32,
-    offsets: &[i32], rows: &[u8], rows_start: usize, values: &[i64], elements: &[u8], elements_start: usize,
-    first: &[i64], first_bits: &[u8], first_start: usize,
-    second: &[i64], second_bits: &[u8], second_start: usize,
-    third: &[i64], third_bits: &[u8], third_start: usize,
+    offsets: &'a [i32], rows: &'a [u8], rows_start: usize, values: &'a [i64], elements: &'a [u8], elements_start: usize,
+    first: &'a [i64], first_bits: &'a [u8], first_start: usize,
+    second: &'a [i64], second_bits: &'a [u8], second_start: usize,
+    third: &'a [i64], third_bits: &'a [u8], third_start: usize,
     lengths: &mut [u64],
 ) -> u32
     ensures { LengthsServed room_counts 4 (one_lengths narrow op (lent_from offsets rows rows_start values elements elements_start) (lent_arguments_from first first_bits first_start) (lent_arguments_from second second_bits second_start) (lent_arguments_from third third_bits third_start)) result lengths }
 {
-    let named = one_of(op);
-    match named {
-        None => 100,
-        Some(operation) => {
-            if lengths.len() < 4 {
-                return 100;
-            }
-            let answer = list_walk::lengths(
-                operation,
-                offsets, rows, rows_start, values, elements, elements_start,
-                first, first_bits, first_start,
-                second, second_bits, second_start,
-                third, third_bits, third_start,
-            );
-            typed::lengths::put_list(answer, lengths)
-        }
-    }
+    let list = columns::list(offsets, rows, rows_start, values, elements, elements_start);
+    let first = columns::values(first, first_bits, first_start);
+    let second = columns::values(second, second_bits, second_start);
+    let third = columns::values(third, third_bits, third_start);
+    measures::list(op, list, first, second, third, lengths)
 }
 
 // The same of two lists.
@@ -48,104 +36,75 @@ pub extern "C" fn duthlan_typed_list_lengths(
 #[rattlefmt::skip]
 pub extern "C" fn duthlan_typed_lists_lengths<'a>(
     op: u32,
-    l_offsets: &[i32], l_rows: &[u8], l_rows_start: usize, l_values: &'a [i64], l_elements: &[u8], l_elements_start: usize,
-    r_offsets: &[i32], r_rows: &[u8], r_rows_start: usize, r_values: &'a [i64], r_elements: &[u8], r_elements_start: usize,
+    l_offsets: &'a [i32], l_rows: &'a [u8], l_rows_start: usize, l_values: &'a [i64], l_elements: &'a [u8], l_elements_start: usize,
+    r_offsets: &'a [i32], r_rows: &'a [u8], r_rows_start: usize, r_values: &'a [i64], r_elements: &'a [u8], r_elements_start: usize,
     lengths: &mut [u64],
 ) -> u32
     ensures { LengthsServed room_counts 4 (set_lengths narrow op (lent_from l_offsets l_rows l_rows_start l_values l_elements l_elements_start) (lent_from r_offsets r_rows r_rows_start r_values r_elements r_elements_start)) result lengths }
 {
-    let named = set_of(op);
-    match named {
-        None => 100,
-        Some(operation) => {
-            if lengths.len() < 4 {
-                return 100;
-            }
-            let answer = set_ops::generic_set_lists_lengths(
-                l_offsets, l_rows, l_rows_start, l_values, l_elements, l_elements_start,
-                r_offsets, r_rows, r_rows_start, r_values, r_elements, r_elements_start,
-                operation,
-            );
-            typed::lengths::put_list(answer, lengths)
-        }
-    }
+    let left = columns::list(l_offsets, l_rows, l_rows_start, l_values, l_elements, l_elements_start);
+    let right = columns::list(r_offsets, r_rows, r_rows_start, r_values, r_elements, r_elements_start);
+    measures::lists(op, left, right, lengths)
 }
 
 // Two lengths: values, row bitmap.
 #[unsafe(no_mangle)]
 #[rattlefmt::skip]
-pub extern "C" fn duthlan_typed_any_value_lengths(
-    offsets: &[i32], rows: &[u8], rows_start: usize, values: &[i64], elements: &[u8], elements_start: usize,
+pub extern "C" fn duthlan_typed_any_value_lengths<'a>(
+    offsets: &'a [i32], rows: &'a [u8], rows_start: usize, values: &'a [i64], elements: &'a [u8], elements_start: usize,
     lengths: &mut [u64],
 ) -> u32
     ensures { LengthsServed value_room_counts 2 (given (any_value_lengths (lent_from offsets rows rows_start values elements elements_start))) result lengths }
 {
-    if lengths.len() < 2 {
-        return 100;
-    }
-    let answer = extract::general_array_any_value_lengths(
-        offsets, rows, rows_start, values, elements, elements_start,
-    );
-    typed::lengths::put_values(answer, lengths)
+    let list = columns::list(offsets, rows, rows_start, values, elements, elements_start);
+    measures::any_value(list, lengths)
 }
 
 #[unsafe(no_mangle)]
 #[rattlefmt::skip]
-pub extern "C" fn duthlan_typed_element_lengths(
-    offsets: &[i32], rows: &[u8], rows_start: usize, values: &[i64], elements: &[u8], elements_start: usize,
-    indexes: &[i64], index_bits: &[u8], index_start: usize,
+pub extern "C" fn duthlan_typed_element_lengths<'a>(
+    offsets: &'a [i32], rows: &'a [u8], rows_start: usize, values: &'a [i64], elements: &'a [u8], elements_start: usize,
+    indexes: &'a [i64], index_bits: &'a [u8], index_start: usize,
     lengths: &mut [u64],
 ) -> u32
     ensures { LengthsServed value_room_counts 2 (given (element_lengths narrow (lent_from offsets rows rows_start values elements elements_start) (lent_arguments_from indexes index_bits index_start))) result lengths }
 {
-    if lengths.len() < 2 {
-        return 100;
-    }
-    let answer = extract::general_array_element_lengths(
-        offsets, rows, rows_start, values, elements, elements_start, indexes, index_bits, index_start,
-    );
-    typed::lengths::put_values(answer, lengths)
+    let list = columns::list(offsets, rows, rows_start, values, elements, elements_start);
+    let indexes = columns::values(indexes, index_bits, index_start);
+    measures::element(list, indexes, lengths)
 }
 
 // Six lengths: outer offsets, outer row bitmap, inner offsets, inner row bitmap, values, element bitmap.
 #[unsafe(no_mangle)]
 #[rattlefmt::skip]
-pub extern "C" fn duthlan_typed_list_repeat_lengths(
-    offsets: &[i32], rows: &[u8], rows_start: usize, values: &[i64], elements: &[u8], elements_start: usize,
-    times: &[i64], times_bits: &[u8], times_start: usize,
+pub extern "C" fn duthlan_typed_list_repeat_lengths<'a>(
+    offsets: &'a [i32], rows: &'a [u8], rows_start: usize, values: &'a [i64], elements: &'a [u8], elements_start: usize,
+    times: &'a [i64], times_bits: &'a [u8], times_start: usize,
     lengths: &mut [u64],
 ) -> u32
     ensures { LengthsServed repeat_room_counts 6 (given (repeat_lengths narrow (lent_from offsets rows rows_start values elements elements_start) (lent_arguments_from times times_bits times_start))) result lengths }
 {
-    if lengths.len() < 6 {
-        return 100;
-    }
-    let answer = repeat::general_list_repeat_lengths(
-        offsets, rows, rows_start, values, elements, elements_start, times, times_bits, times_start,
-    );
-    typed::lengths::put_repeat(answer, lengths)
+    let list = columns::list(offsets, rows, rows_start, values, elements, elements_start);
+    let times = columns::values(times, times_bits, times_start);
+    measures::list_repeat(list, times, lengths)
 }
 
 // Three limits, of the elements in tray one, tray two and the output.
 #[unsafe(no_mangle)]
 #[rattlefmt::skip]
 pub extern "C" fn duthlan_typed_recipe_limits<'a>(
-    numbers: &[u32], columns: usize,
-    offsets: &[i32], rows: &[u8], rows_start: usize, values: &'a [i64], elements: &[u8], elements_start: usize,
-    second_offsets: &[i32], second_rows: &[u8], second_rows_start: usize, second_values: &'a [i64], second_elements: &[u8], second_elements_start: usize,
-    arguments: &[i64], argument_bits: &[u8], argument_start: usize,
+    numbers: &'a [u32], columns: usize,
+    offsets: &'a [i32], rows: &'a [u8], rows_start: usize, values: &'a [i64], elements: &'a [u8], elements_start: usize,
+    second_offsets: &'a [i32], second_rows: &'a [u8], second_rows_start: usize, second_values: &'a [i64], second_elements: &'a [u8], second_elements_start: usize,
+    arguments: &'a [i64], argument_bits: &'a [u8], argument_start: usize,
     limits: &mut [u64],
 ) -> u32
-    ensures { LengthsServed limit_counts 3 (given (recipe_limits narrow (recipe numbers.now columns) (lent_from offsets rows rows_start values elements elements_start) (lent_from second_offsets second_rows second_rows_start second_values second_elements second_elements_start) (lent_arguments_from arguments argument_bits argument_start))) result limits }
+    ensures { LengthsServed limit_counts 3 (given (recipe_limits narrow (recipe numbers.entry.now columns) (lent_from offsets rows rows_start values elements elements_start) (lent_from second_offsets second_rows second_rows_start second_values second_elements second_elements_start) (lent_arguments_from arguments argument_bits argument_start))) result limits }
 {
-    if limits.len() < 3 {
-        return 100;
-    }
-    let answer = recipe_limits::recipe_limits(
-        numbers, columns,
-        offsets, rows, rows_start, values, elements, elements_start,
-        second_offsets, second_rows, second_rows_start, second_values, second_elements, second_elements_start,
-        arguments, argument_bits, argument_start,
-    );
-    typed::lengths::put_limits(answer, limits)
+    let recipe = Recipe { numbers, columns };
+    let list = columns::list(offsets, rows, rows_start, values, elements, elements_start);
+    let second = columns::list(second_offsets, second_rows, second_rows_start, second_values, second_elements, second_elements_start);
+    let arguments = columns::values(arguments, argument_bits, argument_start);
+    let inputs = Inputs { list, second, arguments };
+    measures::recipe(recipe, inputs, limits)
 }

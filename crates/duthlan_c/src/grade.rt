@@ -1,17 +1,18 @@
 // The entries of `duthlan::grade` for C programs: each calls the function of its name there, and states its clauses again.
 // bindings/entries writes this file.
-ghost use Rattle.grades.specs.Graded.{graded_lent, graded_tally};
 ghost use Rattle.model.specs.Contract.{Clears, room_of};
 ghost use Rattle.model.specs.Grade.{grade_outcome};
-ghost use Rattle.model.specs.Inner.{lent_from};
+ghost use Rattle.model.specs.Inner.{lent_arguments_from, lent_from};
+ghost use Rattle.recipe_refusal.specs.Refused.{recipe};
+ghost use Rattle.typed.specs.Flat.{graded_lent, graded_tally};
 ghost use Rattle.typed.specs.Tallies.{GradedServed};
 ghost use Rattle.typed.specs.Typed.{GradeServed};
 
 #[unsafe(no_mangle)]
 #[rattlefmt::skip]
-pub extern "C" fn duthlan_typed_grade(
+pub extern "C" fn duthlan_typed_grade<'a>(
     k: u64,
-    offsets: &[i32], rows: &[u8], rows_start: usize, values: &[i64], elements: &[u8], elements_start: usize,
+    offsets: &'a [i32], rows: &'a [u8], rows_start: usize, values: &'a [i64], elements: &'a [u8], elements_start: usize,
     grades: &mut [u8], counts: &mut [u64],
 ) -> u32
     ensures { GradeServed k (grade_outcome k (lent_from offsets rows rows_start values elements elements_start)) result grades counts }
@@ -25,17 +26,17 @@ pub extern "C" fn duthlan_typed_grade(
 
 #[unsafe(no_mangle)]
 #[rattlefmt::skip]
-pub extern "C" fn duthlan_typed_grade_recipe<'a>(
-    k: u64, station: u32, numbers: &[u32], columns: usize,
-    offsets: &[i32], rows: &[u8], rows_start: usize, values: &'a [i64], elements: &[u8], elements_start: usize,
-    second_offsets: &[i32], second_rows: &[u8], second_rows_start: usize, second_values: &'a [i64], second_elements: &[u8], second_elements_start: usize,
-    arguments: &[i64], argument_bits: &[u8], argument_start: usize,
-    one_offsets: &mut [i32], one_rows: &mut [u8], one_values: &mut [i64], one_elements: &mut [u8],
-    two_offsets: &mut [i32], two_rows: &mut [u8], two_values: &mut [i64], two_elements: &mut [u8],
-    out_offsets: &mut [i32], out_rows: &mut [u8], out_values: &mut [i64], out_elements: &mut [u8],
+pub extern "C" fn duthlan_typed_grade_recipe<'a, 'o>(
+    k: u64, station: u32, numbers: &'a [u32], columns: usize,
+    offsets: &'a [i32], rows: &'a [u8], rows_start: usize, values: &'a [i64], elements: &'a [u8], elements_start: usize,
+    second_offsets: &'a [i32], second_rows: &'a [u8], second_rows_start: usize, second_values: &'a [i64], second_elements: &'a [u8], second_elements_start: usize,
+    arguments: &'a [i64], argument_bits: &'a [u8], argument_start: usize,
+    one_offsets: &'o mut [i32], one_rows: &'o mut [u8], one_values: &'o mut [i64], one_elements: &'o mut [u8],
+    two_offsets: &'o mut [i32], two_rows: &'o mut [u8], two_values: &'o mut [i64], two_elements: &'o mut [u8],
+    out_offsets: &'o mut [i32], out_rows: &'o mut [u8], out_values: &'o mut [i64], out_elements: &'o mut [u8],
     grades: &mut [u8], counts: &mut [u64], tally: &mut [u64],
 ) -> u32
-    ensures graded_served { GradedServed k (graded_lent k grades station columns numbers offsets rows rows_start values elements elements_start second_offsets second_rows second_rows_start second_values second_elements second_elements_start arguments argument_bits argument_start (room_of one_offsets one_rows one_values one_elements) (room_of two_offsets two_rows two_values two_elements)) (graded_tally k grades station columns numbers offsets rows rows_start values elements elements_start second_offsets second_rows second_rows_start second_values second_elements second_elements_start arguments argument_bits argument_start (room_of one_offsets one_rows one_values one_elements) (room_of two_offsets two_rows two_values two_elements)) result out_offsets out_rows out_values out_elements grades counts tally }
+    ensures graded_served { GradedServed k (graded_lent k grades station (recipe numbers.entry.now columns) (lent_from offsets rows rows_start values elements elements_start) (lent_from second_offsets second_rows second_rows_start second_values second_elements second_elements_start) (lent_arguments_from arguments argument_bits argument_start) (room_of one_offsets one_rows one_values one_elements) (room_of two_offsets two_rows two_values two_elements)) (graded_tally k grades station (recipe numbers.entry.now columns) (lent_from offsets rows rows_start values elements elements_start) (lent_from second_offsets second_rows second_rows_start second_values second_elements second_elements_start) (lent_arguments_from arguments argument_bits argument_start) (room_of one_offsets one_rows one_values one_elements) (room_of two_offsets two_rows two_values two_elements)) result out_offsets out_rows out_values out_elements grades counts tally }
     ensures clears { Clears one_offsets one_rows one_values one_elements }
     ensures clears_2 { Clears two_offsets two_rows two_values two_elements }
 {

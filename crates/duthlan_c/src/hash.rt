@@ -9,9 +9,9 @@ ghost use Rattle.typed.specs.Typed.{HashServed};
 
 #[unsafe(no_mangle)]
 #[rattlefmt::skip]
-pub extern "C" fn duthlan_typed_distinct_hashed(
-    offsets: &[i32], rows: &[u8], rows_start: usize, values: &[i64], elements: &[u8], elements_start: usize,
-    out_offsets: &mut [i32], out_rows: &mut [u8], out_values: &mut [i64], out_elements: &mut [u8],
+pub extern "C" fn duthlan_typed_distinct_hashed<'a, 'o>(
+    offsets: &'a [i32], rows: &'a [u8], rows_start: usize, values: &'a [i64], elements: &'a [u8], elements_start: usize,
+    out_offsets: &'o mut [i32], out_rows: &'o mut [u8], out_values: &'o mut [i64], out_elements: &'o mut [u8],
     area: &mut [u32], counts: &mut [u64],
 ) -> u32
     ensures { HashServed (λ m. given (hashed_outcome narrow (distinct_of (lent_from offsets rows rows_start values elements elements_start)) m)) result out_offsets out_rows out_values out_elements area counts }
@@ -25,11 +25,11 @@ pub extern "C" fn duthlan_typed_distinct_hashed(
 
 #[unsafe(no_mangle)]
 #[rattlefmt::skip]
-pub extern "C" fn duthlan_typed_lists_hashed<'a>(
+pub extern "C" fn duthlan_typed_lists_hashed<'a, 'o>(
     op: u32,
-    l_offsets: &[i32], l_rows: &[u8], l_rows_start: usize, l_values: &'a [i64], l_elements: &[u8], l_elements_start: usize,
-    r_offsets: &[i32], r_rows: &[u8], r_rows_start: usize, r_values: &'a [i64], r_elements: &[u8], r_elements_start: usize,
-    out_offsets: &mut [i32], out_rows: &mut [u8], out_values: &mut [i64], out_elements: &mut [u8],
+    l_offsets: &'a [i32], l_rows: &'a [u8], l_rows_start: usize, l_values: &'a [i64], l_elements: &'a [u8], l_elements_start: usize,
+    r_offsets: &'a [i32], r_rows: &'a [u8], r_rows_start: usize, r_values: &'a [i64], r_elements: &'a [u8], r_elements_start: usize,
+    out_offsets: &'o mut [i32], out_rows: &'o mut [u8], out_values: &'o mut [i64], out_elements: &'o mut [u8],
     area: &mut [u32], counts: &mut [u64],
 ) -> u32
     ensures { HashServed (hashed_call op (lent_from l_offsets l_rows l_rows_start l_values l_elements l_elements_start) (lent_from r_offsets r_rows r_rows_start r_values r_elements r_elements_start)) result out_offsets out_rows out_values out_elements area counts }

@@ -11,12 +11,12 @@ ghost use Rattle.typed.specs.Typed.{LengthsServed};
 
 #[unsafe(no_mangle)]
 #[rattlefmt::skip]
-pub extern "C" fn duthlan_typed_list_lengths(
+pub extern "C" fn duthlan_typed_list_lengths<'a>(
     op: u32,
-    offsets: &[i32], rows: &[u8], rows_start: usize, values: &[i64], elements: &[u8], elements_start: usize,
-    first: &[i64], first_bits: &[u8], first_start: usize,
-    second: &[i64], second_bits: &[u8], second_start: usize,
-    third: &[i64], third_bits: &[u8], third_start: usize,
+    offsets: &'a [i32], rows: &'a [u8], rows_start: usize, values: &'a [i64], elements: &'a [u8], elements_start: usize,
+    first: &'a [i64], first_bits: &'a [u8], first_start: usize,
+    second: &'a [i64], second_bits: &'a [u8], second_start: usize,
+    third: &'a [i64], third_bits: &'a [u8], third_start: usize,
     lengths: &mut [u64],
 ) -> u32
     ensures { LengthsServed room_counts 4 (one_lengths narrow op (lent_from offsets rows rows_start values elements elements_start) (lent_arguments_from first first_bits first_start) (lent_arguments_from second second_bits second_start) (lent_arguments_from third third_bits third_start)) result lengths }
@@ -35,8 +35,8 @@ pub extern "C" fn duthlan_typed_list_lengths(
 #[rattlefmt::skip]
 pub extern "C" fn duthlan_typed_lists_lengths<'a>(
     op: u32,
-    l_offsets: &[i32], l_rows: &[u8], l_rows_start: usize, l_values: &'a [i64], l_elements: &[u8], l_elements_start: usize,
-    r_offsets: &[i32], r_rows: &[u8], r_rows_start: usize, r_values: &'a [i64], r_elements: &[u8], r_elements_start: usize,
+    l_offsets: &'a [i32], l_rows: &'a [u8], l_rows_start: usize, l_values: &'a [i64], l_elements: &'a [u8], l_elements_start: usize,
+    r_offsets: &'a [i32], r_rows: &'a [u8], r_rows_start: usize, r_values: &'a [i64], r_elements: &'a [u8], r_elements_start: usize,
     lengths: &mut [u64],
 ) -> u32
     ensures { LengthsServed room_counts 4 (set_lengths narrow op (lent_from l_offsets l_rows l_rows_start l_values l_elements l_elements_start) (lent_from r_offsets r_rows r_rows_start r_values r_elements r_elements_start)) result lengths }
@@ -51,8 +51,8 @@ pub extern "C" fn duthlan_typed_lists_lengths<'a>(
 
 #[unsafe(no_mangle)]
 #[rattlefmt::skip]
-pub extern "C" fn duthlan_typed_any_value_lengths(
-    offsets: &[i32], rows: &[u8], rows_start: usize, values: &[i64], elements: &[u8], elements_start: usize,
+pub extern "C" fn duthlan_typed_any_value_lengths<'a>(
+    offsets: &'a [i32], rows: &'a [u8], rows_start: usize, values: &'a [i64], elements: &'a [u8], elements_start: usize,
     lengths: &mut [u64],
 ) -> u32
     ensures { LengthsServed value_room_counts 2 (given (any_value_lengths (lent_from offsets rows rows_start values elements elements_start))) result lengths }
@@ -65,9 +65,9 @@ pub extern "C" fn duthlan_typed_any_value_lengths(
 
 #[unsafe(no_mangle)]
 #[rattlefmt::skip]
-pub extern "C" fn duthlan_typed_element_lengths(
-    offsets: &[i32], rows: &[u8], rows_start: usize, values: &[i64], elements: &[u8], elements_start: usize,
-    indexes: &[i64], index_bits: &[u8], index_start: usize,
+pub extern "C" fn duthlan_typed_element_lengths<'a>(
+    offsets: &'a [i32], rows: &'a [u8], rows_start: usize, values: &'a [i64], elements: &'a [u8], elements_start: usize,
+    indexes: &'a [i64], index_bits: &'a [u8], index_start: usize,
     lengths: &mut [u64],
 ) -> u32
     ensures { LengthsServed value_room_counts 2 (given (element_lengths narrow (lent_from offsets rows rows_start values elements elements_start) (lent_arguments_from indexes index_bits index_start))) result lengths }
@@ -81,9 +81,9 @@ pub extern "C" fn duthlan_typed_element_lengths(
 
 #[unsafe(no_mangle)]
 #[rattlefmt::skip]
-pub extern "C" fn duthlan_typed_list_repeat_lengths(
-    offsets: &[i32], rows: &[u8], rows_start: usize, values: &[i64], elements: &[u8], elements_start: usize,
-    times: &[i64], times_bits: &[u8], times_start: usize,
+pub extern "C" fn duthlan_typed_list_repeat_lengths<'a>(
+    offsets: &'a [i32], rows: &'a [u8], rows_start: usize, values: &'a [i64], elements: &'a [u8], elements_start: usize,
+    times: &'a [i64], times_bits: &'a [u8], times_start: usize,
     lengths: &mut [u64],
 ) -> u32
     ensures { LengthsServed repeat_room_counts 6 (given (repeat_lengths narrow (lent_from offsets rows rows_start values elements elements_start) (lent_arguments_from times times_bits times_start))) result lengths }
@@ -98,13 +98,13 @@ pub extern "C" fn duthlan_typed_list_repeat_lengths(
 #[unsafe(no_mangle)]
 #[rattlefmt::skip]
 pub extern "C" fn duthlan_typed_recipe_limits<'a>(
-    numbers: &[u32], columns: usize,
-    offsets: &[i32], rows: &[u8], rows_start: usize, values: &'a [i64], elements: &[u8], elements_start: usize,
-    second_offsets: &[i32], second_rows: &[u8], second_rows_start: usize, second_values: &'a [i64], second_elements: &[u8], second_elements_start: usize,
-    arguments: &[i64], argument_bits: &[u8], argument_start: usize,
+    numbers: &'a [u32], columns: usize,
+    offsets: &'a [i32], rows: &'a [u8], rows_start: usize, values: &'a [i64], elements: &'a [u8], elements_start: usize,
+    second_offsets: &'a [i32], second_rows: &'a [u8], second_rows_start: usize, second_values: &'a [i64], second_elements: &'a [u8], second_elements_start: usize,
+    arguments: &'a [i64], argument_bits: &'a [u8], argument_start: usize,
     limits: &mut [u64],
 ) -> u32
-    ensures { LengthsServed limit_counts 3 (given (recipe_limits narrow (recipe numbers.now columns) (lent_from offsets rows rows_start values elements elements_start) (lent_from second_offsets second_rows second_rows_start second_values second_elements second_elements_start) (lent_arguments_from arguments argument_bits argument_start))) result limits }
+    ensures { LengthsServed limit_counts 3 (given (recipe_limits narrow (recipe numbers.entry.now columns) (lent_from offsets rows rows_start values elements elements_start) (lent_from second_offsets second_rows second_rows_start second_values second_elements second_elements_start) (lent_arguments_from arguments argument_bits argument_start))) result limits }
 {
     duthlan::lengths::duthlan_typed_recipe_limits(
         numbers, columns,

@@ -1,5 +1,5 @@
-// The C entries but for their arrays: the code and the sizes are tested, slices decoded, the operation run, its answer encoded. An
-// inner crate: its callers meet what it asks.
+// The operations of the C entries over bytes: columns are decoded into arrays, and the operation run. An inner crate: its callers meet what it
+// asks.
 #![tactic(auto)]
 
 pub mod any_value;

@@ -1,7 +1,7 @@
 -- Laws of the tests of sizes.
 use mathlib.Core.Path.{◌≡◌, refl, sym, ◌∙◌}
 use mathlib.Core.Bool.{Bool, true, false, ◌||◌, or-false, or_assoc}
-use mathlib.Core.List.{List, [], ◌∷◌, ◌++◌}
+use mathlib.Core.List.{List, [], ◌∷◌, ◌++◌, append_assoc}
 use Prim.Native.Nat.{ℕ, ◌/◌, ◌≤◌}
 use native.Mathlib.Omega.{arith}
 use borrow.Author.Tests.{ltb-false}
@@ -11,6 +11,8 @@ use lib.Seq.{length-take-le}
 use Rattle.model.specs.Basics.{pick, any, All, none, more}
 use Rattle.entry.specs.Inner.{ListFits}
 use Rattle.entry.specs.Entry.{Numbers, most_offsets, most_values, most_rows, list_sizes, value_sizes, ragged, outsize, size_refusal}
+use Rattle.entry.specs.Misfits.{Tested}
+use Rattle.entry.specs.declared.sizes.Sizes.{Sizes}
 use Rattle.model.proofs.BoolLaws.{or_none}
 
 -- ---- the tests as the code joins them
@@ -19,10 +21,6 @@ pub any-one : {A : Type 0} (p : A → Bool) (x : A) {a : Bool} → a ≡ p x →
 unfolding any
 any-one p x f = rw f (sym (or-false (p x)))
 
-pub any-two : {A : Type 0} (p : A → Bool) (x y : A) {a b : Bool} → a ≡ p x → b ≡ p y → a || b ≡ any p (x ∷ y ∷ [])
-unfolding any
-any-two p x y f g = rw (f, g, or-false (p y))
-
 any_append : {A : Type 0} (p : A → Bool) (xs ys : List A) → any p xs || any p ys ≡ any p (xs ++ ys)
 unfolding any
 any_append p [] ys = refl
@@ -30,10 +28,6 @@ any_append p (x ∷ xs) ys = or_assoc (p x) (any p xs) (any p ys) ∙ rw (any_ap
 
 pub any_both : {A : Type 0} (p : A → Bool) (xs ys : List A) {a b : Bool} → a ≡ any p xs → b ≡ any p ys → a || b ≡ any p (xs ++ ys)
 any_both p xs ys f g = rw (f, g) (any_append p xs ys)
-
-pub refused_by_lem : (ss : List Numbers) (n k : ℕ) {r : ℕ} {a b : Bool} → a ≡ any ragged ss → b ≡ any outsize ss → r ≡ pick (a || ltb n k) 100 (pick b 101 0) → r ≡ size_refusal ss n k
-unfolding size_refusal
-refused_by_lem ss n k f g h = rw (← f, ← g) h
 
 -- ---- what follows where they refuse nothing
 
@@ -78,3 +72,28 @@ value_fits v (more p none) = p
 -- an array whose front was lent and came back has its length
 pub whole : {A : Type 0} (x l : List A) (n : ℕ) → n ≤ length l → length x ≡ length (take n l) → length (x ++ drop n l) ≡ length l
 whole x l n h e = omega (arith, length-append x (drop n l), length-drop n l, e, length-take-le n l h)
+
+-- ---- what the sizes of slices come to
+
+pub tested_none : Tested [] (record { is_ragged = false; is_outsize = false })
+unfolding any
+tested_none = record { ragged = refl; outsize = refl }
+
+pub tested_one : (ss : List Numbers) (n : Numbers) {a b : Bool} {s : Sizes} → Tested ss s → a ≡ ragged n → b ≡ outsize n → Tested (ss ++ (n ∷ [])) (record { is_ragged = s.is_ragged || a; is_outsize = s.is_outsize || b })
+tested_one ss n t p q = record { ragged = any_both ragged ss (n ∷ []) t.ragged (any-one ragged n p); outsize = any_both outsize ss (n ∷ []) t.outsize (any-one outsize n q) }
+
+pub tested_both : (ss : List Numbers) (n m : Numbers) {s : Sizes} → Tested ((ss ++ (n ∷ [])) ++ (m ∷ [])) s → Tested (ss ++ (n ∷ m ∷ [])) s
+tested_both ss n m t = rw (append_assoc ss (n ∷ []) (m ∷ [])) at t
+
+module _ (ss : List Numbers) (counts need : ℕ) {s : Sizes} (t : Tested ss s) where
+  pub tested_ragged : s.is_ragged || ltb counts need ≡ true → 100 ≡ size_refusal ss counts need
+  unfolding size_refusal
+  tested_ragged h = rw (← t.ragged, h)
+
+  pub tested_outsize : s.is_ragged || ltb counts need ≡ false → s.is_outsize ≡ true → 101 ≡ size_refusal ss counts need
+  unfolding size_refusal
+  tested_outsize h k = rw (← t.ragged, h, ← t.outsize, k)
+
+  pub tested_fit : s.is_ragged || ltb counts need ≡ false → s.is_outsize ≡ false → 0 ≡ size_refusal ss counts need
+  unfolding size_refusal
+  tested_fit h k = rw (← t.ragged, h, ← t.outsize, k)

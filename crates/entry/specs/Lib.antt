@@ -1,2 +1,4 @@
 pub mod Entry
 pub mod Inner
+pub mod Misfits
+pub mod Decoded

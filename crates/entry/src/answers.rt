@@ -8,21 +8,15 @@ use model::{ListAnswer, ListCounts, ValueAnswer, ValueCounts};
 use wire::encode;
 
 // The counts of a list answer, at the front of `counts`, and below those of a value answer.
-fn put_counts(
-    rows: usize,
-    elements: usize,
-    null_rows: usize,
-    null_elements: usize,
-    counts: &mut [u8],
-)
+fn put_counts(found: ListCounts, counts: &mut [u8])
     requires { 32 ≤ length counts.old }
-    ensures { counts.new ≡ over (bytes_of_counts (rows ∷ elements ∷ null_rows ∷ null_elements ∷ [])) counts.old }
+    ensures { counts.new ≡ over (bytes_of_counts (found.rows ∷ found.elements ∷ found.null_rows ∷ found.null_elements ∷ [])) counts.old }
 {
     let c = [
-        rows as u64,
-        elements as u64,
-        null_rows as u64,
-        null_elements as u64,
+        found.rows as u64,
+        found.elements as u64,
+        found.null_rows as u64,
+        found.null_elements as u64,
     ];
     encode(&c, counts);
 }
@@ -41,18 +35,11 @@ pub fn put_list(
 {
     match answer {
         Err(refusal) => u32::from(refusal),
-        Ok(
-            ListCounts {
-                rows,
-                elements,
-                null_rows,
-                null_elements,
-            },
-        ) => {
-            let n = rows + 1;
+        Ok(found) => {
+            let n = found.rows + 1;
             encode(&o[..n], out_offsets);
-            encode(&v[..elements], out_values);
-            put_counts(rows, elements, null_rows, null_elements, counts);
+            encode(&v[..found.elements], out_values);
+            put_counts(found, counts);
             0
         }
     }

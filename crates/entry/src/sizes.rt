@@ -1,7 +1,7 @@
-// The sizes of the entries' arrays, and their own refusals by the sizes, on lengths in bytes alone. 0 is none.
-ghost use Rattle.std.specs.Prelude.{◌/◌, ◌<◌, ◌++◌, ◌≡◌};
-ghost use Rattle.entry.specs.Entry.{list_sizes, numbers, outsize, ragged, size_refusal, value_sizes};
-ghost use Rattle.model.specs.Basics.{any, pick};
+// The sizes of the slices that an entry is lent, and its own refusals by them, on lengths in bytes alone.
+ghost use Rattle.std.specs.Prelude.{◌<◌, ◌/◌, ◌++◌, List, [], ◌∷◌, ◌≡◌};
+ghost use Rattle.entry.specs.Entry.{Numbers, list_sizes, numbers, size_refusal, value_sizes};
+ghost use Rattle.entry.specs.Misfits.{Tested, misfit_by, number_of_misfit};
 
 pub const MOST_OFFSETS: usize = 4097;
 
@@ -22,122 +22,80 @@ pub fn values_in(bytes: usize) -> usize
     bytes / 8
 }
 
-pub fn is_ragged(bytes: usize, width: usize) -> bool
-    requires { 0 < width }
-    ensures { result ≡ ragged (numbers width 0 bytes) }
-{
-    bytes % width != 0
+// Why an entry refuses a call before it looks at what is lent. Its number is what the entry returns.
+#[derive(Clone, Copy, Debug, PartialEq, Eq)]
+pub enum Misfit {
+    // A slice of numbers ends within one, or the counts have fewer bytes than they take.
+    Ragged = 100,
+    // A slice has more numbers than the entry takes.
+    Outsize = 101,
+    NoSuchOperation = 102,
 }
 
-pub fn is_outsize(bytes: usize, width: usize, most: usize) -> bool
-    requires { 0 < width }
-    ensures { result ≡ outsize (numbers width most bytes) }
-{
-    most < bytes / width
-}
+impl From<Misfit> for u32 {
+    ghost from_gives = { λ misfit number. number ≡ number_of_misfit misfit };
 
-// Of a list's offsets and values.
-pub fn is_list_ragged(offsets: usize, values: usize) -> bool
-    ensures { result ≡ any ragged (list_sizes offsets values) }
-{
-    is_ragged(offsets, 4) | is_ragged(values, 8)
-}
-
-pub fn is_list_outsize(offsets: usize, values: usize) -> bool
-    ensures { result ≡ any outsize (list_sizes offsets values) }
-{
-    is_outsize(offsets, 4, MOST_OFFSETS) | is_outsize(values, 8, MOST_VALUES)
-}
-
-// Of one value a row.
-pub fn is_value_ragged(values: usize) -> bool
-    ensures { result ≡ any ragged (value_sizes values) }
-{
-    is_ragged(values, 8)
-}
-
-pub fn is_value_outsize(values: usize) -> bool
-    ensures { result ≡ any outsize (value_sizes values) }
-{
-    is_outsize(values, 8, MOST_ROWS)
-}
-
-pub fn refusal(ragged: bool, outsize: bool) -> u32
-    ensures { result ≡ pick ragged 100 (pick outsize 101 0) }
-{
-    if ragged {
-        return 100;
+    fn from(misfit: Misfit) -> u32 {
+        misfit as u32
     }
-    if outsize {
-        return 101;
+}
+
+// What the sizes of the slices of numbers come to, one slice after another.
+#[derive(Clone, Copy)]
+pub struct Sizes {
+    // Whether one ends within a number.
+    is_ragged: bool,
+    // Whether one has more numbers than the entry takes.
+    is_outsize: bool,
+}
+
+impl Sizes {
+    // Of no slice.
+    pub fn none() -> Sizes
+        ensures { Tested [] result }
+    {
+        Sizes {
+            is_ragged: false,
+            is_outsize: false,
+        }
     }
-    0
-}
 
-// One list, and a list answer.
-pub fn list_refusal(
-    offsets: usize,
-    values: usize,
-    out_offsets: usize,
-    out_values: usize,
-    counts: usize,
-) -> u32
-    ensures { result ≡ size_refusal (list_sizes offsets values ++ list_sizes out_offsets out_values) counts 32 }
-{
-    let ragged = is_list_ragged(offsets, values)
-        | is_list_ragged(out_offsets, out_values)
-        | (counts < 32);
-    let outsize = is_list_outsize(offsets, values) | is_list_outsize(out_offsets, out_values);
-    refusal(ragged, outsize)
-}
+    // And of one: the bytes of a number, the most numbers that the entry takes, and the bytes lent.
+    pub fn numbers(self, width: usize, most: usize, bytes: usize) -> Sizes
+        requires { 0 < width }
+        ensures { (ss : List Numbers) → Tested ss self → Tested (ss ++ (numbers width most bytes ∷ [])) result }
+    {
+        Sizes {
+            is_ragged: self.is_ragged | (bytes % width != 0),
+            is_outsize: self.is_outsize | (most < bytes / width),
+        }
+    }
 
-// Two lists, and a list answer.
-pub fn lists_refusal(
-    l_offsets: usize,
-    l_values: usize,
-    r_offsets: usize,
-    r_values: usize,
-    out_offsets: usize,
-    out_values: usize,
-    counts: usize,
-) -> u32
-    ensures { result ≡ size_refusal ((list_sizes l_offsets l_values ++ list_sizes r_offsets r_values) ++ list_sizes out_offsets out_values) counts 32 }
-{
-    let ragged = is_list_ragged(l_offsets, l_values)
-        | is_list_ragged(r_offsets, r_values)
-        | is_list_ragged(out_offsets, out_values)
-        | (counts < 32);
-    let outsize = is_list_outsize(l_offsets, l_values)
-        | is_list_outsize(r_offsets, r_values)
-        | is_list_outsize(out_offsets, out_values);
-    refusal(ragged, outsize)
-}
+    // And of a list's offsets and values.
+    pub fn list(self, offsets: usize, values: usize) -> Sizes
+        ensures { (ss : List Numbers) → Tested ss self → Tested (ss ++ list_sizes offsets values) result }
+    {
+        self.numbers(4, MOST_OFFSETS, offsets)
+            .numbers(8, MOST_VALUES, values)
+    }
 
-// One list, and a value answer.
-pub fn any_value_refusal(offsets: usize, values: usize, out_values: usize, counts: usize) -> u32
-    ensures { result ≡ size_refusal (list_sizes offsets values ++ value_sizes out_values) counts 16 }
-{
-    let ragged = is_list_ragged(offsets, values) | is_value_ragged(out_values) | (counts < 16);
-    let outsize = is_list_outsize(offsets, values) | is_value_outsize(out_values);
-    refusal(ragged, outsize)
-}
+    // And of one value a row.
+    pub fn values(self, values: usize) -> Sizes
+        ensures { (ss : List Numbers) → Tested ss self → Tested (ss ++ value_sizes values) result }
+    {
+        self.numbers(8, MOST_ROWS, values)
+    }
 
-// One list, an argument column, and a value answer.
-pub fn element_refusal(
-    offsets: usize,
-    values: usize,
-    indexes: usize,
-    out_values: usize,
-    counts: usize,
-) -> u32
-    ensures { result ≡ size_refusal ((list_sizes offsets values ++ value_sizes indexes) ++ value_sizes out_values) counts 16 }
-{
-    let ragged = is_list_ragged(offsets, values)
-        | is_value_ragged(indexes)
-        | is_value_ragged(out_values)
-        | (counts < 16);
-    let outsize = is_list_outsize(offsets, values)
-        | is_value_outsize(indexes)
-        | is_value_outsize(out_values);
-    refusal(ragged, outsize)
+    // What they refuse, the counts having so many bytes and needing others.
+    pub fn refusal(self, counts: usize, need: usize) -> Result<(), Misfit>
+        ensures { (ss : List Numbers) → Tested ss self → misfit_by result ≡ size_refusal ss counts need }
+    {
+        if self.is_ragged | (counts < need) {
+            return Err(Misfit::Ragged);
+        }
+        if self.is_outsize {
+            return Err(Misfit::Outsize);
+        }
+        Ok(())
+    }
 }

@@ -1,4 +1,4 @@
--- The operations of each C entry, by document 01's codes (codes, specs/Codes.antt).
+-- The operations of each C entry, by the table of codes (codes, specs/Codes.antt).
 use Rattle.std.specs.Prelude.{ℕ, List, eqb, Option, Some, None}
 use Rattle.model.specs.Basics.{pick, Lent, absent, given}
 use Rattle.model.specs.Limits.{Limits, narrow}

@@ -1,8 +1,8 @@
 // What a grading decides by numbers and answers alone.
-ghost use Rattle.std.specs.Prelude.{◌-◌, eqb, ◌≡◌};
 ghost use Rattle.grade_rows.specs.Grades.{answered, early_of};
 ghost use Rattle.model.specs.Answers.{refused_by};
 ghost use Rattle.model.specs.Basics.{pick};
+ghost use Rattle.std.specs.Prelude.{◌-◌, eqb, ◌≡◌};
 
 use model::{ListAnswer, Refusal};
 

@@ -16,7 +16,7 @@ use Rattle.model.specs.Rows.{row_of}
 use Rattle.model.specs.declared.SetOp.{SetOp}
 use Rattle.model.proofs.ColumnLaws.{length-rows, row_at_lem}
 use Rattle.model.proofs.TabLaws.{length-tab, tab-step, tab-none, tab_ext, map-tab}
-use Rattle.hash_checks.specs.Area.{row_need, need_from, need_at, most_needed}
+use Rattle.hash_checks.specs.Area.{row_need, need_at, most_needed}
 use Rattle.hash_checks.specs.declared.HashOp.{HashOp}
 use Rattle.hash_checks.specs.declared.HashOp.TheVariants.{Distinct, Pair}
 
@@ -27,9 +27,6 @@ pub record Greatest (f : ℕ → ℕ) (n most r : ℕ) : Type 0 where
   pub low : most ≤ 4294967294
 
 module _ (f : ℕ → ℕ) (n : ℕ) where
-  pub greatest_begun : Greatest f n 0 0
-  greatest_begun = let e : n - 0 ≡ n = omega arith in record { same = rw e (omega arith); low = omega arith }
-
   more : (r : ℕ) → r < n → longest (tab f r (n - r)) ≡ max (f r) (longest (tab f (r + 1) (n - (r + 1))))
   unfolding longest
   more r h = let e : n - r - 1 ≡ n - (r + 1) = omega arith in ap longest (tab-step f r (n - r) (omega arith)) ∙ rw e
@@ -63,9 +60,9 @@ valid_le op true n m h k = need_le op n m h k
 valid_le op false n m h k = omega arith
 
 -- what the code finds for the rows r
-pub need_here : (op : HashOp) (c d : Column) (r p q u w : ℕ) (v : Bool) {k : ℕ} → p ≡ offset_at c.offsets r → q ≡ offset_at c.offsets (r + 1) → u ≡ offset_at d.offsets r → w ≡ offset_at d.offsets (r + 1) → v ≡ valid_at c.rows r && valid_at d.rows r → k ≡ pick v (row_need op (q - p) (w - u)) 0 → k ≡ need_at op c d r
-unfolding need_from
-need_here op c d r p q u w v hp hq hu hw hv hk = hk ∙ rw (hp, hq, hu, hw, hv)
+pub need_here : (op : HashOp) (c d : Column) (r n m : ℕ) {v : Bool} {k : ℕ} → n ≡ length_at c r → m ≡ length_at d r → v ≡ valid_at c.rows r && valid_at d.rows r → k ≡ pick v (row_need op n m) 0 → k ≡ need_at op c d r
+unfolding need_at
+need_here op c d r n m hn hm hv hk = hk ∙ rw (hn, hm, hv)
 
 -- ---- the definition's
 
@@ -82,7 +79,7 @@ pair_length_lem false w es fs = refl
 
 module _ (c : Column) where
   distinct-at : (r : ℕ) → length_of (row_at c r) ≡ need_at Distinct c c r
-  unfolding row_at need_from row_need
+  unfolding row_at need_at row_need
   distinct-at r = row_length (valid_at c.rows r) (tab (elem_at c.values c.elements) (offset_at c.offsets r) (length_at c r)) ∙ rw (length-tab (elem_at c.values c.elements) (offset_at c.offsets r) (length_at c r))
 
   pub needed_distinct : most_needed Distinct c c ≡ longest_in (distinct_of (rows_of c))
@@ -92,7 +89,7 @@ module _ (c : Column) where
 
 module _ (k : SetOp) (c d : Column) where
   pair_at_lem : (r : ℕ) → pair_length (row_at c r) (row_at d r) ≡ need_at (Pair k) c d r
-  unfolding row_at need_from row_need
+  unfolding row_at need_at row_need
   pair_at_lem r =
       pair_length_lem (valid_at c.rows r) (valid_at d.rows r) (tab (elem_at c.values c.elements) (offset_at c.offsets r) (length_at c r)) (tab (elem_at d.values d.elements) (offset_at d.offsets r) (length_at d r))
       ∙ rw (length-tab (elem_at c.values c.elements) (offset_at c.offsets r) (length_at c r), length-tab (elem_at d.values d.elements) (offset_at d.offsets r) (length_at d r))

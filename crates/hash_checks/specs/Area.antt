@@ -1,9 +1,9 @@
 -- What the operations with a work area make of a left row and a right one, how much of the area they need, and 8 of them. One walk goes by
 -- these for all three: distinct is lent its list on both sides.
-use Rattle.std.specs.Prelude.{ℕ, ◌+◌, ◌-◌, ◌&&◌, List}
+use Rattle.std.specs.Prelude.{ℕ, ◌+◌, ◌&&◌, List}
 use Rattle.model.specs.Basics.{pick, tab}
-use Rattle.model.specs.Bitmap.{Bits, valid_at}
-use Rattle.model.specs.Column.{Elem, Column, offset_at, row_count}
+use Rattle.model.specs.Bitmap.{valid_at}
+use Rattle.model.specs.Column.{Elem, Column, length_at, row_count}
 use Rattle.model.specs.Elements.{distinct, set_elems}
 use Rattle.model.specs.Hash.{longest}
 use Rattle.model.specs.Limits.{narrow}
@@ -21,12 +21,9 @@ unfoldable pub row_need : HashOp → ℕ → ℕ → ℕ
 row_need Distinct n m = n
 row_need (Pair k) n m = n + m
 
--- those of the rows r, which lie from a to b and from c to d: none where one of them is null
-unfoldable pub need_from : HashOp → Bits → Bits → ℕ → ℕ → ℕ → ℕ → ℕ → ℕ
-need_from op lb rb r a b c d = pick (valid_at lb r && valid_at rb r) (row_need op (b - a) (d - c)) 0
-
-abbrev pub need_at : HashOp → Column → Column → ℕ → ℕ
-need_at op c d r = need_from op c.rows d.rows r (offset_at c.offsets r) (offset_at c.offsets (r + 1)) (offset_at d.offsets r) (offset_at d.offsets (r + 1))
+-- those of the rows r: none where one of them is null
+unfoldable pub need_at : HashOp → Column → Column → ℕ → ℕ
+need_at op c d r = pick (valid_at c.rows r && valid_at d.rows r) (row_need op (length_at c r) (length_at d r)) 0
 
 unfoldable pub most_needed : HashOp → Column → Column → ℕ
 most_needed op c d = longest (tab (need_at op c d) 0 (row_count c.offsets))

@@ -2,17 +2,18 @@
 // refuses it. An inner crate: its callers meet what it asks.
 #![tactic(auto)]
 
-ghost use Rattle.std.specs.Prelude.{◌+◌, ◌≤◌, ltb, ◌≡◌};
+ghost use Rattle.std.specs.Prelude.{◌+◌, ◌<◌, ◌≤◌, ltb, ◌≡◌};
+ghost use Rattle.column.specs.Columns.{column_in};
 ghost use Rattle.column.specs.Put.{Readable};
 ghost use Rattle.hash_checks.specs.Area.{most_needed, op_refusal, row_need};
+ghost use Rattle.hash_checks.specs.Narrow.{narrow_numbers};
 ghost use Rattle.model.specs.Answers.{refused_by};
 ghost use Rattle.model.specs.Basics.{pick};
-ghost use Rattle.model.specs.Column.{row_count};
-ghost use Rattle.model.specs.Inner.{lent_from, now_column};
+ghost use Rattle.model.specs.Column.{length_at, row_count};
 ghost use Rattle.model.specs.Limits.{narrow};
 
-use column::offsets;
-use model::{Refusal, SetOp, Width};
+use column::lists::ListColumn;
+use model::{Refusal, SetOp};
 
 // The operations that take a work area: distinct, which looks at the left row alone, and those on two lists.
 #[derive(Clone, Copy)]
@@ -43,28 +44,29 @@ fn valid_need(op: HashOp, valid: bool, n: usize, m: usize) -> usize
     if valid { need_of(op, n, m) } else { 0 }
 }
 
+// The length of row r, whether it is valid or not.
+fn row_length(list: ListColumn<i32>, r: usize) -> usize
+    requires readable { Readable (column_in narrow_numbers list) }
+    requires there { r < row_count list.offsets.now }
+    ensures value { result ≡ length_at (column_in narrow_numbers list.entry) r }
+    ensures upper_bound { result ≤ narrow.offset }
+{
+    list.offset_at(r + 1) - list.offset_at(r)
+}
+
 // The elements of the longest row, or pair of rows, that counts.
-#[rattlefmt::skip]
-pub fn most_needed(
-    op: HashOp,
-    loffsets: &[i32], lrows: &[u8], l_rstart: usize, lvalues: &[i64], lelements: &[u8], l_estart: usize,
-    roffsets: &[i32], rrows: &[u8], r_rstart: usize, rvalues: &[i64], relements: &[u8], r_estart: usize,
-) -> usize
-    requires left { Readable (now_column loffsets lrows l_rstart lvalues lelements l_estart) }
-    requires right { Readable (now_column roffsets rrows r_rstart rvalues relements r_estart) }
-    requires equal { row_count roffsets.now ≡ row_count loffsets.now }
-    ensures value { result ≡ most_needed op (lent_from loffsets lrows l_rstart lvalues lelements l_estart) (lent_from roffsets rrows r_rstart rvalues relements r_estart) }
+pub fn most_needed(op: HashOp, left: ListColumn<i32>, right: ListColumn<i32>) -> usize
+    requires left { Readable (column_in narrow_numbers left) }
+    requires right { Readable (column_in narrow_numbers right) }
+    requires equal { row_count right.offsets.now ≡ row_count left.offsets.now }
+    ensures value { result ≡ most_needed op (column_in narrow_numbers left.entry) (column_in narrow_numbers right.entry) }
     ensures upper_bound { result ≤ 4294967294 }
 {
-    let n = offsets::row_count(loffsets);
+    let n = left.row_count();
     let mut most: usize = 0;
     for r in 0..n {
-        let a = offsets::offset_at(loffsets, r);
-        let b = offsets::offset_at(loffsets, r + 1);
-        let c = offsets::offset_at(roffsets, r);
-        let d = offsets::offset_at(roffsets, r + 1);
-        let valid = set_checks::are_valid(lrows, l_rstart, rrows, r_rstart, n, r);
-        let need = valid_need(op, valid, b - a, d - c);
+        let valid = set_checks::are_valid(left.rows, right.rows, n, r);
+        let need = valid_need(op, valid, row_length(left, r), row_length(right, r));
         most = most.max(need);
     }
     most
@@ -85,6 +87,6 @@ pub fn op_refusal(op: HashOp, m: usize) -> Result<(), Refusal>
 {
     match op {
         HashOp::Distinct => Ok(()),
-        HashOp::Pair(k) => set_checks::union_refusal(k, m, Width::Narrow),
+        HashOp::Pair(k) => set_checks::union_refusal::<i32>(k, m),
     }
 }

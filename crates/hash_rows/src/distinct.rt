@@ -1,98 +1,88 @@
 // Distinct of one row: first occurrences, by a table of the elements before.
 ghost use Rattle.std.specs.Prelude.{◌+◌, ◌<◌, ◌≤◌, length, ◌≡◌};
-ghost use Rattle.column.specs.Outputs.{ReadableElems, RoomForElems, Writes};
+ghost use Rattle.column.specs.Outputs.{RoomForElems, Writes};
+ghost use Rattle.hash_rows.specs.RunTables.{RunTable};
 ghost use Rattle.hash_slots.specs.Slots.{CleanFrom};
-ghost use Rattle.hash_tables.specs.Table.{Table, Within};
+ghost use Rattle.hash_tables.specs.Table.{Within};
 ghost use Rattle.model.specs.Elements.{distinct};
-ghost use Rattle.model.specs.Inner.{lent_elem, lent_elems, now_elems};
 ghost use Rattle.model.specs.Limits.{narrow};
+ghost use Rattle.set_rows.specs.Runs.{ReadableRun, run_elems};
 
-use column::elements;
+use column::elements::ValueOutput;
+use kept_elements::distinct;
+use set_rows::runs::Run;
 
-// How many of the n elements from element a on are first occurrences; their table is left.
-#[rattlefmt::skip]
-pub(crate) fn measure_new(
-    values: &[i64], elements: &[u8], estart: usize, a: usize, n: usize, area: &mut [u32], o: usize,
-) -> usize
-    requires row { ReadableElems values elements estart a n }
-    requires few { n < 4294967296 }
-    requires room { o + n + n ≤ length area.old }
+// How many of a row's elements are first occurrences; their table is left.
+pub(crate) fn measure_new(row: Run, area: &mut [u32], o: usize) -> usize
+    requires row { ReadableRun row }
+    requires few { row.count < 4294967296 }
+    requires room { o + row.count + row.count ≤ length area.old }
     requires clean { CleanFrom o area.old }
-    ensures value { result ≡ length (distinct (lent_elems values elements estart a n)) }
-    ensures table { Table (lent_elem values elements estart) a n n o area.new }
-    ensures within { Within o (o + n + n) area.old area.new }
+    ensures value { result ≡ length (distinct (run_elems row.entry)) }
+    ensures table { RunTable row.entry row.entry.count o area.new }
+    ensures within { Within o (o + row.entry.count + row.entry.count) area.old area.new }
 {
     let mut len: usize = 0;
-    for k in 0..n {
-        let new = hash_tables::enter(values, elements, estart, a, n, k, area, o);
+    for k in 0..row.count {
+        let new = hash_tables::enter(row.column, row.from, row.count, k, area, o);
         len += usize::from(new);
     }
     len
 }
 
-// Writes the first occurrences among the n elements from element a on; their table is left.
-#[rattlefmt::skip]
+// Writes the first occurrences among a row's elements; their table is left.
 pub(crate) fn write_new(
-    values: &[i64], elements: &[u8], estart: usize, a: usize, n: usize,
-    out_values: &mut [i64], out_elements: &mut [u8], at: usize, area: &mut [u32], o: usize,
+    row: Run,
+    out: &mut ValueOutput,
+    at: usize,
+    area: &mut [u32],
+    o: usize,
 ) -> usize
-    requires row { ReadableElems values elements estart a n }
-    requires place { RoomForElems (distinct (now_elems values elements estart a n)) at out_values out_elements }
-    requires few { n < 4294967296 }
-    requires room { o + n + n ≤ length area.old }
+    requires row { ReadableRun row }
+    requires place { RoomForElems (distinct (run_elems row)) at out.old }
+    requires few { row.count < 4294967296 }
+    requires room { o + row.count + row.count ≤ length area.old }
     requires clean { CleanFrom o area.old }
-    ensures writes { Writes (distinct (lent_elems values elements estart a n)) at out_values out_elements result }
-    ensures table { Table (lent_elem values elements estart) a n n o area.new }
-    ensures within { Within o (o + n + n) area.old area.new }
+    ensures writes { Writes (distinct (run_elems row.entry)) at out.old out.new result }
+    ensures table { RunTable row.entry row.entry.count o area.new }
+    ensures within { Within o (o + row.entry.count + row.entry.count) area.old area.new }
 {
     let mut p = at;
-    for k in 0..n {
-        if hash_tables::enter(values, elements, estart, a, n, k, area, o) {
-            let i = a + k;
-            elements::write_elem(values, elements, estart, i, out_values, out_elements, p);
+    for k in 0..row.count {
+        if hash_tables::enter(row.column, row.from, row.count, k, area, o) {
+            out.put_elem(row.column, row.from + k, p);
             p += 1;
         }
     }
     p
 }
 
-// How many of the n elements from element a on are first occurrences.
-fn measure_distinct(
-    values: &[i64],
-    elements: &[u8],
-    estart: usize,
-    a: usize,
-    n: usize,
-    area: &mut [u32],
-) -> usize
-    requires row { ReadableElems values elements estart a n }
-    requires few { n < 4294967296 }
-    requires room { n + n ≤ length area.old }
+// How many of a row's elements are first occurrences.
+fn measure_distinct(row: Run, area: &mut [u32]) -> usize
+    requires row { ReadableRun row }
+    requires few { row.count < 4294967296 }
+    requires room { row.count + row.count ≤ length area.old }
     requires clean { CleanFrom 0 area.old }
-    ensures value { result ≡ length (distinct (lent_elems values elements estart a n)) }
+    ensures value { result ≡ length (distinct (run_elems row.entry)) }
     ensures clean_from { CleanFrom 0 area.new }
 {
-    let len = measure_new(values, elements, estart, a, n, area, 0);
-    hash_slots::clear_tables(area, n, 0);
+    let len = measure_new(row, area, 0);
+    hash_slots::clear_tables(area, row.count, 0);
     len
 }
 
-// Writes the first occurrences among the n elements from element a on.
-#[rattlefmt::skip]
-fn write_distinct(
-    values: &[i64], elements: &[u8], estart: usize, a: usize, n: usize,
-    out_values: &mut [i64], out_elements: &mut [u8], at: usize, area: &mut [u32],
-) -> usize
-    requires row { ReadableElems values elements estart a n }
-    requires place { RoomForElems (distinct (now_elems values elements estart a n)) at out_values out_elements }
-    requires few { n < 4294967296 }
-    requires room { n + n ≤ length area.old }
+// Writes the first occurrences among a row's elements.
+fn write_distinct(row: Run, out: &mut ValueOutput, at: usize, area: &mut [u32]) -> usize
+    requires row { ReadableRun row }
+    requires place { RoomForElems (distinct (run_elems row)) at out.old }
+    requires few { row.count < 4294967296 }
+    requires room { row.count + row.count ≤ length area.old }
     requires clean { CleanFrom 0 area.old }
-    ensures writes { Writes (distinct (lent_elems values elements estart a n)) at out_values out_elements result }
+    ensures writes { Writes (distinct (run_elems row.entry)) at out.old out.new result }
     ensures clean_from { CleanFrom 0 area.new }
 {
-    let end = write_new(values, elements, estart, a, n, out_values, out_elements, at, area, 0);
-    hash_slots::clear_tables(area, n, 0);
+    let end = write_new(row, out, at, area, 0);
+    hash_slots::clear_tables(area, row.count, 0);
     end
 }
 
@@ -100,43 +90,32 @@ fn write_distinct(
 const FEW: usize = 32;
 
 // How many first occurrences there are, counted as is quicker.
-pub(crate) fn measure_first(
-    values: &[i64],
-    elements: &[u8],
-    estart: usize,
-    a: usize,
-    n: usize,
-    area: &mut [u32],
-) -> usize
-    requires row { ReadableElems values elements estart a n }
-    requires few { n ≤ narrow.offset }
-    requires room { n + n ≤ length area.old }
+pub(crate) fn measure_first(row: Run, area: &mut [u32]) -> usize
+    requires row { ReadableRun row }
+    requires few { row.count ≤ narrow.offset }
+    requires room { row.count + row.count ≤ length area.old }
     requires clean { CleanFrom 0 area.old }
-    ensures value { result ≡ length (distinct (lent_elems values elements estart a n)) }
+    ensures value { result ≡ length (distinct (run_elems row.entry)) }
     ensures clean_from { CleanFrom 0 area.new }
 {
-    if n < FEW {
-        return kept_elements::distinct::measure_distinct(values, elements, estart, a, n);
+    if row.count < FEW {
+        return distinct::measure_distinct(row.column, row.from, row.count);
     }
-    measure_distinct(values, elements, estart, a, n, area)
+    measure_distinct(row, area)
 }
 
 // Writes them.
-#[rattlefmt::skip]
-pub(crate) fn write_first(
-    values: &[i64], elements: &[u8], estart: usize, a: usize, n: usize,
-    out_values: &mut [i64], out_elements: &mut [u8], at: usize, area: &mut [u32],
-) -> usize
-    requires row { ReadableElems values elements estart a n }
-    requires place { RoomForElems (distinct (now_elems values elements estart a n)) at out_values out_elements }
-    requires few { n ≤ narrow.offset }
-    requires room { n + n ≤ length area.old }
+pub(crate) fn write_first(row: Run, out: &mut ValueOutput, at: usize, area: &mut [u32]) -> usize
+    requires row { ReadableRun row }
+    requires place { RoomForElems (distinct (run_elems row)) at out.old }
+    requires few { row.count ≤ narrow.offset }
+    requires room { row.count + row.count ≤ length area.old }
     requires clean { CleanFrom 0 area.old }
-    ensures writes { Writes (distinct (lent_elems values elements estart a n)) at out_values out_elements result }
+    ensures writes { Writes (distinct (run_elems row.entry)) at out.old out.new result }
     ensures clean_from { CleanFrom 0 area.new }
 {
-    if n < FEW {
-        return kept_elements::distinct::write_distinct(values, elements, estart, a, n, out_values, out_elements, at);
+    if row.count < FEW {
+        return distinct::write_distinct(row.column, row.from, row.count, out, at);
     }
-    write_distinct(values, elements, estart, a, n, out_values, out_elements, at, area)
+    write_distinct(row, out, at, area)
 }

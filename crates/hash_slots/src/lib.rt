@@ -2,11 +2,14 @@
 // the place of an element in its row, or 0. An inner crate: its callers meet what it asks.
 #![tactic(auto)]
 
-ghost use Rattle.std.specs.Prelude.{◌+◌, ◌<◌, ◌≤◌, length, replicate, ◌≡◌};
 ghost use Rattle.bitmap.specs.Push.{Covers};
+ghost use Rattle.bitmap.specs.Reads.{bits_in};
+ghost use Rattle.column.specs.Columns.{elem_in};
 ghost use Rattle.hash_slots.specs.Slots.{CleanFrom, entered, head_of};
 ghost use Rattle.model.specs.Column.{val};
-ghost use Rattle.model.specs.Inner.{lent_elem, now_bits};
+ghost use Rattle.std.specs.Prelude.{◌+◌, ◌<◌, ◌≤◌, length, replicate, ◌≡◌};
+
+use column::elements::ValueColumn;
 
 // A slot as a place.
 pub fn wide(x: u32) -> usize
@@ -29,14 +32,14 @@ fn head_of_value(v: i64, n: usize) -> usize
 
 // The head of element i among n heads: a null's is the first, whatever number lies under it.
 #[tactic(auto, using(column::proofs::RowLaws::elem_valid, column::proofs::RowLaws::elem_null), unfolding(crate::specs::Slots::head_of))]
-pub fn head_of(values: &[i64], elements: &[u8], estart: usize, i: usize, n: usize) -> usize
-    requires there { i < length values.now }
-    requires bits { Covers (now_bits elements estart) (length values.now) }
+pub fn head_of(elements: ValueColumn, i: usize, n: usize) -> usize
+    requires there { i < length elements.values.now }
+    requires bits { Covers (bits_in elements.bits) (length elements.values.now) }
     requires few { n < 4294967296 }
-    ensures { result ≡ head_of n (lent_elem values elements estart i) }
+    ensures { result ≡ head_of n (elem_in elements.entry i) }
 {
-    if bitmap::is_valid(elements, estart, i, values.len()) {
-        return head_of_value(values[i], n);
+    if elements.bits.is_valid(i, elements.values.len()) {
+        return head_of_value(elements.values[i], n);
     }
     0
 }

@@ -9,8 +9,8 @@ use borrow.Author.Tests.{ltb-false}
 use lib.Dec.{ltb}
 use lib.ListN.{length}
 use Rattle.model.specs.Basics.{tab, pick}
-use Rattle.model.specs.Bitmap.{Bits, valid_at}
-use Rattle.model.specs.Column.{Elem, Row, null_row, list_row, Column, rows_of, row_at, elem_at, offset_at, row_count}
+use Rattle.model.specs.Bitmap.{valid_at}
+use Rattle.model.specs.Column.{Elem, Row, null_row, list_row, Column, rows_of, row_at, length_at, offset_at, row_count}
 use Rattle.model.specs.Elements.{distinct, unary_elems}
 use Rattle.model.specs.Form.{Room, elems_of, flat}
 use Rattle.model.specs.Hash.{distinct_of, set_of, plain_of, on_hashed, lists_hashed, short_area, hashed_shown, hashed_outcome}
@@ -26,12 +26,13 @@ use Rattle.model.proofs.ColumnLaws.{length-rows, row_at_lem}
 use Rattle.model.proofs.EarlyLaws.{gates}
 use Rattle.model.proofs.OutcomeLaws.{gate_open, gate_shut}
 use Rattle.column.specs.Put.{RoomInˡ}
-use Rattle.column.specs.Rows.{row_from}
 use Rattle.column.proofs.WalkLaws.{Summing, sum_more}
 use Rattle.set_rows.proofs.SetLaws.{firsts-kept, kept_le}
-use Rattle.set_walk.specs.Pairs.{pair_rows}
-use Rattle.set_walk.proofs.SetLaws.{made_le, pair_le, same_pair, bound_grows, bound_small, set_after, united}
-use Rattle.hash_checks.specs.Area.{hash_elems, row_need, need_from, need_at, most_needed, op_refusal}
+use Rattle.set_rows.specs.Runs.{row_elems}
+use Rattle.set_rows.proofs.RunLaws.{length_row}
+use Rattle.set_walk.specs.Pairs.{Begun, pair_rows}
+use Rattle.set_walk.proofs.SetLaws.{made, made_le, pair_le, rises, bound_grows, bound_between, bound_small, set_after, united}
+use Rattle.hash_checks.specs.Area.{hash_elems, row_need, need_at, most_needed, op_refusal}
 use Rattle.hash_checks.specs.declared.HashOp.{HashOp}
 use Rattle.hash_checks.specs.declared.HashOp.TheVariants.{Distinct, Pair}
 use Rattle.hash_checks.proofs.AreaLaws.{longest_ge, needed_distinct, needed_pair}
@@ -42,18 +43,20 @@ use Rattle.hash_walk.specs.Hashes.{hash_at, hash_rows, hash_bound, hash_after}
 distinct_le : (es : List Elem) → length (distinct es) ≤ length es
 distinct_le es = rw (firsts-kept [] [] es) (kept_le false [] [] es)
 
-pub hash_le : (op : HashOp) (E F : ℕ → Elem) (a b c d : ℕ) → a ≤ b → c ≤ d → length (hash_elems op (tab E a (b - a)) (tab F c (d - c))) ≤ hash_bound op b d - hash_bound op a c
+hash_le : (op : HashOp) (c d : Column) (r : ℕ) → length (made (hash_elems op) c d r) ≤ hash_bound op (length_at c r) (length_at d r)
 unfolding hash_elems hash_bound
-hash_le Distinct E F a b c d h k = omega (arith, distinct_le (tab E a (b - a)), length-tab E a (b - a))
-hash_le (Pair s) E F a b c d h k = made_le s E F a b c d h k
+hash_le Distinct c d r = omega (arith, distinct_le (row_elems c r), length_row c r)
+hash_le (Pair s) c d r = made_le s c d r
 
-pub hash_grows : (op : HashOp) {a b c d : ℕ} → a ≤ b → c ≤ d → hash_bound op a c ≤ hash_bound op b d
+hash_grows : (op : HashOp) {a b c d : ℕ} → a ≤ b → c ≤ d → hash_bound op a c ≤ hash_bound op b d
 unfolding hash_bound
 hash_grows Distinct h k = h
 hash_grows (Pair s) h k = bound_grows s h k
 
-pub hash_same : (op : HashOp) {a b c d : ℕ} → a ≡ b → c ≡ d → hash_bound op b d ≡ hash_bound op a c
-hash_same op h k = rw (h, k)
+hash_between : (op : HashOp) {a b c d : ℕ} → a ≤ b → c ≤ d → hash_bound op (b - a) (d - c) ≡ hash_bound op b d - hash_bound op a c
+unfolding hash_bound
+hash_between Distinct h k = refl
+hash_between (Pair s) h k = bound_between s h k
 
 pub hash_small : (op : HashOp) → hash_bound op narrow.offset narrow.offset ≤ 18446744073709551614
 unfolding hash_bound
@@ -67,17 +70,17 @@ held Distinct k m e h z = omega arith
 held (Pair s) k m e h z = united narrow s m (omega arith) (rw e at h) z
 
 -- the work area holds twice what the rows r need
-pub need_fits : (op : HashOp) (c d : Column) (n r p q u w slots : ℕ) → n ≡ row_count c.offsets → r < n → p ≡ offset_at c.offsets r → q ≡ offset_at c.offsets (r + 1) → u ≡ offset_at d.offsets r → w ≡ offset_at d.offsets (r + 1) → most_needed op c d + most_needed op c d ≤ slots → need_from op c.rows d.rows r p q u w + need_from op c.rows d.rows r p q u w ≤ slots
+pub need_fits : (op : HashOp) (c d : Column) (r slots : ℕ) → r < row_count c.offsets → most_needed op c d + most_needed op c d ≤ slots → need_at op c d r + need_at op c d r ≤ slots
 unfolding most_needed
-need_fits op c d n r p q u w slots e h hp hq hu hw s =
-    let g = longest_ge (need_at op c d) 0 (row_count c.offsets) r (omega arith) in
+need_fits op c d r slots h s =
+    let g = longest_ge (need_at op c d) 0 (row_count c.offsets) r h in
     let k = rw (zero-add r) at g in
-    rw (hp, hq, hu, hw) (omega (arith, s, k))
+    omega (arith, s, k)
 
 -- where both are valid, it is their elements
-pub need_valid : (op : HashOp) (lb rb : Bits) (r a b c d : ℕ) (v : Bool) (slots : ℕ) → v ≡ valid_at lb r && valid_at rb r → v ≡ true → need_from op lb rb r a b c d + need_from op lb rb r a b c d ≤ slots → row_need op (b - a) (d - c) + row_need op (b - a) (d - c) ≤ slots
-unfolding need_from
-need_valid op lb rb r a b c d v slots e f h = rw (← e, f) at h
+pub need_valid : (op : HashOp) (c d : Column) (r n m slots : ℕ) {v : Bool} → v ≡ valid_at c.rows r && valid_at d.rows r → v ≡ true → n ≡ length_at c r → m ≡ length_at d r → need_at op c d r + need_at op c d r ≤ slots → row_need op n m + row_need op n m ≤ slots
+unfolding need_at
+need_valid op c d r n m slots e f p q h = rw (p, q) (rw (← e, f) at h)
 
 -- ---- the rows made, counted by the code's n
 
@@ -171,16 +174,14 @@ module _ (op : SetOp) (c d : Column) (slots : ℕ) (l : Room) where
 
 -- ---- the measuring walk after one more pair of rows
 
-pub hash_more : (op : HashOp) (c d : Column) (n r k p q u w : ℕ) {found : ℕ} → Summing (hash_at op c d) n (hash_bound op (offset_at c.offsets r) (offset_at d.offsets r)) (hash_bound op narrow.offset narrow.offset) found r (n - r) → r < n
-    → p ≡ offset_at c.offsets r → q ≡ offset_at c.offsets (r + 1) → u ≡ offset_at d.offsets r → w ≡ offset_at d.offsets (r + 1) → p ≤ q → u ≤ w → q ≤ narrow.offset → w ≤ narrow.offset
-    → k ≡ length (elems_of (on_rows (hash_elems op) (row_from c.rows (elem_at c.values c.elements) r p q) (row_from d.rows (elem_at d.values d.elements) r u w)))
+pub hash_more : (op : HashOp) (c d : Column) (n r k : ℕ) {found : ℕ} → Begun c d → n ≡ row_count c.offsets → Summing (hash_at op c d) n (hash_bound op (offset_at c.offsets r) (offset_at d.offsets r)) (hash_bound op narrow.offset narrow.offset) found r (n - r) → r < n
+    → offset_at c.offsets (r + 1) ≤ narrow.offset → offset_at d.offsets (r + 1) ≤ narrow.offset → k ≡ length (elems_of (hash_at op c d r))
     → Summing (hash_at op c d) n (hash_bound op (offset_at c.offsets (r + 1)) (offset_at d.offsets (r + 1))) (hash_bound op narrow.offset narrow.offset) (found + k) (r + 1) (n - (r + 1))
-hash_more op c d n r k p q u w s h hp hq hu hw i j x y e =
+hash_more op c d n r k b e s h x y q =
     let m : n - (r + 1) ≡ n - r - 1 = omega arith in
-    let E = elem_at c.values c.elements in
-    let F = elem_at d.values d.elements in
-    rw (m, ← hq, ← hw)
-    (sum_more (hash_at op c d) n (hash_bound op narrow.offset narrow.offset) k (hash_bound op p u) (hash_bound op q w) s (omega arith)
-    (e ∙ ap (λ (z : Row). length (elems_of z)) (same_pair (hash_elems op) c d r p q u w hp hq hu hw))
-    (rw e (pair_le (hash_elems op) c.rows d.rows E F r p q u w _ (hash_le op E F p q u w i j)))
-    (hash_grows op i j) (hash_same op hp hu) (hash_grows op x y))
+    let i = rises c r b.left (omega arith) in
+    let j = rises d r b.right (omega (arith, b.equal)) in
+    rw m
+    (sum_more (hash_at op c d) n (hash_bound op narrow.offset narrow.offset) k _ _ s (omega arith) q
+    (rw (q, ← hash_between op i j) (pair_le (hash_elems op) c d r _ (hash_le op c d r)))
+    (hash_grows op i j) refl (hash_grows op x y))

@@ -1,7 +1,7 @@
 -- The plan of a slice and its stride as the code has them, and what the code's inner functions ask and tell.
-use Rattle.std.specs.Prelude.{ℕ, ◌<◌, eqb, Option, None, Some, Result, Ok, Err, Bool, true, false, ◌≡◌, T, ℤ, pos, negsuc, nat_abs}
+use Rattle.std.specs.Prelude.{ℕ, ◌*◌, ◌<◌, eqb, Option, None, Some, Result, Ok, Err, Bool, true, false, ◌≡◌, T, ℤ, pos, negsuc, nat_abs}
 use Rattle.std.specs.Int.Signed.{non_neg}
-use Rattle.model.specs.Limits.{Limits}
+use Rattle.model.specs.Limits.{Limits, InRange}
 use Rattle.model.specs.Column.{count}
 use Rattle.model.specs.Slice.{Bound, outside, place, Plan, refuse, empty, places, against, is_zero}
 use Rattle.model.specs.Basics.{pick}
@@ -32,6 +32,11 @@ unfoldable pub place_told : ℤ → Bound
 place_told (pos p) = place p
 place_told (negsuc p) = outside
 
+-- the length of a row, as a signed number
+pub record IsLength (L : Limits) (x : ℤ) : Type 0 where
+  pub natural : T (non_neg x)
+  pub range : InRange L x
+
 -- a place of the longest row, as a signed number
 pub record IsPlace (L : Limits) (x : ℤ) : Type 0 where
   pub natural : T (non_neg x)
@@ -41,6 +46,12 @@ pub record IsPlace (L : Limits) (x : ℤ) : Type 0 where
 unfoldable pub is_below : ℤ → Bool
 is_below (pos k) = false
 is_below (negsuc k) = true
+
+-- eight times a stride below 0, as a signed number
+pub record Eight (L : Limits) (s z : ℤ) : Type 0 where
+  pub below : is_below z ≡ true
+  pub size : nat_abs z ≡ nat_abs s * 8
+  pub range : InRange L z
 
 -- a stride that leads from the place a to the place b
 pub record Suits (L : Limits) (a b s : ℤ) : Type 0 where

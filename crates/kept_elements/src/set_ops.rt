@@ -1,37 +1,33 @@
 // What union and intersect ask of one element and of two rows.
 // After set_ops.rs of datafusion-functions-nested 55.2.0, Apache License 2.0, Apache Software Foundation; changed, see NOTICE.
-ghost use Rattle.std.specs.Prelude.{◌+◌, ◌<◌, ltb, length, ◌≡◌};
+ghost use Rattle.column.specs.Columns.{elem_in, elems_in};
 ghost use Rattle.column.specs.Outputs.{ReadableElems};
 ghost use Rattle.model.specs.Basics.{pick};
-ghost use Rattle.model.specs.Inner.{lent_elem, lent_elems};
 ghost use Rattle.set_elements.specs.Pairs.{keeps};
+ghost use Rattle.std.specs.Prelude.{◌+◌, ◌<◌, ltb, length, ◌≡◌};
+
+use column::elements::ValueColumn;
 
 // Whether element a + k is kept of its row: it is not among the k elements before it, and it is among the others where shared
 // ones are wanted, and is not where new ones are.
 pub fn is_kept(
-    values: &[i64],
-    elements: &[u8],
-    estart: usize,
+    elements: ValueColumn,
     a: usize,
     k: usize,
-    others: &[i64],
-    oelements: &[u8],
-    ostart: usize,
+    others: ValueColumn,
     b: usize,
     m: usize,
     shared: bool,
 ) -> bool
-    requires row { ReadableElems values elements estart a (k + 1) }
-    requires other { ReadableElems others oelements ostart b m }
-    ensures { result ≡ keeps shared (lent_elems others oelements ostart b m) (lent_elems values elements estart a k) (lent_elem values elements estart (a + k)) }
+    requires row { ReadableElems elements a (k + 1) }
+    requires other { ReadableElems others b m }
+    ensures { result ≡ keeps shared (elems_in others.entry b m) (elems_in elements.entry a k) (elem_in elements.entry (a + k)) }
 {
     let i = a + k;
-    if set_elements::is_among(values, elements, estart, i, values, elements, estart, a, k) {
+    if set_elements::is_among(elements, i, elements, a, k) {
         return false;
     }
-    let found = set_elements::is_among(
-        values, elements, estart, i, others, oelements, ostart, b, m,
-    );
+    let found = set_elements::is_among(elements, i, others, b, m);
     if shared { found } else { !found }
 }
 

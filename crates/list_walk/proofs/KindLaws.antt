@@ -49,9 +49,6 @@ module _ (N : Limits) (op : ListOp) (c : Column) (x y z : Arguments) where
   pub plain_kind : (u : Unary) → op ≡ L.Plain u → call_rows N op c x y z ≡ plain_rows N u c
   plain_kind u e = rw e (plain-any N u c x y z)
 
-  pub replace_kind : op ≡ L.Replace → call_rows N op c x y z ≡ call_rows N L.Replace c x y z
-  replace_kind e = rw e
-
   pub remove_kind : op ≡ L.Remove → call_rows N op c x y z ≡ call_rows N L.Remove c x y none
   remove_kind e = rw e (third-rows x y z none N c)
 
@@ -78,9 +75,6 @@ module _ (N : Limits) (op : ListOp) (c : Column) (x y z : Arguments) where
   remove-total m e l = rw (e, l) (sym (remove-measured N c x y z ∙ rw (third-rows x y z none N c)))
 
 -- ---- the arguments that are taken
-
-pub replace_takes : {op : ListOp} {n : ℕ} {x y z : Arguments} → op ≡ L.Replace → Served op n x y z → Served L.Replace n x y z
-replace_takes e s = rw e at s
 
 pub remove_takes : {op : ListOp} {n : ℕ} {x y z : Arguments} → op ≡ L.Remove → Served op n x y z → Served L.Remove n x y none
 remove_takes {x = x} {y = y} {z = z} e s = third-served x y z none (rw e at s)

@@ -1,268 +1,109 @@
 // Taking out of rows: one element, the first valid one, a slice, or all but the first or the last.
 // After extract.rs of datafusion-functions-nested 55.2.0, Apache License 2.0, Apache Software Foundation; changed, see NOTICE.
+ghost use Rattle.column.specs.Columns.{column_in, lent_in, values_in};
+ghost use Rattle.column.specs.Outputs.{ListAnswers, ValueAnswers};
 ghost use Rattle.model.specs.Asked.{asked_list, asked_values};
-ghost use Rattle.model.specs.Contract.{ListAnswers, ValueAnswers, lent_if};
-ghost use Rattle.model.specs.Inner.{lent_arguments_from, lent_from};
 ghost use Rattle.model.specs.Lengths.{any_value_lengths, element_lengths, list_lengths};
-ghost use Rattle.model.specs.Limits.{narrow};
 ghost use Rattle.model.specs.Outcome.{any_value_outcome, element_outcome, list_outcome};
 ghost use Rattle.model.specs.Rows.{slice, unary};
 ghost use Rattle.std.specs.Prelude.{◌≡◌};
 
 use crate::plain;
-use model::{ListAnswer, ListLengths, Optional, Unary, ValueAnswer, ValueLengths, Width};
+use column::elements::{ValueColumn, ValueOutput};
+use column::lists::{ListColumn, ListOutput};
+use model::offsets::Offset;
+use model::{ListAnswer, ListLengths, Unary, ValueAnswer, ValueLengths};
+use ops::ListOp;
 
 // The first valid element of each row.
-pub fn general_array_any_value(
-    offsets: &[i32],
-    rows: &[u8],
-    rows_start: usize,
-    values: &[i64],
-    elements: &[u8],
-    elements_start: usize,
-    out_values: &mut [i64],
-    out_rows: &mut [u8],
-) -> ValueAnswer
-    ensures { ValueAnswers (any_value_outcome (lent_from offsets rows rows_start values elements elements_start)) result out_values out_rows }
+pub fn general_array_any_value<O: Offset>(list: ListColumn<O>, out: &mut ValueOutput) -> ValueAnswer
+    ensures { ValueAnswers (any_value_outcome (column_in O.numbers list.entry)) result out.old out.new }
 {
-    value_run::any_value(
-        offsets,
-        rows,
-        rows_start,
-        values,
-        elements,
-        elements_start,
-        out_values,
-        out_rows,
-        Width::Narrow,
-        values,
-    )
+    value_run::any_value(list, out)
 }
 
 // One value for each row, whatever the rows hold.
-pub fn general_array_any_value_lengths(
-    offsets: &[i32],
-    rows: &[u8],
-    rows_start: usize,
-    values: &[i64],
-    elements: &[u8],
-    elements_start: usize,
-) -> ValueLengths
-    ensures { asked_values result ≡ any_value_lengths (lent_from offsets rows rows_start values elements elements_start) }
+pub fn general_array_any_value_lengths<O: Offset>(list: ListColumn<O>) -> ValueLengths
+    ensures { asked_values result ≡ any_value_lengths (column_in O.numbers list.entry) }
 {
-    value_run::any_value_lengths(
-        offsets,
-        rows,
-        rows_start,
-        values,
-        elements,
-        elements_start,
-        Width::Narrow,
-        values,
-    )
+    value_run::any_value_lengths(list)
 }
 
 // The element of each row that its index names.
-pub fn general_array_element(
-    offsets: &[i32],
-    rows: &[u8],
-    rows_start: usize,
-    values: &[i64],
-    elements: &[u8],
-    elements_start: usize,
-    indexes: &[i64],
-    index_bits: &[u8],
-    index_start: usize,
-    out_values: &mut [i64],
-    out_rows: &mut [u8],
+pub fn general_array_element<O: Offset>(
+    list: ListColumn<O>,
+    indexes: ValueColumn,
+    out: &mut ValueOutput,
 ) -> ValueAnswer
-    ensures { ValueAnswers (element_outcome narrow (lent_from offsets rows rows_start values elements elements_start) (lent_arguments_from indexes index_bits index_start)) result out_values out_rows }
+    ensures { ValueAnswers (element_outcome O.LIMITS (column_in O.numbers list.entry) (values_in indexes.entry)) result out.old out.new }
 {
-    value_run::element(
-        offsets,
-        rows,
-        rows_start,
-        values,
-        elements,
-        elements_start,
-        indexes,
-        index_bits,
-        index_start,
-        out_values,
-        out_rows,
-        Width::Narrow,
-        values,
-    )
+    value_run::element(list, indexes, out)
 }
 
 // Again one value for each row; the indexes are looked at for the refusals alone.
-pub fn general_array_element_lengths(
-    offsets: &[i32],
-    rows: &[u8],
-    rows_start: usize,
-    values: &[i64],
-    elements: &[u8],
-    elements_start: usize,
-    indexes: &[i64],
-    index_bits: &[u8],
-    index_start: usize,
+pub fn general_array_element_lengths<O: Offset>(
+    list: ListColumn<O>,
+    indexes: ValueColumn,
 ) -> ValueLengths
-    ensures { asked_values result ≡ element_lengths narrow (lent_from offsets rows rows_start values elements elements_start) (lent_arguments_from indexes index_bits index_start) }
+    ensures { asked_values result ≡ element_lengths O.LIMITS (column_in O.numbers list.entry) (values_in indexes.entry) }
 {
-    value_run::element_lengths(
-        offsets,
-        rows,
-        rows_start,
-        values,
-        elements,
-        elements_start,
-        indexes,
-        index_bits,
-        index_start,
-        Width::Narrow,
-        values,
-    )
+    value_run::element_lengths(list, indexes)
 }
 
-// The part of each row between two bounds, by a stride; without a stride, its slices and its starting bit are not looked at.
-#[rattlefmt::skip]
-pub fn general_array_slice(
-    offsets: &[i32], rows: &[u8], rows_start: usize, values: &[i64], elements: &[u8], elements_start: usize,
-    from_array: &[i64], from_bits: &[u8], from_start: usize,
-    to_array: &[i64], to_bits: &[u8], to_start: usize,
-    stride: Optional, stride_array: &[i64], stride_bits: &[u8], stride_start: usize,
-    out_offsets: &mut [i32], out_rows: &mut [u8], out_values: &mut [i64], out_elements: &mut [u8],
+// The part of each row between two bounds, by a stride; without one, by 1.
+#[tactic(auto, unfolding(column::specs::Columns::lent_in, ops::specs::Ops::call_of))]
+pub fn general_array_slice<O: Offset>(
+    list: ListColumn<O>,
+    from_array: ValueColumn,
+    to_array: ValueColumn,
+    stride: Option<ValueColumn>,
+    out: &mut ListOutput<O>,
 ) -> ListAnswer
-    ensures { ListAnswers (list_outcome narrow (slice (lent_from offsets rows rows_start values elements elements_start) (lent_arguments_from from_array from_bits from_start) (lent_arguments_from to_array to_bits to_start) (lent_if stride (lent_arguments_from stride_array stride_bits stride_start)))) result out_offsets out_rows out_values out_elements }
+    ensures { ListAnswers O.numbers (list_outcome O.LIMITS (slice (column_in O.numbers list.entry) (values_in from_array.entry) (values_in to_array.entry) (lent_in stride.entry))) result out.old out.new }
 {
-    let op = optional_ops::slice_by(stride);
-    list_walk::run(
-        op,
-        offsets, rows, rows_start, values, elements, elements_start,
-        from_array, from_bits, from_start,
-        to_array, to_bits, to_start,
-        stride_array, stride_bits, stride_start,
-        out_offsets, out_rows, out_values, out_elements,
-    )
+    match stride {
+        None => list_walk::run(ListOp::Slice, list, from_array, to_array, to_array, out),
+        Some(by) => list_walk::run(ListOp::SliceBy, list, from_array, to_array, by, out),
+    }
 }
 
-#[rattlefmt::skip]
-pub fn general_array_slice_lengths(
-    offsets: &[i32], rows: &[u8], rows_start: usize, values: &[i64], elements: &[u8], elements_start: usize,
-    from_array: &[i64], from_bits: &[u8], from_start: usize,
-    to_array: &[i64], to_bits: &[u8], to_start: usize,
-    stride: Optional, stride_array: &[i64], stride_bits: &[u8], stride_start: usize,
+#[tactic(auto, unfolding(column::specs::Columns::lent_in, ops::specs::Ops::call_of))]
+pub fn general_array_slice_lengths<O: Offset>(
+    list: ListColumn<O>,
+    from_array: ValueColumn,
+    to_array: ValueColumn,
+    stride: Option<ValueColumn>,
 ) -> ListLengths
-    ensures { asked_list result ≡ list_lengths narrow (slice (lent_from offsets rows rows_start values elements elements_start) (lent_arguments_from from_array from_bits from_start) (lent_arguments_from to_array to_bits to_start) (lent_if stride (lent_arguments_from stride_array stride_bits stride_start))) }
+    ensures { asked_list result ≡ list_lengths O.LIMITS (slice (column_in O.numbers list.entry) (values_in from_array.entry) (values_in to_array.entry) (lent_in stride.entry)) }
 {
-    let op = optional_ops::slice_by(stride);
-    list_walk::lengths(
-        op,
-        offsets, rows, rows_start, values, elements, elements_start,
-        from_array, from_bits, from_start,
-        to_array, to_bits, to_start,
-        stride_array, stride_bits, stride_start,
-    )
+    match stride {
+        None => list_walk::lengths(ListOp::Slice, list, from_array, to_array, to_array),
+        Some(by) => list_walk::lengths(ListOp::SliceBy, list, from_array, to_array, by),
+    }
 }
 
 // Each row without its first element.
-pub fn general_pop_front_list(
-    offsets: &[i32],
-    rows: &[u8],
-    rows_start: usize,
-    values: &[i64],
-    elements: &[u8],
-    elements_start: usize,
-    out_offsets: &mut [i32],
-    out_rows: &mut [u8],
-    out_values: &mut [i64],
-    out_elements: &mut [u8],
-) -> ListAnswer
-    ensures { ListAnswers (list_outcome narrow (unary Unary.PopFront (lent_from offsets rows rows_start values elements elements_start))) result out_offsets out_rows out_values out_elements }
+pub fn general_pop_front_list<O: Offset>(list: ListColumn<O>, out: &mut ListOutput<O>) -> ListAnswer
+    ensures { ListAnswers O.numbers (list_outcome O.LIMITS (unary Unary.PopFront (column_in O.numbers list.entry))) result out.old out.new }
 {
-    plain::run(
-        Unary::PopFront,
-        offsets,
-        rows,
-        rows_start,
-        values,
-        elements,
-        elements_start,
-        out_offsets,
-        out_rows,
-        out_values,
-        out_elements,
-    )
+    plain::run(Unary::PopFront, list, out)
 }
 
-pub fn general_pop_front_list_lengths(
-    offsets: &[i32],
-    rows: &[u8],
-    rows_start: usize,
-    values: &[i64],
-    elements: &[u8],
-    elements_start: usize,
-) -> ListLengths
-    ensures { asked_list result ≡ list_lengths narrow (unary Unary.PopFront (lent_from offsets rows rows_start values elements elements_start)) }
+pub fn general_pop_front_list_lengths<O: Offset>(list: ListColumn<O>) -> ListLengths
+    ensures { asked_list result ≡ list_lengths O.LIMITS (unary Unary.PopFront (column_in O.numbers list.entry)) }
 {
-    plain::lengths(
-        Unary::PopFront,
-        offsets,
-        rows,
-        rows_start,
-        values,
-        elements,
-        elements_start,
-    )
+    plain::lengths(Unary::PopFront, list)
 }
 
 // Each row without its last element.
-pub fn general_pop_back_list(
-    offsets: &[i32],
-    rows: &[u8],
-    rows_start: usize,
-    values: &[i64],
-    elements: &[u8],
-    elements_start: usize,
-    out_offsets: &mut [i32],
-    out_rows: &mut [u8],
-    out_values: &mut [i64],
-    out_elements: &mut [u8],
-) -> ListAnswer
-    ensures { ListAnswers (list_outcome narrow (unary Unary.PopBack (lent_from offsets rows rows_start values elements elements_start))) result out_offsets out_rows out_values out_elements }
+pub fn general_pop_back_list<O: Offset>(list: ListColumn<O>, out: &mut ListOutput<O>) -> ListAnswer
+    ensures { ListAnswers O.numbers (list_outcome O.LIMITS (unary Unary.PopBack (column_in O.numbers list.entry))) result out.old out.new }
 {
-    plain::run(
-        Unary::PopBack,
-        offsets,
-        rows,
-        rows_start,
-        values,
-        elements,
-        elements_start,
-        out_offsets,
-        out_rows,
-        out_values,
-        out_elements,
-    )
+    plain::run(Unary::PopBack, list, out)
 }
 
-pub fn general_pop_back_list_lengths(
-    offsets: &[i32],
-    rows: &[u8],
-    rows_start: usize,
-    values: &[i64],
-    elements: &[u8],
-    elements_start: usize,
-) -> ListLengths
-    ensures { asked_list result ≡ list_lengths narrow (unary Unary.PopBack (lent_from offsets rows rows_start values elements elements_start)) }
+pub fn general_pop_back_list_lengths<O: Offset>(list: ListColumn<O>) -> ListLengths
+    ensures { asked_list result ≡ list_lengths O.LIMITS (unary Unary.PopBack (column_in O.numbers list.entry)) }
 {
-    plain::lengths(
-        Unary::PopBack,
-        offsets,
-        rows,
-        rows_start,
-        values,
-        elements,
-        elements_start,
-    )
+    plain::lengths(Unary::PopBack, list)
 }

@@ -1,48 +1,31 @@
 // The operations on one list without arguments.
+ghost use Rattle.column.specs.Columns.{column_in};
+ghost use Rattle.column.specs.Outputs.{ListAnswers};
 ghost use Rattle.model.specs.Asked.{asked_list};
-ghost use Rattle.model.specs.Contract.{ListAnswers};
-ghost use Rattle.model.specs.Inner.{lent_from};
 ghost use Rattle.model.specs.Lengths.{list_lengths};
-ghost use Rattle.model.specs.Limits.{narrow};
 ghost use Rattle.model.specs.Outcome.{list_outcome};
 ghost use Rattle.model.specs.Rows.{unary};
 ghost use Rattle.std.specs.Prelude.{◌≡◌};
 
+use column::lists::{ListColumn, ListOutput};
+use model::offsets::Offset;
 use model::{ListAnswer, ListLengths, Unary};
 use ops::ListOp;
 
-// The walk looks at no argument columns here: any slices stand in their places.
-#[rattlefmt::skip]
-pub(crate) fn run(
-    op: Unary,
-    offsets: &[i32], rows: &[u8], rows_start: usize, values: &[i64], elements: &[u8], elements_start: usize,
-    out_offsets: &mut [i32], out_rows: &mut [u8], out_values: &mut [i64], out_elements: &mut [u8],
-) -> ListAnswer
-    ensures { ListAnswers (list_outcome narrow (unary op (lent_from offsets rows rows_start values elements elements_start))) result out_offsets out_rows out_values out_elements }
+// The walk looks at no argument columns here: the elements stand in their places.
+#[tactic(auto, unfolding(ops::specs::Ops::call_of))]
+pub(crate) fn run<O: Offset>(op: Unary, list: ListColumn<O>, out: &mut ListOutput<O>) -> ListAnswer
+    ensures { ListAnswers O.numbers (list_outcome O.LIMITS (unary op (column_in O.numbers list.entry))) result out.old out.new }
 {
-    list_walk::run(
-        ListOp::Plain(op),
-        offsets, rows, rows_start, values, elements, elements_start,
-        values, elements, 0,
-        values, elements, 0,
-        values, elements, 0,
-        out_offsets, out_rows, out_values, out_elements,
-    )
+    let none = list.elements;
+    list_walk::run(ListOp::Plain(op), list, none, none, none, out)
 }
 
-// The same slices stand in their places.
-#[rattlefmt::skip]
-pub(crate) fn lengths(
-    op: Unary,
-    offsets: &[i32], rows: &[u8], rows_start: usize, values: &[i64], elements: &[u8], elements_start: usize,
-) -> ListLengths
-    ensures { asked_list result ≡ list_lengths narrow (unary op (lent_from offsets rows rows_start values elements elements_start)) }
+// The same elements stand in their places.
+#[tactic(auto, unfolding(ops::specs::Ops::call_of))]
+pub(crate) fn lengths<O: Offset>(op: Unary, list: ListColumn<O>) -> ListLengths
+    ensures { asked_list result ≡ list_lengths O.LIMITS (unary op (column_in O.numbers list.entry)) }
 {
-    list_walk::lengths(
-        ListOp::Plain(op),
-        offsets, rows, rows_start, values, elements, elements_start,
-        values, elements, 0,
-        values, elements, 0,
-        values, elements, 0,
-    )
+    let none = list.elements;
+    list_walk::lengths(ListOp::Plain(op), list, none, none, none)
 }

@@ -1,49 +1,38 @@
 // Remove: each row without the first elements that match.
 // After remove.rs of datafusion-functions-nested 55.2.0, Apache License 2.0, Apache Software Foundation; changed, see NOTICE.
+ghost use Rattle.column.specs.Columns.{column_in, values_in};
+ghost use Rattle.column.specs.Outputs.{ListAnswers};
 ghost use Rattle.model.specs.Asked.{asked_list};
-ghost use Rattle.model.specs.Contract.{ListAnswers};
-ghost use Rattle.model.specs.Inner.{lent_arguments_from, lent_from};
 ghost use Rattle.model.specs.Lengths.{list_lengths};
-ghost use Rattle.model.specs.Limits.{narrow};
 ghost use Rattle.model.specs.Outcome.{list_outcome};
 ghost use Rattle.model.specs.Rows.{remove};
 ghost use Rattle.std.specs.Prelude.{◌≡◌};
 
+use column::elements::ValueColumn;
+use column::lists::{ListColumn, ListOutput};
+use model::offsets::Offset;
 use model::{ListAnswer, ListLengths};
 use ops::ListOp;
 
-#[rattlefmt::skip]
-pub fn general_remove(
-    offsets: &[i32], rows: &[u8], rows_start: usize, values: &[i64], elements: &[u8], elements_start: usize,
-    element_array: &[i64], element_bits: &[u8], element_start: usize,
-    arr_n: &[i64], n_bits: &[u8], n_start: usize,
-    out_offsets: &mut [i32], out_rows: &mut [u8], out_values: &mut [i64], out_elements: &mut [u8],
+#[tactic(auto, unfolding(ops::specs::Ops::call_of))]
+pub fn general_remove<O: Offset>(
+    list: ListColumn<O>,
+    element_array: ValueColumn,
+    arr_n: ValueColumn,
+    out: &mut ListOutput<O>,
 ) -> ListAnswer
-    ensures { ListAnswers (list_outcome narrow (remove (lent_from offsets rows rows_start values elements elements_start) (lent_arguments_from element_array element_bits element_start) (lent_arguments_from arr_n n_bits n_start))) result out_offsets out_rows out_values out_elements }
+    ensures { ListAnswers O.numbers (list_outcome O.LIMITS (remove (column_in O.numbers list.entry) (values_in element_array.entry) (values_in arr_n.entry))) result out.old out.new }
 {
-    list_walk::run(
-        ListOp::Remove,
-        offsets, rows, rows_start, values, elements, elements_start,
-        element_array, element_bits, element_start,
-        arr_n, n_bits, n_start,
-        arr_n, n_bits, n_start,
-        out_offsets, out_rows, out_values, out_elements,
-    )
+    list_walk::run(ListOp::Remove, list, element_array, arr_n, arr_n, out)
 }
 
-#[rattlefmt::skip]
-pub fn general_remove_lengths(
-    offsets: &[i32], rows: &[u8], rows_start: usize, values: &[i64], elements: &[u8], elements_start: usize,
-    element_array: &[i64], element_bits: &[u8], element_start: usize,
-    arr_n: &[i64], n_bits: &[u8], n_start: usize,
+#[tactic(auto, unfolding(ops::specs::Ops::call_of))]
+pub fn general_remove_lengths<O: Offset>(
+    list: ListColumn<O>,
+    element_array: ValueColumn,
+    arr_n: ValueColumn,
 ) -> ListLengths
-    ensures { asked_list result ≡ list_lengths narrow (remove (lent_from offsets rows rows_start values elements elements_start) (lent_arguments_from element_array element_bits element_start) (lent_arguments_from arr_n n_bits n_start)) }
+    ensures { asked_list result ≡ list_lengths O.LIMITS (remove (column_in O.numbers list.entry) (values_in element_array.entry) (values_in arr_n.entry)) }
 {
-    list_walk::lengths(
-        ListOp::Remove,
-        offsets, rows, rows_start, values, elements, elements_start,
-        element_array, element_bits, element_start,
-        arr_n, n_bits, n_start,
-        arr_n, n_bits, n_start,
-    )
+    list_walk::lengths(ListOp::Remove, list, element_array, arr_n, arr_n)
 }

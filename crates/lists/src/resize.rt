@@ -1,51 +1,52 @@
 // Resize: each row cut, or filled up to its count.
 // After resize.rs of datafusion-functions-nested 55.2.0, Apache License 2.0, Apache Software Foundation; changed, see NOTICE.
+ghost use Rattle.column.specs.Columns.{column_in, lent_in, values_in};
+ghost use Rattle.column.specs.Outputs.{ListAnswers};
 ghost use Rattle.model.specs.Asked.{asked_list};
-ghost use Rattle.model.specs.Contract.{ListAnswers, lent_if};
-ghost use Rattle.model.specs.Inner.{lent_arguments_from, lent_from};
 ghost use Rattle.model.specs.Lengths.{list_lengths};
-ghost use Rattle.model.specs.Limits.{narrow};
 ghost use Rattle.model.specs.Outcome.{list_outcome};
 ghost use Rattle.model.specs.Rows.{resize};
 ghost use Rattle.std.specs.Prelude.{◌≡◌};
 
-use model::{ListAnswer, ListLengths, Optional};
+use column::elements::ValueColumn;
+use column::lists::{ListColumn, ListOutput};
+use model::offsets::Offset;
+use model::{ListAnswer, ListLengths};
+use ops::ListOp;
 
-// Each row cut, or filled, to its count; without a fill, the slices of the default elements and their starting bit are not looked at.
-#[rattlefmt::skip]
-pub fn general_list_resize(
-    offsets: &[i32], rows: &[u8], rows_start: usize, values: &[i64], elements: &[u8], elements_start: usize,
-    count_array: &[i64], count_bits: &[u8], count_start: usize,
-    fill: Optional, default_elements: &[i64], default_bits: &[u8], default_start: usize,
-    out_offsets: &mut [i32], out_rows: &mut [u8], out_values: &mut [i64], out_elements: &mut [u8],
+// Each row cut, or filled, to its count; without default elements, it is filled with nulls.
+#[tactic(auto, unfolding(column::specs::Columns::lent_in, ops::specs::Ops::call_of))]
+pub fn general_list_resize<O: Offset>(
+    list: ListColumn<O>,
+    count_array: ValueColumn,
+    default_elements: Option<ValueColumn>,
+    out: &mut ListOutput<O>,
 ) -> ListAnswer
-    ensures { ListAnswers (list_outcome narrow (resize (lent_from offsets rows rows_start values elements elements_start) (lent_arguments_from count_array count_bits count_start) (lent_if fill (lent_arguments_from default_elements default_bits default_start)))) result out_offsets out_rows out_values out_elements }
+    ensures { ListAnswers O.numbers (list_outcome O.LIMITS (resize (column_in O.numbers list.entry) (values_in count_array.entry) (lent_in default_elements.entry))) result out.old out.new }
 {
-    let op = optional_ops::resize_by(fill);
-    list_walk::run(
-        op,
-        offsets, rows, rows_start, values, elements, elements_start,
-        count_array, count_bits, count_start,
-        default_elements, default_bits, default_start,
-        default_elements, default_bits, default_start,
-        out_offsets, out_rows, out_values, out_elements,
-    )
+    match default_elements {
+        None => list_walk::run(
+            ListOp::Resize,
+            list,
+            count_array,
+            count_array,
+            count_array,
+            out,
+        ),
+        Some(fill) => list_walk::run(ListOp::ResizeWith, list, count_array, fill, fill, out),
+    }
 }
 
-#[rattlefmt::skip]
-pub fn general_list_resize_lengths(
-    offsets: &[i32], rows: &[u8], rows_start: usize, values: &[i64], elements: &[u8], elements_start: usize,
-    count_array: &[i64], count_bits: &[u8], count_start: usize,
-    fill: Optional, default_elements: &[i64], default_bits: &[u8], default_start: usize,
+#[tactic(auto, unfolding(column::specs::Columns::lent_in, ops::specs::Ops::call_of))]
+pub fn general_list_resize_lengths<O: Offset>(
+    list: ListColumn<O>,
+    count_array: ValueColumn,
+    default_elements: Option<ValueColumn>,
 ) -> ListLengths
-    ensures { asked_list result ≡ list_lengths narrow (resize (lent_from offsets rows rows_start values elements elements_start) (lent_arguments_from count_array count_bits count_start) (lent_if fill (lent_arguments_from default_elements default_bits default_start))) }
+    ensures { asked_list result ≡ list_lengths O.LIMITS (resize (column_in O.numbers list.entry) (values_in count_array.entry) (lent_in default_elements.entry)) }
 {
-    let op = optional_ops::resize_by(fill);
-    list_walk::lengths(
-        op,
-        offsets, rows, rows_start, values, elements, elements_start,
-        count_array, count_bits, count_start,
-        default_elements, default_bits, default_start,
-        default_elements, default_bits, default_start,
-    )
+    match default_elements {
+        None => list_walk::lengths(ListOp::Resize, list, count_array, count_array, count_array),
+        Some(fill) => list_walk::lengths(ListOp::ResizeWith, list, count_array, fill, fill),
+    }
 }

@@ -1,99 +1,48 @@
 // Distinct, union and intersect: first occurrences, by comparing with the elements before.
 // After set_ops.rs of datafusion-functions-nested 55.2.0, Apache License 2.0, Apache Software Foundation; changed, see NOTICE.
+ghost use Rattle.column.specs.Columns.{column_in};
+ghost use Rattle.column.specs.Outputs.{ListAnswers};
 ghost use Rattle.model.specs.Asked.{asked_list};
-ghost use Rattle.model.specs.Contract.{ListAnswers};
-ghost use Rattle.model.specs.Inner.{lent_from};
 ghost use Rattle.model.specs.Lengths.{list_lengths};
-ghost use Rattle.model.specs.Limits.{narrow};
 ghost use Rattle.model.specs.Outcome.{list_outcome};
 ghost use Rattle.model.specs.Rows.{set_op_call, unary};
 ghost use Rattle.std.specs.Prelude.{◌≡◌};
 
 use crate::plain;
-use model::{ListAnswer, ListLengths, SetOp, Unary, Width};
+use column::lists::{ListColumn, ListOutput};
+use model::offsets::Offset;
+use model::{ListAnswer, ListLengths, SetOp, Unary};
 
-pub fn general_array_distinct(
-    offsets: &[i32],
-    rows: &[u8],
-    rows_start: usize,
-    values: &[i64],
-    elements: &[u8],
-    elements_start: usize,
-    out_offsets: &mut [i32],
-    out_rows: &mut [u8],
-    out_values: &mut [i64],
-    out_elements: &mut [u8],
-) -> ListAnswer
-    ensures { ListAnswers (list_outcome narrow (unary Unary.Distinct (lent_from offsets rows rows_start values elements elements_start))) result out_offsets out_rows out_values out_elements }
+pub fn general_array_distinct<O: Offset>(list: ListColumn<O>, out: &mut ListOutput<O>) -> ListAnswer
+    ensures { ListAnswers O.numbers (list_outcome O.LIMITS (unary Unary.Distinct (column_in O.numbers list.entry))) result out.old out.new }
 {
-    plain::run(
-        Unary::Distinct,
-        offsets,
-        rows,
-        rows_start,
-        values,
-        elements,
-        elements_start,
-        out_offsets,
-        out_rows,
-        out_values,
-        out_elements,
-    )
+    plain::run(Unary::Distinct, list, out)
 }
 
-pub fn general_array_distinct_lengths(
-    offsets: &[i32],
-    rows: &[u8],
-    rows_start: usize,
-    values: &[i64],
-    elements: &[u8],
-    elements_start: usize,
-) -> ListLengths
-    ensures { asked_list result ≡ list_lengths narrow (unary Unary.Distinct (lent_from offsets rows rows_start values elements elements_start)) }
+pub fn general_array_distinct_lengths<O: Offset>(list: ListColumn<O>) -> ListLengths
+    ensures { asked_list result ≡ list_lengths O.LIMITS (unary Unary.Distinct (column_in O.numbers list.entry)) }
 {
-    plain::lengths(
-        Unary::Distinct,
-        offsets,
-        rows,
-        rows_start,
-        values,
-        elements,
-        elements_start,
-    )
+    plain::lengths(Unary::Distinct, list)
 }
 
-// Union or intersect, row by row. 64-bit offsets are not looked at: the values stand in their place.
-#[rattlefmt::skip]
-pub fn generic_set_lists<'a>(
-    l_offsets: &[i32], l_rows: &[u8], l_rows_start: usize, l_values: &'a [i64], l_elements: &[u8], l_elements_start: usize,
-    r_offsets: &[i32], r_rows: &[u8], r_rows_start: usize, r_values: &'a [i64], r_elements: &[u8], r_elements_start: usize,
+// Union or intersect, row by row.
+pub fn generic_set_lists<O: Offset>(
+    left: ListColumn<O>,
+    right: ListColumn<O>,
     set_op: SetOp,
-    out_offsets: &mut [i32], out_rows: &mut [u8], out_values: &mut [i64], out_elements: &mut [u8],
+    out: &mut ListOutput<O>,
 ) -> ListAnswer
-    ensures { ListAnswers (list_outcome narrow (set_op_call set_op (lent_from l_offsets l_rows l_rows_start l_values l_elements l_elements_start) (lent_from r_offsets r_rows r_rows_start r_values r_elements r_elements_start))) result out_offsets out_rows out_values out_elements }
+    ensures { ListAnswers O.numbers (list_outcome O.LIMITS (set_op_call set_op (column_in O.numbers left.entry) (column_in O.numbers right.entry))) result out.old out.new }
 {
-    let mut none = [0i64; 0];
-    set_walk::run(
-        set_op,
-        l_offsets, l_rows, l_rows_start, l_values, l_elements, l_elements_start,
-        r_offsets, r_rows, r_rows_start, r_values, r_elements, r_elements_start,
-        out_offsets, out_rows, out_values, out_elements,
-        Width::Narrow, l_values, r_values, &mut none,
-    )
+    set_walk::run(set_op, left, right, out)
 }
 
-#[rattlefmt::skip]
-pub fn generic_set_lists_lengths<'a>(
-    l_offsets: &[i32], l_rows: &[u8], l_rows_start: usize, l_values: &'a [i64], l_elements: &[u8], l_elements_start: usize,
-    r_offsets: &[i32], r_rows: &[u8], r_rows_start: usize, r_values: &'a [i64], r_elements: &[u8], r_elements_start: usize,
+pub fn generic_set_lists_lengths<O: Offset>(
+    left: ListColumn<O>,
+    right: ListColumn<O>,
     set_op: SetOp,
 ) -> ListLengths
-    ensures { asked_list result ≡ list_lengths narrow (set_op_call set_op (lent_from l_offsets l_rows l_rows_start l_values l_elements l_elements_start) (lent_from r_offsets r_rows r_rows_start r_values r_elements r_elements_start)) }
+    ensures { asked_list result ≡ list_lengths O.LIMITS (set_op_call set_op (column_in O.numbers left.entry) (column_in O.numbers right.entry)) }
 {
-    set_walk::lengths(
-        set_op,
-        l_offsets, l_rows, l_rows_start, l_values, l_elements, l_elements_start,
-        r_offsets, r_rows, r_rows_start, r_values, r_elements, r_elements_start,
-        Width::Narrow, l_values, r_values,
-    )
+    set_walk::lengths(set_op, left, right)
 }

@@ -1,6 +1,6 @@
 -- Laws of what replace and remove make: no row is refused, and remove takes no third column.
-use Rattle.std.specs.Prelude.{None, Some}
-use Prim.Native.Nat.{ℕ, zero, suc, ◌+◌, ◌-◌, ◌≤◌}
+use Rattle.std.specs.Prelude.{Option, None, Some}
+use Prim.Native.Nat.{ℕ, zero, suc, ◌+◌, ◌-◌, ◌≤◌, ◌<◌}
 use mathlib.Core.Path.{◌≡◌, refl, sym, ◌∙◌, subst}
 use mathlib.Core.Bool.{Bool, true, false}
 use mathlib.Core.List.{List}
@@ -10,7 +10,7 @@ use lib.IntN.{ℤ}
 use lib.ListN.{length}
 use Rattle.model.specs.Basics.{pick, tab}
 use Rattle.model.specs.Bitmap.{Bits, valid_at}
-use Rattle.model.specs.Column.{Elem, Row, null_row, list_row, Column, Arguments, elem_at, offset_at, count}
+use Rattle.model.specs.Column.{Elem, Row, null_row, list_row, Column, Arguments, elem_at, offset_at, row_count, count}
 use Rattle.model.specs.Elements.{replaced, removed}
 use Rattle.model.specs.Form.{elems_of, flat, is_row}
 use Rattle.model.specs.Limits.{Limits}
@@ -19,10 +19,13 @@ use Rattle.model.specs.Refusals.{first_of}
 use Rattle.model.specs.Rows.{row_made}
 use Rattle.model.proofs.TabLaws.{length-tab}
 use Rattle.bitmap.specs.Push.{push_bit}
-use Rattle.column.specs.Put.{RoomForElemsˡ, Writesˡ}
+use Rattle.column.specs.Put.{Readable, RoomForElemsˡ, Writesˡ}
 use Rattle.column.specs.Rows.{RoomForRowˡ, WritesRowˡ}
+use Rattle.column.proofs.WalkLaws.{Summing, between, sum_more}
 use Rattle.column.proofs.WriteLaws.{begun, done}
 use Rattle.rows.specs.Cells.{Cell, elem_of}
+use Rattle.matches.specs.declared.remove.Removal.{Removal}
+use Rattle.matches.specs.declared.replace.Replacement.{Replacement}
 use Rattle.matches.proofs.RowOpLaws.{length-replaced}
 use Rattle.ops.specs.Ops.{replace_op, remove_op, valid_op, row_op_of, op_elems, op_made, table}
 use Rattle.ops.specs.declared.ListOp.{ListOp}
@@ -32,6 +35,7 @@ use Rattle.ops.specs.RowOp as R
 use Rattle.arguments.specs.Taken.{taken_at, op_at, Serves, Served}
 use Rattle.made_rows.specs.Made.{made_from, made_at, row_made_at, refusal_at, call_rows, op_refusal, rows_measure}
 use Rattle.made_rows.proofs.CallLaws.{row_of_lem, refusal_of_lem, length_of_lem, length_le}
+use Rattle.match_rows.specs.Changes.{replacing, removing}
 use Rattle.match_rows.specs.Limits.{limit_at, replaced_length}
 
 -- ---- the columns that are taken
@@ -54,10 +58,6 @@ module _ (x y z z' : Arguments) where
     pub third-rows : call_rows N L.Remove c x y z ≡ call_rows N L.Remove c x y z'
     unfolding call_rows made_at made_from op_at row_op_of valid_op
     third-rows = refl
-
-    pub third_measure : rows_measure N L.Remove c x y z ≡ rows_measure N L.Remove c x y z'
-    unfolding rows_measure call_rows made_at made_from op_at row_op_of valid_op
-    third_measure = refl
 
 -- ---- what is done to a row
 
@@ -100,11 +100,11 @@ module _ (N : Limits) (c : Column) (x y z : Arguments) (r a b : ℕ) (ea : a ≡
   abbrev elems : List Elem
   elems = tab (elem_at c.values c.elements) a (b - a)
 
-  pub replaced_row : (f t k : Cell) → f ≡ taken_at true false x r → t ≡ taken_at true false y r → k ≡ limit_at c.rows z r → row_made (op_made (replace_op f t k) elems) ≡ row_made_at N L.Replace c x y z r
-  replaced_row f t k ef et ek = row_of_lem N L.Replace c x y z r a b (replace_op f t k) ea eb (replace_op_lem N c.rows x y z r (b - a) f t k ef et ek)
+  pub replaced_row : (o : RowOp) (f t k : Cell) → o ≡ replace_op f t k → f ≡ taken_at true false x r → t ≡ taken_at true false y r → k ≡ limit_at c.rows z r → row_made (op_made o elems) ≡ row_made_at N L.Replace c x y z r
+  replaced_row o f t k eo ef et ek = row_of_lem N L.Replace c x y z r a b o ea eb (eo ∙ replace_op_lem N c.rows x y z r (b - a) f t k ef et ek)
 
   module _ (k : Cell) (m : ℕ) (e : m ≡ replaced_length k (b - a)) where
-    pub replaced-long : k ≡ limit_at c.rows z r → m ≡ length (elems_of (row_made_at N L.Replace c x y z r))
+    replaced-long : k ≡ limit_at c.rows z r → m ≡ length (elems_of (row_made_at N L.Replace c x y z r))
     replaced-long ek =
         let f = taken_at true false x r in
         let t = taken_at true false y r in
@@ -112,20 +112,34 @@ module _ (N : Limits) (c : Column) (x y z : Arguments) (r a b : ℕ) (ea : a ≡
         ∙ length-kept f t k elems (b - a) (length-tab (elem_at c.values c.elements) a (b - a))
         ∙ length_of_lem N L.Replace c x y z r a b (replace_op f t k) ea eb (replace_op_lem N c.rows x y z r (b - a) f t k refl refl ek)
 
-    pub replaced_le : m ≤ b - a
+    replaced_le : m ≤ b - a
     replaced_le = rw e (kept_le k (b - a))
 
-  module _ (f k : Cell) (ef : f ≡ taken_at true false x r) (ek : k ≡ limit_at c.rows y r) where
-    pub removed_row : row_made (op_made (remove_op f k) elems) ≡ row_made_at N L.Remove c x y z r
-    removed_row = row_of_lem N L.Remove c x y z r a b (remove_op f k) ea eb (remove_op_lem N c.rows x y z r (b - a) f k ef ek)
+    -- what was found, after one row more
+    pub sum_replaced : k ≡ limit_at c.rows z r → {n found : ℕ} → Readable c → n ≡ row_count c.offsets → r < n → b ≤ N.offset → Summing (row_made_at N L.Replace c x y z) n a N.offset found r (n - r) → Summing (row_made_at N L.Replace c x y z) n b N.offset (found + m) (r + 1) (n - (r + 1))
+    sum_replaced ek {n} {found} w q h t s =
+        let d : n - (r + 1) ≡ n - r - 1 = omega arith in
+        rw d (sum_more (row_made_at N L.Replace c x y z) n N.offset m a b s (omega arith) (replaced-long ek) replaced_le (between c n r a b w q h ea eb).rises refl t)
 
-    module _ (m : ℕ) (e : m ≡ length (op_elems (remove_op f k) elems)) where
-      pub removed-long : m ≡ length (elems_of (row_made_at N L.Remove c x y z r))
-      removed-long = e ∙ length_of_lem N L.Remove c x y z r a b (remove_op f k) ea eb (remove_op_lem N c.rows x y z r (b - a) f k ef ek)
+  module _ (o : RowOp) (f k : Cell) (eo : o ≡ remove_op f k) (ef : f ≡ taken_at true false x r) (ek : k ≡ limit_at c.rows y r) where
+    is_op : o ≡ op_at N L.Remove c.rows x y z r (b - a)
+    is_op = eo ∙ remove_op_lem N c.rows x y z r (b - a) f k ef ek
 
-      pub removed_le : m ≤ b - a
+    pub removed_row : row_made (op_made o elems) ≡ row_made_at N L.Remove c x y z r
+    removed_row = row_of_lem N L.Remove c x y z r a b o ea eb is_op
+
+    module _ (m : ℕ) (e : m ≡ length (op_elems o elems)) where
+      removed-long : m ≡ length (elems_of (row_made_at N L.Remove c x y z r))
+      removed-long = e ∙ length_of_lem N L.Remove c x y z r a b o ea eb is_op
+
+      removed_le : m ≤ b - a
       unfolding table
-      removed_le = rw e (length_le N L.Remove c x y z r a b (remove_op f k) ea eb (remove_op_lem N c.rows x y z r (b - a) f k ef ek) refl)
+      removed_le = rw e (length_le N L.Remove c x y z r a b o ea eb is_op refl)
+
+      pub sum_removed : {n found : ℕ} → Readable c → n ≡ row_count c.offsets → r < n → b ≤ N.offset → Summing (row_made_at N L.Remove c x y z) n a N.offset found r (n - r) → Summing (row_made_at N L.Remove c x y z) n b N.offset (found + m) (r + 1) (n - (r + 1))
+      sum_removed {n} {found} w q h t s =
+          let d : n - (r + 1) ≡ n - r - 1 = omega arith in
+          rw d (sum_more (row_made_at N L.Remove c x y z) n N.offset m a b s (omega arith) removed-long removed_le (between c n r a b w q h ea eb).rises refl t)
 
 -- ---- nothing is refused
 
@@ -156,58 +170,37 @@ module _ (N : Limits) (c : Column) (x y z : Arguments) where
   pub remove-measured : rows_measure N L.Remove c x y z ≡ made (length (flat (call_rows N L.Remove c x y z)))
   remove-measured = all_made N L.Remove c x y z (λ r. sym (refusal_of_lem N L.Remove c x y z r _ _ _ refl refl (remove_op_lem N c.rows x y z r _ _ _ refl refl)) ∙ remove-none _ _)
 
--- ---- a row put, by what its arguments are
+-- ---- a row put, by what is done to it
 
-module _ (f t k : Cell) (es : List Elem) where
-  pub replaced_null : k ≡ None → row_made (op_made (replace_op f t k) es) ≡ null_row
-  unfolding row_made op_made replace_op
+module _ (by : Option Replacement) (es : List Elem) where
+  pub replaced_null : by ≡ None → row_made (op_made (replacing by) es) ≡ null_row
+  unfolding row_made op_made replacing
   replaced_null e = rw e
 
-  pub replaced-made : (n : ℤ) (m : ℕ) → k ≡ Some n → m ≡ count n → row_made (op_made (replace_op f t k) es) ≡ list_row (replaced m (elem_of f) (elem_of t) es)
-  unfolding row_made op_made op_elems replace_op
-  replaced-made n m e q = rw (e, q)
+  pub replaced-made : (b : Replacement) → by ≡ Some b → row_made (op_made (replacing by) es) ≡ list_row (replaced b.limit (elem_of b.from) (elem_of b.to) es)
+  unfolding row_made op_made op_elems replacing
+  replaced-made b e = rw e
 
--- a null limit or element
-pub unlimited : (f k : Cell) → k ≡ None → remove_op f k ≡ R.Null
-unlimited f k e = rw e (remove_null f)
+module _ (by : Option Removal) (es : List Elem) where
+  pub removed_null : by ≡ None → row_made (op_made (removing by) es) ≡ null_row
+  unfolding row_made op_made removing
+  removed_null e = rw e
 
-pub unmatched : (f k : Cell) → f ≡ None → remove_op f k ≡ R.Null
-unfolding remove_op
-unmatched f k e = rw e
-
-pub matched : (f k : Cell) (v n : ℤ) (m : ℕ) → f ≡ Some v → k ≡ Some n → m ≡ count n → remove_op f k ≡ R.Removed f m
-unfolding remove_op
-matched f k v n m e q h = rw (e, q, h)
-
-module _ (es : List Elem) (o : RowOp) where
-  pub null_made : o ≡ R.Null → row_made (op_made o es) ≡ null_row
-  unfolding row_made op_made
-  null_made e = rw e
-
-  pub null_length : o ≡ R.Null → 0 ≡ length (op_elems o es)
-  unfolding op_elems
-  null_length e = rw e
-
-  module _ (f : Cell) (m : ℕ) (e : o ≡ R.Removed f m) where
-    pub removed-made : row_made (op_made o es) ≡ list_row (removed m (elem_of f) es)
-    unfolding row_made op_made op_elems
-    removed-made = rw e
-
-    pub removed-length : (n : ℕ) → n ≡ length (removed m (elem_of f) es) → n ≡ length (op_elems o es)
-    unfolding op_elems
-    removed-length n q = rw e q
+  pub removed-made : (b : Removal) → by ≡ Some b → row_made (op_made (removing by) es) ≡ list_row (removed b.limit (elem_of b.element) es)
+  unfolding row_made op_made op_elems removing
+  removed-made b e = rw e
 
 module _ (w : Row) (r at : ℕ) where
-  pub null_put : {ro ro' : List ℕ} (v : List ℤ) (e : List ℕ) → w ≡ null_row → ro' ≡ push_bit ro r false → WritesRowˡ w r at ro ro' v v e e at
+  pub null_put : {ro ro' : List ℕ} (v : List ℤ) (e : List ℕ) (b : Bool) → w ≡ null_row → b ≡ false → ro' ≡ push_bit ro r b → WritesRowˡ w r at ro ro' v v e e at
   unfolding is_row elems_of
-  null_put v e q p =
+  null_put v e b q z p =
       let d = done (begun {vo₀ = v} {eo₀ = e} _ refl) refl in
-      rw q (record { rows = p; values = d.values; elements = d.elements; place = d.next })
+      rw q (record { rows = rw z at p; values = d.values; elements = d.elements; place = d.next })
 
   module _ (es : List Elem) (q : w ≡ list_row es) where
-    pub list_put : {ro ro' : List ℕ} {v v' : List ℤ} {e e' : List ℕ} {k : ℕ} → ro' ≡ push_bit ro r true → Writesˡ es at v v' e e' k → WritesRowˡ w r at ro ro' v v' e e' k
+    pub list_put : {ro ro' : List ℕ} {v v' : List ℤ} {e e' : List ℕ} {k : ℕ} (b : Bool) → b ≡ true → ro' ≡ push_bit ro r b → Writesˡ es at v v' e e' k → WritesRowˡ w r at ro ro' v v' e e' k
     unfolding is_row elems_of
-    list_put p d = rw q (record { rows = p; values = d.values; elements = d.elements; place = d.next })
+    list_put b z p d = rw q (record { rows = rw z at p; values = d.values; elements = d.elements; place = d.next })
 
     pub list-room : {lr lv le : ℕ} → RoomForRowˡ w r at lr lv le → RoomForElemsˡ es at lv le
     unfolding elems_of

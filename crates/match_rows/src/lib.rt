@@ -5,32 +5,27 @@
 pub mod remove;
 pub mod replace;
 
-ghost use Rattle.std.specs.Prelude.{◌<◌, true, ◌≡◌};
 ghost use Rattle.arguments.specs.Taken.{Serves};
 ghost use Rattle.bitmap.specs.Push.{Covers};
+ghost use Rattle.bitmap.specs.Reads.{bits_in};
+ghost use Rattle.column.specs.Columns.{values_in};
 ghost use Rattle.match_rows.specs.Limits.{limit_at};
-ghost use Rattle.model.specs.Inner.{lent_arguments_from, lent_bits, now_arguments, now_bits};
+ghost use Rattle.std.specs.Prelude.{◌<◌, true, ◌≡◌};
 
 use arguments::taken;
+use bitmap::Validity;
+use column::elements::ValueColumn;
 use rows::Cell;
 
 // Row r's limit of n; a null where the list is null.
-pub fn limit_at(
-    rows: &[u8],
-    rstart: usize,
-    n: usize,
-    limits: &[i64],
-    bits: &[u8],
-    start: usize,
-    r: usize,
-) -> Cell
-    requires rows { Covers (now_bits rows rstart) n }
-    requires served { Serves true n (now_arguments limits bits start) }
+pub fn limit_at(rows: Validity, n: usize, limits: ValueColumn, r: usize) -> Cell
+    requires rows { Covers (bits_in rows) n }
+    requires served { Serves true n (values_in limits) }
     requires there { r < n }
-    ensures { result ≡ limit_at (lent_bits rows rstart) (lent_arguments_from limits bits start) r }
+    ensures { result ≡ limit_at (bits_in rows.entry) (values_in limits.entry) r }
 {
-    if !bitmap::is_valid(rows, rstart, r, n) {
+    if !rows.is_valid(r, n) {
         return None;
     }
-    taken::taken_at(true, true, limits, bits, start, n, r)
+    taken::taken_at(true, true, limits, n, r)
 }

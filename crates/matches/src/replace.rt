@@ -1,61 +1,47 @@
 // Replace: the first matches of a row become another element.
 // After replace.rs of datafusion-functions-nested 55.2.0, Apache License 2.0, Apache Software Foundation; changed, see NOTICE.
-ghost use Rattle.column.specs.Outputs.{ReadableElems, RoomForElems, Writes};
+ghost use Rattle.column.specs.Columns.{elems_in};
+ghost use Rattle.column.specs.Outputs.{RoomForElems, Writes, ReadableElems};
 ghost use Rattle.model.specs.Elements.{replaced};
-ghost use Rattle.model.specs.Inner.{now_elems, lent_elems};
 ghost use Rattle.rows.specs.Cells.{elem_of};
 
+use column::elements::{ValueColumn, ValueOutput};
 use rows::{Cell, utils};
+
+// Which elements of a row become which, and how many at most.
+#[derive(Clone, Copy)]
+pub struct Replacement {
+    pub from: Cell,
+    pub to: Cell,
+    pub limit: usize,
+}
 
 // Writes the n elements from element a on, the first matches as another element: run after run without a match, and past the limit the rest.
 pub fn write_replaced(
-    values: &[i64],
-    elements: &[u8],
-    estart: usize,
+    elements: ValueColumn,
     a: usize,
     n: usize,
-    needle: Cell,
-    to: Cell,
-    limit: usize,
-    out_values: &mut [i64],
-    out_elements: &mut [u8],
+    by: Replacement,
+    out: &mut ValueOutput,
     at: usize,
 ) -> usize
-    requires column { ReadableElems values elements estart a n }
-    requires room { RoomForElems (replaced limit (elem_of needle) (elem_of to) (now_elems values elements estart a n)) at out_values out_elements }
-    ensures { Writes (replaced limit (elem_of needle) (elem_of to) (lent_elems values elements estart a n)) at out_values out_elements result }
+    requires column { ReadableElems elements a n }
+    requires room { RoomForElems (replaced by.limit (elem_of by.from) (elem_of by.to) (elems_in elements a n)) at out.old }
+    ensures { Writes (replaced by.limit (elem_of by.from) (elem_of by.to) (elems_in elements.entry a n)) at out.old out.new result }
 {
     let mut p = a;
     let mut left = n;
     let mut k = at;
-    for _ in 0..limit {
-        let run = utils::before_match(values, elements, estart, p, left, needle);
-        k = utils::write_forward(
-            values,
-            elements,
-            estart,
-            p,
-            run,
-            out_values,
-            out_elements,
-            k,
-        );
+    for _ in 0..by.limit {
+        let run = utils::before_match(elements, p, left, by.from);
+        k = utils::write_forward(elements, p, run, out, k);
         if run == left {
             return k;
         }
-        utils::write_cell(to, out_values, out_elements, k);
+        utils::write_cell(by.to, out, k);
         k += 1;
         p += run + 1;
         left -= run + 1;
     }
-    utils::write_forward(
-        values,
-        elements,
-        estart,
-        p,
-        left,
-        out_values,
-        out_elements,
-        k,
-    )
+    utils::write_forward(elements, p, left, out, k)
 }

@@ -1,5 +1,5 @@
--- Demand 3, one claim about any call: "Take any two runs of one operation or one recipe .. they share one answer, however the
--- columns are laid out and whatever all bytes not shown hold .. each is exactly what demand 2's definitions give from those equal
+-- That two runs agree, one claim about any call: "Take any two runs of one operation or one recipe .. they share one answer, however the
+-- columns are laid out and whatever all bytes not shown hold .. each is exactly what the definitions give from those equal
 -- things alone."
 use mathlib.Core.Path.{◌≡◌, refl}
 use lib.ListN.{length}
@@ -80,11 +80,11 @@ from-shown L (grade_column k c g) f = rw (gate_open _ _ (formed-columns f.lists 
 from-shown L (grade_recipe k s p c d e a b o g t) f = rw (gate_open _ _ (formed-columns f.lists f.arguments))
 from-shown L (hashed h n l) f = rw (gate_open _ _ (formed-columns f.lists f.arguments))
 
--- what demand 3 says of two calls that are alike, the first of which ends in e and the second in e'
+-- what is claimed of two calls that are alike, the first of which ends in e and the second in e'
 pub record Agree (L : Limits) (q q' : Call Column Arguments View) (e e' : End) : Type 0 where
   -- "The refusal number or all counts are the same, the written results are equal, and so is the tally after"
   pub shares : e ≡ e'
-  -- "each is exactly what demand 2's definitions give from those equal things alone"
+  -- "each is exactly what the definitions give from those equal things alone"
   pub exact : e ≡ end_shown L (shown q)
   -- and those things, what is shown of the two calls, are equal
   pub shows : shown q ≡ shown q'

@@ -1,4 +1,4 @@
--- Note 6 of document 02 by examples, two theorems over tables: rows and their grades, and what refuses a column that is graded.
+-- Grades by examples, two theorems over tables: rows and their grades, and what refuses a column that is graded.
 use Prim.Native.Nat.{ℕ}
 use mathlib.Core.Path.{◌≡◌, refl}
 use mathlib.Core.List.{List, [], ◌∷◌, map}

@@ -1,4 +1,4 @@
--- Note 6 of document 02, of a recipe whose result is graded. `not_graded`: "12 and a short grade slice change neither tally nor output".
+-- A recipe whose result is graded. `not_graded`: "12 and a short grade slice change neither tally nor output".
 -- `as_run`: "A recipe graded answers, moves the tally and leaves its output as its run would".
 use Prim.Native.Nat.{ℕ}
 use mathlib.Core.Path.{◌≡◌, refl}

@@ -1,4 +1,4 @@
--- Note 9 of document 02 by examples, one theorem over a table: calls with a work area of so many slots, and the number of their refusal, or 0.
+-- The operations with a work area by examples, one theorem over a table: calls with a work area of so many slots, and the number of their refusal, or 0.
 use Prim.Native.Nat.{ℕ}
 use mathlib.Core.Path.{◌≡◌, refl}
 use mathlib.Core.Bool.{true}

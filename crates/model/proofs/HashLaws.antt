@@ -1,4 +1,4 @@
--- Note 9 of document 02. `as_plain` and `ends_as_plain`: "Except for 14, their answers and outputs equal the plain ones on every input".
+-- The operations with a work area. `as_plain` and `ends_as_plain`: "Except for 14, their answers and outputs equal the plain ones on every input".
 -- `plain_or_fourteen`: there is nothing else. `earlier_as_plain`, `three_as_plain` and `fourteen_first`: 14 comes "after 3 and before 8". `zero-after`: the work area "is zero after
 -- every call". `enough`: how many slots rule 14 out.
 use Prim.Native.Nat.{ℕ, ◌+◌, ◌≤◌}

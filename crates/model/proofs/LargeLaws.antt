@@ -1,4 +1,4 @@
--- Note 5 of document 02, of large lists: "There 4 and 6 never occur." `no_four_or_six` says it of any call.
+-- Large lists: "There 4 and 6 never occur." `no_four_or_six` says it of any call.
 use Prim.Native.Nat.{ℕ, zero, suc, ◌+◌}
 use mathlib.Core.Path.{◌≡◌, refl, sym, ap, ◌∙◌}
 use mathlib.Core.Bool.{Bool, true, false, ◌||◌}

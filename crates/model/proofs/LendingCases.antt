@@ -1,4 +1,4 @@
--- Note 1 of document 02 by examples, one theorem over a table: calls that ask how much to lend, and what they answer.
+-- How much to lend by examples, one theorem over a table: calls that ask how much to lend, and what they answer.
 use Prim.Native.Nat.{ℕ}
 use mathlib.Core.Path.{◌≡◌, refl}
 use mathlib.Core.List.{List, [], ◌∷◌, map}

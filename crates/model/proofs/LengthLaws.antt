@@ -1,4 +1,4 @@
--- Note 1 of document 02, "the exact slice lengths each operation needs, with the refusals it would give before 9". `nine_exactly` and its
+-- How much to lend: "the exact slice lengths each operation needs, with the refusals it would give before 9". `nine_exactly` and its
 -- siblings: the run refuses as its measure does, and answers 9 exactly where the measure gives lengths and what is lent falls short of one.
 use Prim.Native.Nat.{ℕ, zero, suc, ◌+◌, ◌<◌}
 use mathlib.Core.Path.{◌≡◌, refl, sym, ap, ◌∙◌}

@@ -1,4 +1,4 @@
--- Note 1 of document 02: "Lending that much, with offsets and bitmaps to match, rules out 9." `lent_enough` says it of what a recipe comes to,
+-- How much to lend: "Lending that much, with offsets and bitmaps to match, rules out 9." `lent_enough` says it of what a recipe comes to,
 -- `rules_out_nine` of the calls. Rows null in the first list are null in every carried list (`null_stays`), each step keeps the number of rows
 -- (`rows-kept`), and where the cap cuts the run answers 8 before it could answer 9 (`set_within`, `resize_within`).
 use Prim.Native.Nat.{ℕ, zero, suc, ◌+◌, ◌-◌, ◌≤◌, ◌<◌}

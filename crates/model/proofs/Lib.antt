@@ -17,8 +17,8 @@ pub mod LendingCases
 pub mod GradeCases
 pub mod EarlyLaws
 pub mod AskedLaws
-pub mod WidthLaws
 pub mod LargeLaws
 pub mod WindowLaws
 pub mod HashLaws
 pub mod HashCases
+pub mod SignedLaws

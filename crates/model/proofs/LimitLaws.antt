@@ -1,4 +1,4 @@
--- Note 1 of document 02, a recipe's limits. `capped-plus` and `capped-sum`: "a limit stops at the largest offset", after each addition or at the
+-- A recipe's limits. `capped-plus` and `capped-sum`: "a limit stops at the largest offset", after each addition or at the
 -- end. `no_level`: limits are "from row lengths, validity and arguments alone". Then the limits in the code's terms. That they are enough stands
 -- in LentEnough.
 use Prim.Native.Nat.{ℕ, zero, suc, ◌+◌, ◌*◌, ◌≤◌, ◌<◌, max}

@@ -1,4 +1,4 @@
--- Note 10 of document 02. `fifteen`: "15, a station over 15; it precedes 10 and counts for nobody". `own_finished`, `own_refused` and
+-- The sums over stations. `fifteen`: "15, a station over 15; it precedes 10 and counts for nobody". `own_finished`, `own_refused` and
 -- `others_stay`: "Only its own calls change a station's counts." `sums_grow`: the claim over many calls, whatever they are;
 -- `recipes_grow` is its case for recipes.
 use Prim.Native.Nat.{ℕ, zero, suc, ◌+◌, ◌≤◌, ◌<◌}

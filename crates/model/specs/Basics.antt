@@ -1,4 +1,4 @@
--- Choice by a test, tables, and tests over a list. Nothing here is of document 01.
+-- Choice by a test, tables, and tests over a list. Nothing here speaks of lists and columns.
 use Rattle.std.specs.Prelude.{ℕ, zero, suc, Bool, true, false, ◌||◌, List, [], ◌∷◌}
 
 abbrev pub pick : {A : Type 0} → Bool → A → A → A

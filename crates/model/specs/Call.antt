@@ -1,4 +1,4 @@
--- Any call, what it ends in, and when two calls are alike. Document 01, "Agreement", and demand 3.
+-- Any call, what it ends in, and when two calls are alike.
 use Rattle.std.specs.Prelude.{ℕ, Bool, true, false, not, ◌&&◌, List, [], ◌∷◌, map, ◌≡◌, length, replicate, ℤ, pos, ltb, eqb}
 use Rattle.model.specs.Basics.{Lent, absent, given, All}
 use Rattle.model.specs.Limits.{Limits}
@@ -26,21 +26,21 @@ pub data Call (C A W : Type 0) : Type 0 where
   list_repeat : C → A → RepeatRoom → Call C A W
   -- station, recipe, first list, second list, argument columns, tray one, tray two, output
   recipe : ℕ → Recipe → C → C → A → Room → Room → Room → Tally → Call C A W
-  -- Note 1 of document 02, how much to lend: what a list operation, any-value, element and list-repeat need, and a recipe's limits
+  -- how much to lend: what a list operation, any-value, element and list-repeat need, and a recipe's limits
   measure_list : ListCall C A → Call C A W
   measure_any_value : C → Call C A W
   measure_element : C → A → Call C A W
   measure_repeat : C → A → Call C A W
   limit_recipe : Recipe → C → C → A → Call C A W
-  -- Note 12 of document 02, a recipe looked at for rows a up to b: the recipe, a, b, then as a recipe without station and tally
+  -- a recipe looked at for rows a up to b: the recipe, a, b, then as a recipe without station and tally
   window : Recipe → ℕ → ℕ → C → C → A → Room → Room → Room → Call C A W
-  -- Note 3 of document 02: a ListView column read into a list column, and a list column written as one
+  -- a ListView column read into a list column, and a list column written as one
   import_view : W → Room → Call C A W
   export_view : C → ViewRoom → Call C A W
-  -- Note 6 of document 02: a list column graded, by k into a slice of g grades, and a recipe whose result is graded
+  -- a list column graded, by k into a slice of g grades, and a recipe whose result is graded
   grade_column : ℕ → C → ℕ → Call C A W
   grade_recipe : ℕ → ℕ → Recipe → C → C → A → Room → Room → Room → ℕ → Tally → Call C A W
-  -- Note 9 of document 02: distinct, union or intersect with a work area of so many slots
+  -- distinct, union or intersect with a work area of so many slots
   hashed : Hashed C → ℕ → Room → Call C A W
 
 -- what is shown of a call
@@ -274,7 +274,7 @@ end L (grade_column k c g) = grade_end k (grade_outcome k c g)
 end L (grade_recipe k s p c d e a b o g t) = graded_end k (rows_of c) g s (stationed s (recipe_outcome L p c d e a b o)) a b t
 end L (hashed h n l) = hashed_end (hashed_outcome L h n l) n
 
--- what demand 2's definitions give from what is shown alone
+-- what the definitions give from what is shown alone
 unfoldable pub end_shown : Limits → Call (List Row) (List Elem) (List Row) → End
 end_shown L (list q l) = list_end (list_shown L q l)
 end_shown L (any_value ws l) = value_end (any_value_shown ws l)
@@ -319,7 +319,7 @@ pub data SameHashed : Hashed Column → Hashed Column → Type 0 where
   same_set_of : {c d c' d' : Column} (k : SetOp) → EqualRows c c' → EqualRows d d' → SameHashed (set_of k c d) (set_of k c' d')
 
 -- two runs of one operation or one recipe on columns "that show equal rows, with equal arguments, equal slice lengths lent for
--- results and trays and an equal tally"; "the two runs of demand 3 name the same" station; "two runs are lent equally long work areas"
+-- results and trays and an equal tally"; the two runs name "the same" station; "two runs are lent equally long work areas"
 pub data Alike : Call Column Arguments View → Call Column Arguments View → Type 0 where
   alike_list : {q q' : ListCall Column Arguments} (l : Room) → SameCall q q' → Alike (list q l) (list q' l)
   alike_any_value : {c d : Column} (l : ValueRoom) → EqualRows c d → Alike (any_value c l) (any_value d l)

@@ -1,4 +1,4 @@
--- A list column, an argument column, and what they show. Document 01, "What a call brings".
+-- A list column, an argument column, and what they show.
 use Rattle.std.specs.Prelude.{ℕ, ◌+◌, ◌-◌, ◌<◌, ◌≡◌, Bool, true, false, ◌||◌, List, [], ◌∷◌, length, get_or, ℤ, pos, negsuc, ltb}
 use Rattle.std.specs.Int.Signed.{lt_z}
 use Rattle.model.specs.Basics.{pick, tab}
@@ -75,7 +75,7 @@ unfoldable pub falls : ℤ → List ℤ → ℕ → Bool
 falls o [] n = lt_z (pos n) o
 falls o (p ∷ ps) n = lt_z p o || falls p ps n
 
--- "1 (offsets empty, first negative, any falling, or last beyond the values)"; of offsets empty document 02 says: "From now on that is a
+-- "1 (offsets empty, first negative, any falling, or last beyond the values)"; of offsets empty the rules say since: "From now on that is a
 -- column of zero rows, and refusal 1 loses this condition."
 unfoldable pub bad_offsets : List ℤ → ℕ → Bool
 bad_offsets [] n = false
@@ -84,7 +84,7 @@ bad_offsets (o ∷ os) n = lt_z o (pos 0) || falls o os n
 abbrev pub refusal1 : Column → Bool
 refusal1 c = bad_offsets c.offsets (length c.values)
 
--- Document 02, Note 8: "Each list, ListView and argument column now carries a starting bit, 0 to 7, for each of its bitmaps. .. 13, a
+-- "Each list, ListView and argument column now carries a starting bit, 0 to 7, for each of its bitmaps. .. 13, a
 -- starting bit over 7": the bit alone decides, also beside a bitmap of length 0
 abbrev pub over_seven : Bits → Bool
 over_seven b = ltb 7 b.start

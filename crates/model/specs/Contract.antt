@@ -11,9 +11,6 @@ use Rattle.model.specs.View.{ViewRoom, view_offsets, view_sizes}
 use Rattle.model.specs.Grade.{grades_of}
 use Rattle.model.specs.Call.{Answer, refusal, counts, answer_of, written, list_counts, value_counts, repeat_counts, row_counts, room_counts, value_room_counts, repeat_room_counts, limit_counts}
 use Rattle.model.specs.Answers.{number_of, ListAnswer, GradeAnswer, RepeatAnswer, ValueAnswer, ListLengths, RecipeLimits, RepeatLengths, ValueLengths}
-use Rattle.model.specs.Basics.{Lent, absent, given}
-use Rattle.model.specs.declared.Optional.{Optional}
-use Rattle.model.specs.declared.Optional.TheVariants as O
 
 -- a slice that is read, at entry and at exit
 abbrev pub Slice : Type 0 → Type 0
@@ -23,7 +20,7 @@ Slice A = Both (Bor (List A)) (Bor (List A))
 abbrev pub MutSlice : Type 0 → Type 0
 MutSlice A = Both (MutBor (List A)) (MutBor (List A))
 
--- document 01's number and values for each case of an answer
+-- the number and the values for each case of an answer
 unfoldable pub told : ListAnswer → Answer
 told (Ok c) = counts (c.rows ∷ c.elements ∷ c.null_rows ∷ c.null_elements ∷ [])
 told (Err k) = refusal (number_of k)
@@ -60,11 +57,6 @@ told_limits (Err k) = refusal (number_of k)
 -- an output slice after the call: "Slots past the result keep their content.", and a refused call writes none
 abbrev pub after : {A B : Type 0} → (A → List B) → Outcome A → List B → List B
 after f x d = over (written f x) d
-
--- an argument column that may be absent
-unfoldable pub lent_if : Optional → Arguments → Lent Arguments
-lent_if O.Absent a = absent
-lent_if O.Lent a = given a
 
 -- the lengths of four output slices
 abbrev pub room : ℕ → ℕ → ℕ → ℕ → Room

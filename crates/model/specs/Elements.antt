@@ -1,4 +1,4 @@
--- What the elements of a row become, operation by operation. Document 01, "What each row becomes".
+-- What the elements of a row become, operation by operation.
 use Rattle.std.specs.Prelude.{ℕ, zero, suc, ◌+◌, ◌-◌, Bool, true, false, ◌&&◌, ◌||◌, List, [], ◌∷◌, ◌++◌, reverse, length, take, drop, get_or, replicate, ℤ, pos, negsuc, ltb, eqb}
 use Rattle.model.specs.Basics.{pick}
 use Rattle.model.specs.Column.{Elem, nul, val}

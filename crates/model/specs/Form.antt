@@ -1,6 +1,6 @@
 -- Result form and counts. "Results begin at offset 0; bitmaps are always written, spare bits 0; null rows of a list answer are
 -- empty; null elements, and null slots of a value answer, hold 0: that is result form. Slots past the result keep their content.";
--- of that 0 document 02 says: "Null slots in results of every operation, recipe, import and export now hold −9223372036854775808. Result
+-- in place of that 0 now: "Null slots in results of every operation, recipe, import and export now hold −9223372036854775808. Result
 -- form changes with them."
 use Rattle.std.specs.Prelude.{ℕ, ◌+◌, Bool, true, false, ◌&&◌, List, [], ◌∷◌, ◌++◌, map, length, drop, ℤ, pos, negsuc, leb}
 use Rattle.model.specs.Bitmap.{pack, bytes_for, nulls}

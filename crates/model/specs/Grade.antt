@@ -1,4 +1,4 @@
--- Grades: one byte a row. Document 02, Note 6.
+-- Grades: one byte a row.
 use Rattle.std.specs.Prelude.{ℕ, ◌+◌, Bool, true, false, not, ◌||◌, List, [], ◌∷◌, map, length, ℤ, ltb, leb, eqb}
 use Rattle.model.specs.Basics.{pick, any}
 use Rattle.model.specs.Column.{Elem, nul, val, Row, null_row, list_row, Column, rows_of}

@@ -1,4 +1,4 @@
--- Distinct, union and intersect with a lent work area. Document 02, Note 9.
+-- Distinct, union and intersect with a lent work area.
 use Rattle.std.specs.Prelude.{ℕ, ◌+◌, max, Bool, List, [], ◌∷◌, map, ltb, length}
 use Rattle.model.specs.Basics.{pick, tab}
 use Rattle.model.specs.Limits.{Limits}

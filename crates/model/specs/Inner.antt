@@ -6,8 +6,6 @@ use Rattle.model.specs.Basics.{tab}
 use Rattle.model.specs.Bitmap.{Bits, from}
 use Rattle.model.specs.Column.{Elem, Column, column, Arguments, arguments, elem_at}
 use Rattle.model.specs.Contract.{Slice}
-use Rattle.model.specs.Widths.{used}
-use Rattle.model.specs.declared.Width.{Width}
 
 abbrev pub now_bits : Bor (List ℕ) → ℕ → Bits
 now_bits b i = from i b.now
@@ -21,13 +19,6 @@ now_column o r i v e j = column o.now (now_bits r i) v.now (now_bits e j)
 
 abbrev pub lent_from : Slice ℤ → Slice ℕ → ℕ → Slice ℤ → Slice ℕ → ℕ → Column
 lent_from o r i v e j = now_column o.entry r.entry i v.entry e.entry j
-
--- the same, the offsets of the width that is used, 32 or 64 bits
-abbrev pub now_column_at : Width → Bor (List ℤ) → Bor (List ℤ) → Bor (List ℕ) → ℕ → Bor (List ℤ) → Bor (List ℕ) → ℕ → Column
-now_column_at w o x r i v e j = column (used w o.now x.now) (now_bits r i) v.now (now_bits e j)
-
-abbrev pub lent_at : Width → Slice ℤ → Slice ℤ → Slice ℕ → ℕ → Slice ℤ → Slice ℕ → ℕ → Column
-lent_at w o x r i v e j = now_column_at w o.entry x.entry r.entry i v.entry e.entry j
 
 -- values, bitmap and its first bit
 abbrev pub now_arguments : Bor (List ℤ) → Bor (List ℕ) → ℕ → Arguments

@@ -1,4 +1,4 @@
--- How much to lend. Note 1 of document 02: the lengths that each operation needs, and a recipe's limits.
+-- How much to lend: the lengths that each operation needs, and a recipe's limits.
 use Rattle.std.specs.Prelude.{ℕ, ◌+◌, ◌≤◌, ◌<◌, min, max, ◌≡◌, Bool, true, ◌&&◌, List, [], ◌∷◌, map, length, get_or, leb}
 use Rattle.model.specs.Basics.{pick, tab, Lent, absent, given}
 use Rattle.model.specs.Limits.{Limits}
@@ -133,7 +133,7 @@ unfoldable pub limits_of : Limits → List (Lent ℕ) → List (Lent ℕ) → Li
 limits_of L fs rs es [] = tray_limits 0 0 (capped L (shown_in fs))
 limits_of L fs rs es (s ∷ ss) = steps_limits L fs rs es s ss (capped L (shown_in fs))
 
--- "The limits give 10, 1, 2 or 3 as the run would, and move no tally.", and Note 8's 13, "from Note 1's limits too". They name no station.
+-- "The limits give 10, 1, 2 or 3 as the run would, and move no tally.", and 13, which the limits give too. They name no station.
 unfoldable pub formed_limits : Limits → Recipe → List Row → List Row → List Elem → Outcome TrayLimits
 formed_limits L p ws rs es =
     gate (pick (recipe_unequal p.columns ws rs es) 3 0) (made (limits_of L (map length_if ws) (map length_if rs) es (steps_of p.numbers)))

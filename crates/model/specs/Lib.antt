@@ -18,7 +18,6 @@ pub mod Grade
 pub mod Lengths
 pub mod Call
 pub mod Contract
-pub mod Widths
 pub mod Inner
 pub mod Run
 pub mod Asked

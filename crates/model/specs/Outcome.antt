@@ -16,7 +16,7 @@ pub data Outcome (A : Type 0) : Type 0 where
 unfoldable pub gate : {A : Type 0} → ℕ → Outcome A → Outcome A
 gate k o = pick (eqb k 0) o (refused k)
 
--- "Every operation first gives 1 .., list by list; then 2"; Note 8: "13, a starting bit over 7, .. before 1": of any column, before 1 of any
+-- "Every operation first gives 1 .., list by list; then 2"; "13, a starting bit over 7, .. before 1": of any column, before 1 of any
 unfoldable pub columns_refusal : List Column → List Arguments → ℕ
 columns_refusal cs es = pick (any refusal13 cs || any refusal13ᵃ es) 13 (pick (any refusal1 cs) 1 (pick (any refusal2 cs || any refusal2ᵃ es) 2 0))
 

@@ -1,5 +1,5 @@
--- Recipes, which the port adds: a chain of list operations through two lent trays. Document 01, "Recipes". A recipe and a tray are
--- document 01's own terms; the tally stands in Tally.antt.
+-- Recipes, which the port adds: a chain of list operations through two lent trays. A recipe and a tray are
+-- terms of the rules; the tally stands in Tally.antt.
 use Rattle.std.specs.Prelude.{ℕ, ◌+◌, ◌*◌, ◌/◌, ◌%◌, Bool, not, ◌||◌, List, [], ◌∷◌, length, get_or, ltb, leb, eqb}
 use Rattle.model.specs.Basics.{pick, tab, any, absent, given}
 use Rattle.model.specs.Limits.{Limits}
@@ -109,6 +109,6 @@ unfoldable pub recipe_outcome : Limits → Recipe → Column → Column → Argu
 recipe_outcome L p c d e a b o =
     gate (pick (malformed p) 10 0) (gate (columns_refusal (c ∷ d ∷ []) (e ∷ [])) (formed_recipe L p (rows_of c) (rows_of d) (shown_by e) a b o))
 
--- Note 10 of document 02: "Answers: 15, a station over 15; it precedes 10": before what the call comes to otherwise
+-- "Answers: 15, a station over 15; it precedes 10": before what the call comes to otherwise
 unfoldable pub stationed : {A : Type 0} → ℕ → Outcome A → Outcome A
 stationed s x = gate (pick (ltb 15 s) 15 0) x

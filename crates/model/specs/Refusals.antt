@@ -1,5 +1,5 @@
 -- The refusals after 2 and before 9: 3; element's 4; 7 and 8 of resize, union and list-repeat; and that the first bad row decides.
--- Document 01, "Refused calls". Slice's 4, 5 and 6 stand in Slice, 9 in Form and Outcome. 0 stands for none.
+-- Slice's 4, 5 and 6 stand in Slice, 9 in Form and Outcome. 0 stands for none.
 use Rattle.std.specs.Prelude.{ℕ, ◌+◌, ◌*◌, Bool, false, not, ◌&&◌, ◌||◌, List, [], ◌∷◌, map, length, ℤ, pos, negsuc, ltb, eqb}
 use Rattle.model.specs.Basics.{pick, tab, Lent, absent, given}
 use Rattle.model.specs.Limits.{Limits, largest}

@@ -1,4 +1,4 @@
--- Slice: the places that it takes of a row. Document 01, "Slice:" under refused calls and under what each row becomes.
+-- Slice: the places that it takes of a row. And what refuses it.
 use Rattle.std.specs.Prelude.{ℕ, zero, suc, ◌+◌, ◌-◌, ◌*◌, ◌/◌, Bool, true, false, List, leb, ltb, eqb, get_or, ℤ, pos, negsuc}
 use Rattle.std.specs.Int.Signed.{mag}
 use Rattle.model.specs.Basics.{pick, tab}
@@ -6,7 +6,7 @@ use Rattle.model.specs.Limits.{Limits}
 use Rattle.model.specs.Column.{Elem, nul}
 
 -- "fit 32 signed bits", −2147483648 to 2147483647: `mag` of −(n+1) is n, so −2147483648 gives 2147483647 and fits; of large
--- lists, Note 5: "4 and 6 never occur"
+-- lists: "4 and 6 never occur"
 unfoldable pub fits : Limits → ℤ → Bool
 fits L z = pick L.every true (leb (mag z) L.offset)
 

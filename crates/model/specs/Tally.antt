@@ -1,5 +1,5 @@
--- The tally of recipes, station by station, and what calls do to it. Document 01, "Recipes", and Note 10 of document 02. A tally is
--- document 01's own term.
+-- The tally of recipes, station by station, and what calls do to it. A tally is
+-- a term of the rules.
 use Rattle.std.specs.Prelude.{ℕ, ◌+◌, ◌<◌, ◌≡◌, List, [], ◌∷◌, map, length, get_or, set, ltb}
 use Rattle.model.specs.Basics.{pick, All}
 use Rattle.model.specs.Limits.{largest}

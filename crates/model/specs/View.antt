@@ -1,5 +1,5 @@
 -- ListView columns: what one is and shows, when it is well-formed, what it becomes when it is read in, and what a list becomes when it is
--- written as one. Document 02, Note 3.
+-- written as one.
 use Rattle.std.specs.Prelude.{ℕ, ◌+◌, ◌<◌, ◌≡◌, Bool, true, false, not, ◌&&◌, ◌||◌, List, [], ◌∷◌, map, ltb, leb, eqb, ℤ, pos, length, get_or}
 use Rattle.std.specs.Int.Signed.{lt_z}
 use Rattle.model.specs.Basics.{pick, tab, any}
@@ -62,7 +62,7 @@ refusal11 c = any (view_outside c) (tab (λ r. r) 0 (length c.offsets))
 unfoldable pub view_refusal : View → ℕ
 view_refusal c = pick (refusal13ᵛ c) 13 (pick (refusal2ᵛ c) 2 (pick (refusal3ᵛ c) 3 (pick (refusal11 c) 11 0)))
 
--- "A ListView column is well-formed when none of 2, 3 and 11 applies to it.", and 13 (Note 8)
+-- "A ListView column is well-formed when none of 2, 3 and 11 applies to it.", and 13
 pub record WellFormedᵛ (c : View) : Type 0 where
   pub not13 : refusal13ᵛ c ≡ false
   pub not2 : refusal2ᵛ c ≡ false

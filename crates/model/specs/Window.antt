@@ -1,4 +1,4 @@
--- Looking at a few rows. Document 02, Note 12: "The supervisor wants a recipe's result for rows a up to, not including, b."
+-- Looking at a few rows: "The supervisor wants a recipe's result for rows a up to, not including, b."
 use Rattle.std.specs.Prelude.{ℕ, ◌-◌, Bool, ◌||◌, List, [], ◌∷◌, ◌++◌, length, take, drop, ltb}
 use Rattle.model.specs.Basics.{pick, tab}
 use Rattle.model.specs.Limits.{Limits}

@@ -4,6 +4,8 @@
 ghost use Rattle.model.specs.Answers.{number_of};
 ghost use Rattle.std.specs.Prelude.{◌≡◌};
 
+pub mod offsets;
+
 use std::error::Error;
 use std::fmt;
 
@@ -21,20 +23,6 @@ pub enum Unary {
 pub enum SetOp {
     Union,
     Intersect,
-}
-
-// Whether an argument column that a call may do without is lent.
-#[derive(Clone, Copy)]
-pub enum Optional {
-    Absent,
-    Lent,
-}
-
-// The width of offsets: 32 or 64 signed bits.
-#[derive(Clone, Copy)]
-pub enum Width {
-    Narrow,
-    Wide,
 }
 
 // Why a call is refused. Its number is what a C entry returns; 0 is none.

@@ -1,16 +1,13 @@
 -- Laws of argument columns cut out of one slice.
-use Prim.Native.Nat.{ℕ, ◌+◌, ◌*◌, ◌%◌, ◌<◌, ◌≤◌}
+use Prim.Native.Nat.{ℕ, ◌+◌, ◌*◌, ◌<◌, ◌≤◌}
 use mathlib.Core.Path.{◌≡◌, refl, sym, ap, ◌∙◌}
 use mathlib.Core.Bool.{Bool, true, false, ◌&&◌}
-use mathlib.Core.List.{List}
 use native.Mathlib.Omega.{arith}
 use native.Mathlib.Nat.{zero-add}
 use lib.Dec.{ltb, eqb}
-use lib.IntN.{ℤ}
 use lib.ListN.{length, take, drop}
 use Rattle.model.specs.Basics.{pick, tab}
-use Rattle.model.specs.Bitmap.{from}
-use Rattle.model.specs.Column.{Arguments, arguments, elem_at, shown_by}
+use Rattle.model.specs.Column.{Arguments, elem_at, shown_by}
 use Rattle.model.specs.Rows.{argument_of}
 use Rattle.model.proofs.ColumnLaws.{argument_at}
 use Rattle.model.proofs.TabLaws.{tab_ext}
@@ -22,7 +19,7 @@ use Rattle.ops.specs.Ops.{call_of, takes_of, table}
 use Rattle.ops.specs.declared.ListOp.{ListOp}
 use Rattle.ops.specs.declared.ListOp.TheVariants as L
 use Rattle.arguments.specs.Taken.{place_in, Serves}
-use Rattle.one_list.specs.Uses.{LiesIn, column_at}
+use Rattle.one_list.specs.Uses.{LiesIn, column_at, column_cut}
 
 place_cases : (t : Bool) (n r : ℕ) → r < n → pick t 0 r < n
 place_cases true n r h = omega arith
@@ -33,7 +30,7 @@ unfolding place_in
 place_lt limit n r h = place_cases (limit && eqb n 1) n r h
 
 module _ (e : Arguments) (g : Covers e.bits (length e.values)) (k p n : ℕ) (used : Bool) (w : LiesIn used k p n (length e.values))
-    {lent : Bool} {vs : List ℤ} {x : ℕ} {bs : List ℕ} (l : lent ≡ used) (v : vs ≡ take (pick lent n 0) (drop (k * p) e.values)) (q : bs ≡ (bits_from e.bits (k * p)).bytes) (z : x ≡ (e.bits.start + k * p) % 8) (u : used ≡ true) where
+    {lent : Bool} {x : Arguments} (l : lent ≡ used) (v : x ≡ column_cut e p (pick lent n 0) k) (u : used ≡ true) where
   inside : k * p + n ≤ length e.values
   unfolding LiesIn
   inside = rw u at w
@@ -41,11 +38,10 @@ module _ (e : Arguments) (g : Covers e.bits (length e.values)) (k p n : ℕ) (us
   source : ReadableElemsˡ e.values e.bits (k * p) n
   source = record { inside = inside; bits = g }
 
-  column_is : arguments vs (from x bs) ≡ arguments (take n (drop (k * p) e.values)) (bits_from e.bits (k * p))
-  unfolding bits_from
-  column_is = rw (v, l, u, q, z)
+  column_is : x ≡ column_cut e p n k
+  column_is = rw (v, l, u)
 
-  pub column_serves : (limit : Bool) → Serves limit n (arguments vs (from x bs))
+  pub column_serves : (limit : Bool) → Serves limit n x
   column_serves limit =
       let len = length_part e.values e.bits (k * p) n source in
       rw column_is (record {
@@ -56,14 +52,14 @@ module _ (e : Arguments) (g : Covers e.bits (length e.values)) (k p n : ℕ) (us
   shown-there : (i : ℕ) → i < n → elem_at e.values e.bits (k * p + i) ≡ argument_of (shown_by e) (k * p + (0 + i))
   shown-there i h = let y = zero-add i in rw y (sym (argument_at e (k * p + i) (omega (arith, inside))))
 
-  cut-shown : shown_by (arguments (take n (drop (k * p) e.values)) (bits_from e.bits (k * p))) ≡ column_at (shown_by e) p n k
+  cut-shown : shown_by (column_cut e p n k) ≡ column_at (shown_by e) p n k
   unfolding shown_by
   cut-shown =
       ap (tab (elem_at (take n (drop (k * p) e.values)) (bits_from e.bits (k * p))) 0) (length_part e.values e.bits (k * p) n source)
       ∙ sym (row_from_lem e.values e.bits (k * p) n source)
       ∙ tab_ext (elem_at e.values e.bits) (λ r. argument_of (shown_by e) (k * p + r)) (k * p) 0 n shown-there
 
-  pub column-shown : shown_by (arguments vs (from x bs)) ≡ column_at (shown_by e) p n k
+  pub column-shown : shown_by x ≡ column_at (shown_by e) p n k
   column-shown = ap shown_by column_is ∙ cut-shown
 
 -- a call sees the columns that it takes alone

@@ -3,17 +3,31 @@
 
 ghost use Rattle.std.specs.Prelude.{◌+◌, ◌≤◌, drop, length, take, ◌≡◌};
 ghost use Rattle.bitmap.specs.Push.{Covers};
+ghost use Rattle.bitmap.specs.Reads.{bits_in};
+ghost use Rattle.codes.specs.Codes.{step_in};
+ghost use Rattle.column.specs.Columns.{column_in, values_in};
+ghost use Rattle.column.specs.Outputs.{ListAnswers};
 ghost use Rattle.column.specs.Put.{Readable};
 ghost use Rattle.model.specs.Basics.{pick};
-ghost use Rattle.model.specs.Column.{row_count, rows_of, shown_by};
-ghost use Rattle.model.specs.Inner.{lent_arguments_from, lent_at, now_bits, now_column_at};
+ghost use Rattle.model.specs.Column.{row_count, rows_of};
 ghost use Rattle.model.specs.Outcome.{after_three};
-ghost use Rattle.model.specs.Widths.{ListAnswersAt, limits_at, used};
-ghost use Rattle.one_list.specs.Uses.{Uses, column_at};
+ghost use Rattle.one_list.specs.Uses.{LiesIn, Uses, column_cut, columns_in};
 ghost use Rattle.ops.specs.Ops.{call_of};
 
-use model::{ListAnswer, Width};
+use codes::Step;
+use column::elements::ValueColumn;
+use column::lists::{ListColumn, ListOutput};
+use model::ListAnswer;
+use model::offsets::Offset;
 use ops::ListOp;
+
+// Argument columns one after another in one slice, `pitch` values apart, of each of which so many rows are looked at.
+#[derive(Clone, Copy)]
+pub struct ArgumentColumns<'a> {
+    pub columns: ValueColumn<'a>,
+    pub pitch: usize,
+    pub rows: usize,
+}
 
 // The n values from value a on, where the column is used, else none.
 fn column_values(used: bool, args: &[i64], a: usize, n: usize) -> &[i64]
@@ -23,42 +37,39 @@ fn column_values(used: bool, args: &[i64], a: usize, n: usize) -> &[i64]
     if used { &args[a..a + n] } else { &args[a..a] }
 }
 
-// An operation on the carried list of n rows, its argument columns cut out of the one slice that they lie in, pitch values apart.
-#[rattlefmt::skip]
-pub fn one_list(
+impl<'a> ArgumentColumns<'a> {
+    // Column k where it is used, else none of its values.
+    fn column(self, used: bool, k: usize) -> ValueColumn<'a>
+        requires covers { Covers (bits_in self.columns.bits) (length self.columns.values.now) }
+        requires lies_in { LiesIn used k self.pitch self.rows (length self.columns.values.now) }
+        ensures { values_in result ≡ column_cut (values_in self.entry.columns) self.entry.pitch (pick used self.entry.rows 0) k }
+    {
+        let all = self.columns;
+        let a = k * self.pitch;
+        ValueColumn {
+            values: column_values(used, all.values, a, self.rows),
+            bits: all.bits.tail(a, all.values.len()),
+        }
+    }
+}
+
+// An operation on the carried list, its argument columns cut out of the slice that they lie in, by the numbers of a step.
+pub fn one_list<O: Offset>(
     op: ListOp,
-    offsets: &[i32], rows: &[u8], rstart: usize, values: &[i64], elements: &[u8], estart: usize,
-    n: usize, pitch: usize, first: usize, second: usize, third: usize,
-    args: &[i64], bits: &[u8], start: usize,
-    out_offsets: &mut [i32], out_rows: &mut [u8], out_values: &mut [i64], out_elements: &mut [u8],
-    width: Width, large: &[i64], out_large: &mut [i64],
+    list: ListColumn<O>,
+    step: Step,
+    args: ArgumentColumns,
+    out: &mut ListOutput<O>,
 ) -> ListAnswer
-    requires column { Readable (now_column_at width offsets large rows rstart values elements estart) }
-    requires rows { row_count (used width offsets.now large.now) ≡ n }
-    requires bits { Covers (now_bits bits start) (length args.now) }
-    requires uses { Uses op pitch n first second third (length args.now) }
-    ensures { ListAnswersAt width (after_three (limits_at width) (call_of op (rows_of (lent_at width offsets large rows rstart values elements estart)) (column_at (shown_by (lent_arguments_from args bits start)) pitch n first) (column_at (shown_by (lent_arguments_from args bits start)) pitch n second) (column_at (shown_by (lent_arguments_from args bits start)) pitch n third))) result out_offsets out_large out_rows out_values out_elements }
+    requires column { Readable (column_in O.numbers list) }
+    requires rows { row_count (O.numbers list.offsets.now) ≡ args.rows }
+    requires bits { Covers (bits_in args.columns.bits) (length args.columns.values.now) }
+    requires uses { Uses op args.pitch args.rows step.first step.second step.third (length args.columns.values.now) }
+    ensures { ListAnswers O.numbers (after_three O.LIMITS (call_of op (rows_of (column_in O.numbers list.entry)) (columns_in args.entry step.first) (columns_in args.entry step.second) (columns_in args.entry step.third))) result out.old out.new }
 {
     let k = ops::takes(op).columns;
-    let a = first * pitch;
-    let b = second * pitch;
-    let c = third * pitch;
-    let x = column_values(0 < k, args, a, n);
-    let xbits = bitmap::bits_from(bits, start, a, args.len());
-    let xstart = bitmap::start_from(start, a);
-    let y = column_values(1 < k, args, b, n);
-    let ybits = bitmap::bits_from(bits, start, b, args.len());
-    let ystart = bitmap::start_from(start, b);
-    let z = column_values(2 < k, args, c, n);
-    let zbits = bitmap::bits_from(bits, start, c, args.len());
-    let zstart = bitmap::start_from(start, c);
-    list_walk::after_three(
-        op,
-        offsets, rows, rstart, values, elements, estart,
-        x, xbits, xstart,
-        y, ybits, ystart,
-        z, zbits, zstart,
-        out_offsets, out_rows, out_values, out_elements,
-        width, large, out_large,
-    )
+    let xs = args.column(0 < k, step.first);
+    let ys = args.column(1 < k, step.second);
+    let zs = args.column(2 < k, step.third);
+    list_walk::after_three(op, list, xs, ys, zs, out)
 }

@@ -1,5 +1,5 @@
 -- The operations on one list, and what each does to one row once the row's arguments are read.
-use Rattle.std.specs.Prelude.{ℤ, Option, None, Some, Ok, Err, ℕ, Bool, true, false, List, [], eqb}
+use Rattle.std.specs.Prelude.{ℤ, Option, None, Some, Ok, Err, ℕ, Bool, true, false, ◌&&◌, List, [], eqb}
 use Rattle.model.specs.Answers.{number_of}
 use Rattle.model.specs.Basics.{pick, absent, given}
 use Rattle.model.specs.Column.{Elem, null_row, list_row, count}
@@ -25,28 +25,28 @@ call_of L.ResizeWith c x y z = resize c x (given y)
 call_of L.Replace c x y z = replace c x y z
 call_of L.Remove c x y z = remove c x y
 
--- what each operation takes: how many argument columns; which of them, counted from 1, is a limit, 0 being none; whether it resizes
-abbrev pub taking : ℕ → ℕ → Bool → Arity
-taking n k b = record { columns = n; limit = k; resize = b }
+-- what each operation takes: how many argument columns; whether the last of them is a limit; whether it resizes
+abbrev pub taking : ℕ → Bool → Bool → Arity
+taking n l b = record { columns = n; limited = l; resize = b }
 
 unfoldable pub table : ListOp → Arity
-table (L.Plain u) = taking 0 0 false
-table L.Slice = taking 2 0 false
-table L.SliceBy = taking 3 0 false
-table L.Resize = taking 1 0 true
-table L.ResizeWith = taking 2 0 true
-table L.Replace = taking 3 3 false
-table L.Remove = taking 2 2 false
+table (L.Plain u) = taking 0 false false
+table L.Slice = taking 2 false false
+table L.SliceBy = taking 3 false false
+table L.Resize = taking 1 false true
+table L.ResizeWith = taking 2 false true
+table L.Replace = taking 3 true false
+table L.Remove = taking 2 true false
 
 abbrev pub takes_of : ListOp → ℕ
 takes_of op = (table op).columns
 
--- a limit may have one row for all
+-- which of them is a limit, and so may have one row for all
 abbrev pub second_limit : ListOp → Bool
-second_limit op = eqb (table op).limit 2
+second_limit op = (table op).limited && eqb (table op).columns 2
 
 abbrev pub third_limit : ListOp → Bool
-third_limit op = eqb (table op).limit 3
+third_limit op = (table op).limited && eqb (table op).columns 3
 
 abbrev pub is_resize : ListOp → Bool
 is_resize op = (table op).resize

@@ -2,7 +2,7 @@
 #![tactic(auto)]
 
 ghost use Rattle.ops.specs.Ops.{table};
-ghost use Rattle.std.specs.Prelude.{◌≡◌};
+ghost use Rattle.std.specs.Prelude.{◌&&◌, eqb, ◌≡◌};
 
 use model::Unary;
 
@@ -29,10 +29,19 @@ pub enum ListOp {
 pub struct Arity {
     // How many it takes.
     pub columns: usize,
-    // Which of them, counted from 1, is a limit, which may have one row for all; 0 is none.
-    pub limit: usize,
+    // Whether the last of them is a limit, which may have one row for all.
+    pub limited: bool,
     // Whether the first is a count that says how long the row becomes.
     pub resize: bool,
+}
+
+impl Arity {
+    // Whether the column at place k, counted from 1, is a limit.
+    pub fn limits(self, k: usize) -> bool
+        ensures { result ≡ (self.limited && eqb self.columns k) }
+    {
+        self.limited && self.columns == k
+    }
 }
 
 // The table of what each operation takes.
@@ -43,37 +52,37 @@ pub fn takes(op: ListOp) -> Arity
     match op {
         ListOp::Plain(_) => Arity {
             columns: 0,
-            limit: 0,
+            limited: false,
             resize: false,
         },
         ListOp::Slice => Arity {
             columns: 2,
-            limit: 0,
+            limited: false,
             resize: false,
         },
         ListOp::SliceBy => Arity {
             columns: 3,
-            limit: 0,
+            limited: false,
             resize: false,
         },
         ListOp::Resize => Arity {
             columns: 1,
-            limit: 0,
+            limited: false,
             resize: true,
         },
         ListOp::ResizeWith => Arity {
             columns: 2,
-            limit: 0,
+            limited: false,
             resize: true,
         },
         ListOp::Replace => Arity {
             columns: 3,
-            limit: 3,
+            limited: true,
             resize: false,
         },
         ListOp::Remove => Arity {
             columns: 2,
-            limit: 2,
+            limited: true,
             resize: false,
         },
     }

@@ -10,7 +10,7 @@ use Rattle.model.specs.Basics.{pick, tab}
 use Rattle.model.specs.Bitmap.{valid_at}
 use Rattle.model.specs.Column.{Elem, Row, Column, Arguments, elem_at, offset_at, length_at, row_count}
 use Rattle.model.specs.Elements.{unary_elems}
-use Rattle.model.specs.Form.{elems_of, flat}
+use Rattle.model.specs.Form.{elems_of, flat, is_row}
 use Rattle.model.specs.Limits.{Limits}
 use Rattle.model.specs.Outcome.{made}
 use Rattle.model.specs.Refusals.{first_of, refusal_of}
@@ -18,7 +18,9 @@ use Rattle.model.specs.Rows.{row_made}
 use Rattle.model.specs.declared.Unary.{Unary}
 use Rattle.model.proofs.OutcomeLaws.{gate_open}
 use Rattle.model.proofs.TabLaws.{length-tab, tab_ext}
-use Rattle.column.specs.Put.{RoomInˡ, Fillsˡ}
+use Rattle.bitmap.specs.Push.{push_bit}
+use Rattle.column.specs.Put.{RoomInˡ, Fillsˡ, Writesˡ}
+use Rattle.column.specs.Rows.{WritesRowˡ}
 use Rattle.column.proofs.RowLaws.{elem_plain}
 use Rattle.set_elements.proofs.ElementLaws.{unary_le}
 use Rattle.ops.specs.Ops.{row_op_of, valid_op, op_elems, op_made}
@@ -40,6 +42,13 @@ plain-made false u es = refl
 pub plain_elems : (valid : Bool) (u : Unary) (es : List Elem) → valid ≡ true → elems_of (plain_row valid u es) ≡ unary_elems u es
 unfolding plain_row elems_of
 plain_elems valid u es h = rw h
+
+-- its bit, and its elements, are the row
+pub plain_written : (valid : Bool) (u : Unary) (es : List Elem) {r at k : ℕ} {ro ro' : List ℕ} {vo vo' : List ℤ} {eo eo' : List ℕ}
+    → Writesˡ (elems_of (plain_row valid u es)) at vo vo' eo eo' k → ro' ≡ push_bit ro r valid → WritesRowˡ (plain_row valid u es) r at ro ro' vo vo' eo eo' k
+unfolding plain_row is_row
+plain_written true u es w p = record { rows = p; values = w.values; elements = w.elements; place = w.next }
+plain_written false u es w p = record { rows = p; values = w.values; elements = w.elements; place = w.next }
 
 plain_le : (valid : Bool) (u : Unary) (es : List Elem) → length (elems_of (plain_row valid u es)) ≤ length es
 unfolding plain_row elems_of

@@ -19,7 +19,7 @@ use Rattle.model.specs.Outcome.{Outcome, gate}
 use Rattle.model.specs.Recipe.{Recipe, wrong_step, steps_of, malformed, recipe_outcome, stationed}
 use Rattle.model.specs.Tally.{Tally, tallied}
 use Rattle.model.proofs.TabLaws.{tab_ext}
-use Rattle.recipes.specs.Recipes.{recipe}
+use Rattle.recipe_refusal.specs.Refused.{recipe}
 use Rattle.wire.specs.Bytes.{number, nat, nats}
 use Rattle.wire.proofs.Lengths.{length-nats}
 use Rattle.entry.proofs.AnswerLaws.{filled}
@@ -95,23 +95,11 @@ module _ (s : List ℕ) (n : ℕ) (e : n ≡ numbers_taken (length s)) where
   pub fronts : (d : List ℕ) {d' : List ℕ} → d' ≡ over (nats 4 (take (n * 4) s)) d → take (numbers_taken (length s)) d' ≡ take (numbers_taken (length s)) (nats 4 s)
   fronts d h = rw (← e) (filled _ d n h (length-nats 4 _ ∙ front-numbers) ∙ nats-front s n few.0)
 
--- trays and output of the same lengths
-pub same_room : {o o' v v' : ℕ} (r e : ℕ) → o ≡ o' → v ≡ v' → room o' r v' e ≡ room o r v e
-same_room r e p q = rw (p, q)
-
-recipe_decoded : (station columns : ℕ) (r e sr se b : Bits) {ns ns' : List ℕ} {o o' v v' so so' sv sv' a a' : List ℤ} {p p' q q' l l' : Room} → ns ≡ ns' → o ≡ o' → v ≡ v' → so ≡ so' → sv ≡ sv' → a ≡ a' → p' ≡ p → q' ≡ q → l' ≡ l
-    → stationed station (recipe_outcome narrow (recipe ns' columns) (column o' r v' e) (column so' sr sv' se) (arguments a' b) p' q' l') ≡ stationed station (recipe_outcome narrow (recipe ns columns) (column o r v e) (column so sr sv se) (arguments a b) p q l)
-recipe_decoded station columns r e sr se b hn ho hv hs ht ha hp hq hl = rw (hn, ho, hv, hs, ht, ha, hp, hq, hl)
-
--- n as the code found it
-pub cut_at : {n m : ℕ} (d : List ℕ) {w : List ℕ} → n ≡ m → take m d ≡ w → take n d ≡ w
-cut_at d e h = rw e h
-
--- ns is the front that was decoded of the recipe in the bytes s
-pub recipe_read : (station columns : ℕ) (s : List ℕ) (r e sr se b : Bits) {ns : List ℕ} {o o' v v' so so' sv sv' a a' : List ℤ} {p p' q q' l l' : Room} → ns ≡ take (numbers_taken (length s)) (nats 4 s) → o ≡ o' → v ≡ v' → so ≡ so' → sv ≡ sv' → a ≡ a' → p' ≡ p → q' ≡ q → l' ≡ l
-    → stationed station (recipe_outcome narrow (recipe (nats 4 s) columns) (column o' r v' e) (column so' sr sv' se) (arguments a' b) p' q' l') ≡ stationed station (recipe_outcome narrow (recipe ns columns) (column o r v e) (column so sr sv se) (arguments a b) p q l)
-recipe_read station columns s r e sr se b hn ho hv hs ht ha hp hq hl =
-    recipe-front station columns (nats 4 s) _ _ _ _ _ _ (length s) (length-nats 4 s) ∙ recipe_decoded station columns r e sr se b hn ho hv hs ht ha hp hq hl
+-- ns is the front that was decoded of the recipe in the bytes s, and the columns are decoded
+pub read_is : (station columns : ℕ) (s ns : List ℕ) (n : ℕ) {c c' d d' : Column} {e e' : Arguments} (a b o : Room) → n ≡ numbers_taken (length s) → take (numbers_taken (length s)) ns ≡ take (numbers_taken (length s)) (nats 4 s) → c' ≡ c → d' ≡ d → e' ≡ e
+    → stationed station (recipe_outcome narrow (recipe (nats 4 s) columns) c d e a b o) ≡ stationed station (recipe_outcome narrow (recipe (take n ns) columns) c' d' e' a b o)
+read_is station columns s ns n {c} {c'} {d} {d'} {e} {e'} a b o hn hs hc hd he =
+    recipe-front station columns (nats 4 s) c d e a b o (length s) (length-nats 4 s) ∙ rw (hn, hs, hc, hd, he)
 
 pub tallied_as : (s : ℕ) {x y : Outcome (List Row)} (t : Tally) {u : Tally} → y ≡ x → u ≡ tallied s x t → u ≡ tallied s y t
 tallied_as s t h p = rw h p

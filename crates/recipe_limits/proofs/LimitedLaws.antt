@@ -50,7 +50,7 @@ pub null_count : (b : Bits) (e : Arguments) (a r : ℕ) → valid_at b r ≡ fal
 unfolding count_at
 null_count b e a r h = rw h
 
-pub valid_count : (b : Bits) (e : Arguments) (a r m : ℕ) → valid_at b r ≡ true → m ≡ times_at e.values e.bits (a + r) → m ≡ count_at b e a r
+pub valid_count : (b : Bits) (e : Arguments) (a r m : ℕ) → valid_at b r ≡ true → m ≡ times_at e (a + r) → m ≡ count_at b e a r
 unfolding count_at times_at
 valid_count b e a r m h q = rw (h, q)
 

@@ -8,6 +8,9 @@ use Rattle.model.specs.Lengths.{TrayLimits, tray_limits}
 use Rattle.model.specs.Recipe.{Step, step_at}
 use Rattle.model.specs.Refusals.{times_of, total}
 use Rattle.model.specs.declared.TrayElements.{TrayElements}
+use Rattle.bitmap.specs.Push.{Covers}
+use Rattle.bitmap.specs.Reads.{bits_in}
+use Rattle.recipe_limits.specs.declared.limits.Measured.{Measured}
 
 -- "its valid counts above zero over rows valid in the first list": row r's, of the column that begins at value a
 unfoldable pub count_at : Bits → Arguments → ℕ → ℕ → ℕ
@@ -28,6 +31,11 @@ limits_from most b n e second s (t ∷ ts) came =
     let m = limit_at most b n e second s.code s.first came in
     let later = limits_from most b n e second t ts m in
     tray_limits (max m later.two) later.one later.output
+
+-- the bitmaps that counts are read by reach all rows and all arguments
+pub record Covered (m : Measured) : Type 0 where
+  pub rows : Covers (bits_in m.rows) m.row_count
+  pub bits : Covers (bits_in m.arguments.bits) (length m.arguments.values.now)
 
 -- the column of a step that resizes is there
 abbrev pub Counted : Step → ℕ → ℕ → Type 0

@@ -1,49 +1,56 @@
-// Recipes: chains of list operations through two lent trays, with a tally. A recipe, a tray and a tally are document 01's own terms.
+// Recipes: chains of list operations through two lent trays, with a tally. A recipe, a tray and a tally are terms of the rules.
 #![tactic(auto)]
 
-ghost use Rattle.model.specs.Contract.{Clears, ListAnswers, room_of};
+ghost use Rattle.column.specs.Outputs.{Clears, ListAnswers, room_in};
+ghost use Rattle.copies.specs.Trayed.{Kept};
 ghost use Rattle.model.specs.Tally.{tallied};
 ghost use Rattle.recipes.specs.Recipes.{recipe_lent};
-ghost use Rattle.tally.specs.Tallies.{tally_of};
 ghost use Rattle.std.specs.Prelude.{◌≡◌};
+ghost use Rattle.tally.specs.Tallies.{tally_of};
 
-use column::offsets;
-use model::Width;
+use column::lists::ListOutput;
+use model::offsets::Offset;
+use model::{ListAnswer, Refusal};
+use recipe_refusal::{Inputs, Recipe};
 use tally::{RecipeAnswer, Tally};
 
-// Runs a recipe for a station, 0 to 15: its numbers, four a step, on the first list; the second list serves union and intersect; the
-// argument columns, as many as `columns` says, lie one after another in one slice with one bitmap. Beside each bitmap stands the bit that it
-// starts at. The trays are zero afterwards, whatever comes.
-#[rattlefmt::skip]
-pub fn run_recipe<'a>(
-    tally: Tally, station: u32, numbers: &[u32], columns: usize,
-    offsets: &[i32], rows: &[u8], rows_start: usize, values: &'a [i64], elements: &[u8], elements_start: usize,
-    second_offsets: &[i32], second_rows: &[u8], second_rows_start: usize, second_values: &'a [i64], second_elements: &[u8], second_elements_start: usize,
-    arguments: &[i64], argument_bits: &[u8], argument_start: usize,
-    one_offsets: &mut [i32], one_rows: &mut [u8], one_values: &mut [i64], one_elements: &mut [u8],
-    two_offsets: &mut [i32], two_rows: &mut [u8], two_values: &mut [i64], two_elements: &mut [u8],
-    out_offsets: &mut [i32], out_rows: &mut [u8], out_values: &mut [i64], out_elements: &mut [u8],
-) -> RecipeAnswer
-    ensures list_answers { ListAnswers (recipe_lent station columns numbers offsets rows rows_start values elements elements_start second_offsets second_rows second_rows_start second_values second_elements second_elements_start arguments argument_bits argument_start (room_of one_offsets one_rows one_values one_elements) (room_of two_offsets two_rows two_values two_elements)) result.answer out_offsets out_rows out_values out_elements }
-    ensures clears { Clears one_offsets one_rows one_values one_elements }
-    ensures clears_2 { Clears two_offsets two_rows two_values two_elements }
-    ensures tally_value { tally_of result.tally ≡ tallied station (recipe_lent station columns numbers offsets rows rows_start values elements elements_start second_offsets second_rows second_rows_start second_values second_elements second_elements_start arguments argument_bits argument_start (room_of one_offsets one_rows one_values one_elements) (room_of two_offsets two_rows two_values two_elements) (room_of out_offsets out_rows out_values out_elements)) (tally_of tally) }
+// What a recipe answers and writes for a station, its trays left as the steps leave them.
+fn answer_for<O: Offset>(
+    station: u32,
+    recipe: Recipe,
+    inputs: Inputs<O>,
+    one: &mut ListOutput<O>,
+    two: &mut ListOutput<O>,
+    out: &mut ListOutput<O>,
+) -> ListAnswer
+    ensures answers { ListAnswers O.numbers (recipe_lent O.numbers O.LIMITS station recipe.entry inputs.entry (room_in one.old) (room_in two.old)) result out.old out.new }
+    ensures one { Kept one.old one.new }
+    ensures two { Kept two.old two.new }
 {
-    let mut one_large = [0i64; 0];
-    let mut two_large = [0i64; 0];
-    let mut out_large = [0i64; 0];
-    let answer = attempt::attempt(
-        station, 0, offsets::row_count(offsets), numbers, columns,
-        offsets, rows, rows_start, values, elements, elements_start,
-        second_offsets, second_rows, second_rows_start, second_values, second_elements, second_elements_start,
-        arguments, argument_bits, argument_start,
-        one_offsets, one_rows, one_values, one_elements,
-        two_offsets, two_rows, two_values, two_elements,
-        out_offsets, out_rows, out_values, out_elements,
-        Width::Narrow, values, second_values,
-        &mut one_large, &mut two_large, &mut out_large,
-    );
-    copies::clear(one_offsets, one_rows, one_values, one_elements);
-    copies::clear(two_offsets, two_rows, two_values, two_elements);
+    if station > 15 {
+        return Err(Refusal::NoSuchStation);
+    }
+    attempt::attempt(0, inputs.list.row_count(), recipe, inputs, one, two, out)
+}
+
+// Runs a recipe for a station, 0 to 15: its numbers, four a step, on the first list; the second list serves union and intersect; the
+// argument columns, as many as the recipe says, lie one after another in one slice with one bitmap. The trays are zero afterwards, whatever comes.
+pub fn run_recipe<O: Offset>(
+    tally: Tally,
+    station: u32,
+    recipe: Recipe,
+    inputs: Inputs<O>,
+    one: &mut ListOutput<O>,
+    two: &mut ListOutput<O>,
+    out: &mut ListOutput<O>,
+) -> RecipeAnswer
+    ensures list_answers { ListAnswers O.numbers (recipe_lent O.numbers O.LIMITS station recipe.entry inputs.entry (room_in one.old) (room_in two.old)) result.answer out.old out.new }
+    ensures clears { Clears O.numbers one.old one.new }
+    ensures clears_2 { Clears O.numbers two.old two.new }
+    ensures tally_value { tally_of result.tally ≡ tallied station (recipe_lent O.numbers O.LIMITS station recipe.entry inputs.entry (room_in one.old) (room_in two.old) (room_in out.old)) (tally_of tally) }
+{
+    let answer = answer_for(station, recipe, inputs, one, two, out);
+    copies::clear(one);
+    copies::clear(two);
     tally::settle(tally, station, answer)
 }

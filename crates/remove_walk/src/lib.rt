@@ -2,80 +2,69 @@
 // what it asks.
 #![tactic(auto)]
 
-ghost use Rattle.std.specs.Prelude.{◌≤◌, length, ◌≡◌};
 ghost use Rattle.arguments.specs.Taken.{Served};
-ghost use Rattle.column.specs.Outputs.{FillsAt, RoomAt};
+ghost use Rattle.column.specs.Columns.{values_in, column_in};
+ghost use Rattle.column.specs.Outputs.{RoomFor, Fills};
 ghost use Rattle.column.specs.Put.{Readable};
 ghost use Rattle.made_rows.specs.Made.{call_rows};
 ghost use Rattle.match_rows.specs.Limits.{none};
 ghost use Rattle.model.specs.Column.{row_count};
 ghost use Rattle.model.specs.Form.{flat};
-ghost use Rattle.model.specs.Inner.{lent_arguments_from, lent_at, now_arguments, now_column_at};
-ghost use Rattle.model.specs.Widths.{limits_at, used};
+ghost use Rattle.std.specs.Prelude.{◌≤◌, length, ◌≡◌};
 
 use arguments::taken;
-use column::widths;
+use column::elements::ValueColumn;
+use column::lists::{ListColumn, ListOutput};
+use column::offsets;
 use match_rows::remove;
-use model::Width;
+use model::offsets::Offset;
 use ops::ListOp;
 
 // How many elements remove makes.
-#[rattlefmt::skip]
-pub fn measure_rows(
-    offsets: &[i32], rows: &[u8], rstart: usize, values: &[i64], elements: &[u8], estart: usize,
-    xs: &[i64], xbits: &[u8], xstart: usize,
-    ys: &[i64], ybits: &[u8], ystart: usize,
-    width: Width, large: &[i64],
-) -> usize
-    requires column { Readable (now_column_at width offsets large rows rstart values elements estart) }
-    requires arguments { Served ListOp.Remove (row_count (used width offsets.now large.now)) (now_arguments xs xbits xstart) (now_arguments ys ybits ystart) none }
-    ensures value { result ≡ length (flat (call_rows (limits_at width) ListOp.Remove (lent_at width offsets large rows rstart values elements estart) (lent_arguments_from xs xbits xstart) (lent_arguments_from ys ybits ystart) none)) }
-    ensures upper_bound { result ≤ (limits_at width).offset }
+pub fn measure_rows<O: Offset>(list: ListColumn<O>, xs: ValueColumn, ys: ValueColumn) -> usize
+    requires column { Readable (column_in O.numbers list) }
+    requires arguments { Served ListOp.Remove (row_count (O.numbers list.offsets.now)) (values_in xs) (values_in ys) none }
+    ensures value { result ≡ length (flat (call_rows O.LIMITS ListOp.Remove (column_in O.numbers list.entry) (values_in xs.entry) (values_in ys.entry) none)) }
+    ensures upper_bound { result ≤ O.LIMITS.offset }
 {
-    let n = widths::row_count(width, offsets, large);
+    let n = list.row_count();
     let mut found: usize = 0;
-    let mut a = widths::first_offset(width, offsets, large);
+    let mut a = list.first_offset();
     for r in 0..n {
-        let b = widths::offset_at(width, offsets, large, r + 1);
-        let len = b - a;
-        let limit = match_rows::limit_at(rows, rstart, n, ys, ybits, ystart, r);
-        let element = taken::taken_at(true, false, xs, xbits, xstart, n, r);
-        found += remove::measure_row(limit, element, values, elements, estart, a, len);
+        let b = list.offset_at(r + 1);
+        let limit = match_rows::limit_at(list.rows, n, ys, r);
+        let element = taken::taken_at(true, false, xs, n, r);
+        let by = remove::removal(limit, element);
+        found += remove::measure_row(by, list.elements, a, b - a);
         a = b;
     }
     found
 }
 
 // Writes the rows that remove makes, in result form.
-#[rattlefmt::skip]
-pub fn write_rows(
-    offsets: &[i32], rows: &[u8], rstart: usize, values: &[i64], elements: &[u8], estart: usize,
-    xs: &[i64], xbits: &[u8], xstart: usize,
-    ys: &[i64], ybits: &[u8], ystart: usize,
-    out_offsets: &mut [i32], out_rows: &mut [u8], out_values: &mut [i64], out_elements: &mut [u8],
-    width: Width, large: &[i64], out_large: &mut [i64],
+pub fn write_rows<O: Offset>(
+    list: ListColumn<O>,
+    xs: ValueColumn,
+    ys: ValueColumn,
+    out: &mut ListOutput<O>,
 )
-    requires column { Readable (now_column_at width offsets large rows rstart values elements estart) }
-    requires arguments { Served ListOp.Remove (row_count (used width offsets.now large.now)) (now_arguments xs xbits xstart) (now_arguments ys ybits ystart) none }
-    requires small { length (flat (call_rows (limits_at width) ListOp.Remove (now_column_at width offsets large rows rstart values elements estart) (now_arguments xs xbits xstart) (now_arguments ys ybits ystart) none)) ≤ (limits_at width).offset }
-    requires room { RoomAt width (row_count (used width offsets.now large.now)) (length (flat (call_rows (limits_at width) ListOp.Remove (now_column_at width offsets large rows rstart values elements estart) (now_arguments xs xbits xstart) (now_arguments ys ybits ystart) none))) out_offsets out_large out_rows out_values out_elements }
-    ensures { FillsAt width (call_rows (limits_at width) ListOp.Remove (lent_at width offsets large rows rstart values elements estart) (lent_arguments_from xs xbits xstart) (lent_arguments_from ys ybits ystart) none) out_offsets out_large out_rows out_values out_elements }
+    requires column { Readable (column_in O.numbers list) }
+    requires arguments { Served ListOp.Remove (row_count (O.numbers list.offsets.now)) (values_in xs) (values_in ys) none }
+    requires small { length (flat (call_rows O.LIMITS ListOp.Remove (column_in O.numbers list) (values_in xs) (values_in ys) none)) ≤ O.LIMITS.offset }
+    requires room { RoomFor (row_count (O.numbers list.offsets.now)) (length (flat (call_rows O.LIMITS ListOp.Remove (column_in O.numbers list) (values_in xs) (values_in ys) none))) out.old }
+    ensures { Fills O.numbers (call_rows O.LIMITS ListOp.Remove (column_in O.numbers list.entry) (values_in xs.entry) (values_in ys.entry) none) out.old out.new }
 {
-    let n = widths::row_count(width, offsets, large);
-    widths::put_offset(width, out_offsets, out_large, 0, 0);
+    let n = list.row_count();
+    offsets::put_offset(out.offsets, 0, 0);
     let mut at: usize = 0;
-    let mut a = widths::first_offset(width, offsets, large);
+    let mut a = list.first_offset();
     for r in 0..n {
-        let b = widths::offset_at(width, offsets, large, r + 1);
-        let len = b - a;
-        let limit = match_rows::limit_at(rows, rstart, n, ys, ybits, ystart, r);
-        let element = taken::taken_at(true, false, xs, xbits, xstart, n, r);
-        at = remove::put_row(
-            limit, element, values, elements, estart,
-            a, len, r, out_rows, out_values, out_elements,
-            at,
-        );
-        widths::put_offset(width, out_offsets, out_large, r + 1, at);
+        let b = list.offset_at(r + 1);
+        let limit = match_rows::limit_at(list.rows, n, ys, r);
+        let element = taken::taken_at(true, false, xs, n, r);
+        let by = remove::removal(limit, element);
+        at = remove::put_row(by, list.elements, a, b - a, r, out, at);
+        offsets::put_offset(out.offsets, r + 1, at);
         a = b;
     }
 }

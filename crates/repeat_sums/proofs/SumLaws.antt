@@ -1,46 +1,32 @@
 -- Laws of list-repeat's counts and sums.
-use mathlib.Core.Path.{◌≡◌, refl, sym}
+use mathlib.Core.Path.{◌≡◌, refl}
 use mathlib.Core.Bool.{Bool, true, false, ◌||◌}
-use mathlib.Core.List.{List}
-use Prim.Native.Nat.{ℕ, ◌+◌, ◌-◌, ◌*◌, ◌/◌, ◌^◌, ◌≤◌, ◌<◌}
+use Prim.Native.Nat.{ℕ, ◌+◌, ◌-◌, ◌*◌, ◌≤◌, ◌<◌}
 use native.Mathlib.Omega.{arith}
-use native.Mathlib.Nat.{mul-le-mul, div-lt_iff_lt-mul, le-div_iff_mul-le}
-use borrow.Author.Tests.{lt-ltb, le-ltb, ltb-true, ltb-false}
+use borrow.Author.Tests.{lt-ltb, le-ltb}
 use lib.Dec.{ltb}
-use lib.IntN.{ℤ, pos}
-use lib.ListN.{length, get_or}
+use lib.IntN.{pos}
+use lib.ListN.{get_or}
 use Rattle.model.specs.Basics.{tab}
-use Rattle.model.specs.Bitmap.{Bits, valid_at}
-use Rattle.model.specs.Column.{Column, count, elem_at, offset_at}
+use Rattle.model.specs.Bitmap.{valid_at}
+use Rattle.model.specs.Column.{Column, Arguments, count, elem_at, offset_at}
 use Rattle.model.specs.Limits.{Limits}
 use Rattle.model.specs.Refusals.{times_of, total}
 use Rattle.model.proofs.TabLaws.{tab-step, tab-none}
-use Rattle.bitmap.specs.Push.{Covers}
-use Rattle.column.specs.Put.{Readable}
 use Rattle.column.specs.Rows.{len_from}
-use Rattle.column.proofs.OffsetLaws.{mono}
-use Rattle.repeat_sums.specs.Counts.{Rising, times_at, repeated_at, sums}
+use Rattle.repeat_sums.specs.Counts.{times_at, repeated_at, sums}
 use Rattle.model.specs.declared.Refusal.TheVariants.{TooMany}
 use Rattle.std.specs.Prelude.{Ok, Err}
 
--- ---- the columns read
-
-pub by_count : {b : Bits} {n m : ℕ} → n ≡ m → Covers b m → Covers b n
-by_count e h = rw e h
-
--- the offsets of a column that can be read
-pub rising : (c : Column) → Readable c → Rising c.offsets
-rising c w = record { step = λ r h. mono c.offsets (length c.values) r w.offsets (omega arith) }
-
 -- ---- one count
 
-pub times_null : (cs : List ℤ) (cb : Bits) (r : ℕ) → valid_at cb r ≡ false → 0 ≡ times_at cs cb r
+pub times_null : (a : Arguments) (r : ℕ) → valid_at a.bits r ≡ false → 0 ≡ times_at a r
 unfolding times_at times_of elem_at
-times_null cs cb r e = rw e
+times_null a r e = rw e
 
-pub times_valid : (cs : List ℤ) (cb : Bits) (r : ℕ) → valid_at cb r ≡ true → count (get_or cs r (pos 0)) ≡ times_at cs cb r
+pub times_valid : (a : Arguments) (r : ℕ) → valid_at a.bits r ≡ true → count (get_or a.values r (pos 0)) ≡ times_at a r
 unfolding times_at times_of elem_at
-times_valid cs cb r e = rw e
+times_valid a r e = rw e
 
 -- ---- the sums
 
@@ -103,6 +89,6 @@ module _ (L : Limits) (T R : ℕ → ℕ) (n : ℕ) where
         }
 
 -- what a row repeats, by the count and the length read
-pub repeated_is : (o : List ℤ) (rb : Bits) (cs : List ℤ) (cb : Bits) (r t l a b : ℕ) → t ≡ times_at cs cb r → l ≡ len_from rb r a b → a ≡ offset_at o r → b ≡ offset_at o (r + 1) → t * l ≡ repeated_at o rb cs cb r
+pub repeated_is : (c : Column) (a : Arguments) (r t l p q : ℕ) → t ≡ times_at a r → l ≡ len_from c.rows r p q → p ≡ offset_at c.offsets r → q ≡ offset_at c.offsets (r + 1) → t * l ≡ repeated_at c a r
 unfolding repeated_at
-repeated_is o rb cs cb r t l a b et el ea eb = rw (et, el, ea, eb)
+repeated_is c a r t l p q et el ep eq = rw (et, el, ep, eq)

@@ -2,16 +2,19 @@
 // After repeat.rs of datafusion-functions-nested 55.2.0, Apache License 2.0, Apache Software Foundation; changed, see NOTICE.
 #![tactic(auto)]
 
-ghost use Rattle.std.specs.Prelude.{◌*◌, ◌+◌, ◌/◌, ◌<◌, ◌≤◌, ltb, pos, length, set, ◌≡◌};
 ghost use Rattle.bitmap.specs.Push.{Covers, push_bit};
+ghost use Rattle.bitmap.specs.Reads.{bits_in};
+ghost use Rattle.column.specs.Columns.{column_in, values_in};
+ghost use Rattle.column.specs.Outputs.{SameOuters};
 ghost use Rattle.model.specs.Bitmap.{valid_at};
-ghost use Rattle.model.specs.Column.{row_count};
-ghost use Rattle.model.specs.Inner.{lent_bits, now_bits};
-ghost use Rattle.model.specs.Widths.{entry_at, mut_entry_at, exit_at, limits_at, used};
-ghost use Rattle.repeat_sums.specs.Counts.{Rising, sums_of, times_at};
+ghost use Rattle.repeat_sums.specs.Counts.{Begun, sums_of, times_at};
+ghost use Rattle.std.specs.Prelude.{◌*◌, ◌+◌, ◌/◌, ◌<◌, ◌≤◌, ltb, pos, length, set, ◌≡◌};
 
-use column::widths;
-use model::{Refusal, Width};
+use column::elements::ValueColumn;
+use column::lists::{ListColumn, OuterOutput};
+use column::offsets;
+use model::Refusal;
+use model::offsets::Offset;
 use rows::utils;
 
 // What is summed: the outer lists and the values that they repeat.
@@ -21,37 +24,16 @@ pub struct Sums {
     pub values: usize,
 }
 
-// How often row r of n is repeated: not at all for a null count or one at or below 0.
-pub fn repeat_count(counts: &[i64], count_bits: &[u8], cstart: usize, n: usize, r: usize) -> usize
-    requires covers { Covers (now_bits count_bits cstart) n }
-    requires counts_len { length counts.now ≡ n }
-    requires r_lt_n { r < n }
-    ensures { result ≡ times_at counts.now (lent_bits count_bits cstart) r }
+// How often row r is repeated: not at all for a null count or one at or below 0.
+pub fn repeat_count(counts: ValueColumn, r: usize) -> usize
+    requires covers { Covers (bits_in counts.bits) (length counts.values.now) }
+    requires there { r < length counts.values.now }
+    ensures { result ≡ times_at (values_in counts.entry) r }
 {
-    if !bitmap::is_valid(count_bits, cstart, r, n) {
+    if !counts.bits.is_valid(r, counts.values.len()) {
         return 0;
     }
-    utils::limit_of(counts[r])
-}
-
-// The most outer lists.
-fn most_lists(width: Width) -> usize
-    ensures { result ≡ (limits_at width).outer }
-{
-    match width {
-        Width::Narrow => 2147483647,
-        Width::Wide => 1152921504606846974,
-    }
-}
-
-// The most values that they repeat.
-fn most_values(width: Width) -> usize
-    ensures { result ≡ (limits_at width).repeated }
-{
-    match width {
-        Width::Narrow => 2147483647,
-        Width::Wide => 1152921504606846975,
-    }
+    utils::limit_of(counts.values[r])
 }
 
 // Whether a product is over a number; one that does not fit is.
@@ -62,36 +44,23 @@ fn is_product_over(times: usize, len: usize, most: usize) -> bool
 }
 
 // Sums the outer lists, null ones among them, and the values that they repeat. A sum that exceeds its limit ends the walk.
-pub fn sum_repeats(
-    offsets: &[i32],
-    rows: &[u8],
-    rstart: usize,
-    counts: &[i64],
-    count_bits: &[u8],
-    cstart: usize,
-    width: Width,
-    large: &[i64],
-) -> Result<Sums, Refusal>
-    requires rising { Rising (used width offsets.now large.now) }
-    requires covers { Covers (now_bits rows rstart) (row_count (used width offsets.now large.now)) }
-    requires covers_2 { Covers (now_bits count_bits cstart) (row_count (used width offsets.now large.now)) }
-    requires counts_len { length counts.now ≡ row_count (used width offsets.now large.now) }
-    ensures { result ≡ sums_of (limits_at width) (entry_at width offsets large) (lent_bits rows rstart) counts.now (lent_bits count_bits cstart) }
+pub fn sum_repeats<O: Offset>(list: ListColumn<O>, counts: ValueColumn) -> Result<Sums, Refusal>
+    requires { Begun (column_in O.numbers list) (values_in counts) }
+    ensures { result ≡ sums_of O.LIMITS (column_in O.numbers list.entry) (values_in counts.entry) }
 {
-    let n = widths::row_count(width, offsets, large);
-    let list_limit = most_lists(width);
-    let value_limit = most_values(width);
+    let n = list.row_count();
+    let limits = O::LIMITS;
     let mut lists: usize = 0;
     let mut values: usize = 0;
     for r in 0..n {
-        let times = repeat_count(counts, count_bits, cstart, n, r);
-        if list_limit - lists < times {
+        let times = repeat_count(counts, r);
+        if limits.outer - lists < times {
             return Err(Refusal::TooMany);
         }
-        let a = widths::offset_at(width, offsets, large, r);
-        let b = widths::offset_at(width, offsets, large, r + 1);
-        let len = column::rows::row_len(rows, rstart, n, r, a, b);
-        if is_product_over(times, len, value_limit - values) {
+        let a = list.offset_at(r);
+        let b = list.offset_at(r + 1);
+        let len = column::rows::row_len(list.rows, n, r, a, b);
+        if is_product_over(times, len, limits.repeated - values) {
             return Err(Refusal::TooMany);
         }
         lists += times;
@@ -100,26 +69,17 @@ pub fn sum_repeats(
     Ok(Sums { lists, values })
 }
 
-// Writes outer row r of n, which ends after so many lists: its offset, and its bit, which is its count's.
-pub fn put_outer(
-    count_bits: &[u8],
-    cstart: usize,
-    n: usize,
-    r: usize,
-    lists: usize,
-    out_offsets: &mut [i32],
-    out_rows: &mut [u8],
-    width: Width,
-    out_large: &mut [i64],
-)
-    requires bits { Covers (now_bits count_bits cstart) n }
-    requires there { r < n }
-    requires few { lists ≤ (limits_at width).offset }
-    requires slot { r + 1 < length (used width out_offsets.old out_large.old) }
-    requires bit { r / 8 < length out_rows.old }
-    ensures out_large_value { exit_at width out_offsets out_large ≡ set (mut_entry_at width out_offsets out_large) (r + 1) (pos lists) }
-    ensures out_rows_after { out_rows.new ≡ push_bit out_rows.old r (valid_at (lent_bits count_bits cstart) r) }
+// Writes outer row r, which ends after so many lists: its offset, and its bit, which is its count's.
+pub fn put_outer<O: Offset>(counts: ValueColumn, r: usize, lists: usize, out: &mut OuterOutput<O>)
+    requires bits { Covers (bits_in counts.bits) (length counts.values.now) }
+    requires there { r < length counts.values.now }
+    requires few { lists ≤ O.LIMITS.offset }
+    requires slot { r + 1 < length out.old.offsets.now }
+    requires bit { r / 8 < length out.old.rows.now }
+    ensures offsets_after { O.numbers out.new.offsets.now ≡ set (O.numbers out.old.offsets.now) (r + 1) (pos lists) }
+    ensures rows_after { out.new.rows.now ≡ push_bit out.old.rows.now r (valid_at (bits_in counts.entry.bits) r) }
+    ensures same { SameOuters out.old out.new }
 {
-    bitmap::push_bit(out_rows, r, bitmap::is_valid(count_bits, cstart, r, n));
-    widths::put_offset(width, out_offsets, out_large, r + 1, lists);
+    bitmap::push_bit(out.rows, r, counts.bits.is_valid(r, counts.values.len()));
+    offsets::put_offset(out.offsets, r + 1, lists);
 }

@@ -21,8 +21,9 @@ use Rattle.model.proofs.TabLaws.{length-map}
 use Rattle.bitmap.proofs.PackLaws.{counted-nulls}
 use Rattle.column.specs.Answers.{unset}
 use Rattle.column.proofs.AnswerLaws.{has_room}
+use Rattle.column.specs.Outputs.{fits_counts}
 use Rattle.repeat_walk.specs.Outers.{RoomForOutersˡ, FillsOutersˡ}
-use Rattle.repeat_walk.specs.Repeats.{fits_counts, repeat_answer_from}
+use Rattle.repeat_walk.specs.Repeats.{repeat_answer_from}
 use Rattle.model.proofs.BoolLaws.{and_true}
 
 -- a refusal changes no output
@@ -33,8 +34,8 @@ repeat_refused k q = rw q (record { answer = refl; offsets = refl; rows = refl; 
 -- ---- room
 
 -- counts that are the rows' fit as the rows do
-pub same_fit : (os : List Outer) (lo lr li lj lv le : ℕ) {n t m ho hi : ℕ} → n ≡ length os → t ≡ length (inner os) → m ≡ length (flat (inner os)) → ho ≡ lo → hi ≡ li → fits_counts n t m (repeat_room ho lr hi lj lv le) ≡ fits_repeat os (repeat_room lo lr li lj lv le)
-same_fit os lo lr li lj lv le e f g p q = rw (e, f, g, p, q)
+pub same_fit : (os : List Outer) (l : RepeatRoom) {n t m : ℕ} → n ≡ length os → t ≡ length (inner os) → m ≡ length (flat (inner os)) → fits_counts n t m l ≡ fits_repeat os l
+same_fit os l e f g = rw (e, f, g)
 
 pub fitted-made : (os : List Outer) (l : RepeatRoom) → fits_repeat os l ≡ true → fitted_repeat os l ≡ made os
 unfolding fitted_repeat

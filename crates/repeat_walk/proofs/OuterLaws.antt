@@ -38,6 +38,25 @@ unfolding put_rows flat
 put_at s [] = omega arith
 put_at s (w ∷ ws) = let e = put_at (put_row s w) ws in omega (arith, length-append (elems_of w) (flat ws))
 
+-- writing rows keeps the lengths
+record SameLengths (s t : Outs) : Type 0 where
+  offsets : length t.offsets ≡ length s.offsets
+  rows : length t.rows ≡ length s.rows
+  values : length t.values ≡ length s.values
+  elements : length t.elements ≡ length s.elements
+
+lengths_kept : (s : Outs) (ws : List Row) → SameLengths s (put_rows s ws)
+unfolding put_rows
+lengths_kept s [] = record { offsets = refl; rows = refl; values = refl; elements = refl }
+lengths_kept s (w ∷ ws) =
+    let e = lengths_kept (put_row s w) ws in
+    record {
+      offsets = e.offsets ∙ length-set s.offsets (s.r + 1) (pos (s.at + length (elems_of w)));
+      rows = e.rows ∙ length-push_bit s.rows s.r (is_row w);
+      values = e.values ∙ length-sets s.values s.at (map value_of (elems_of w));
+      elements = e.elements ∙ length-push_bits s.elements s.at (map is_val (elems_of w));
+    }
+
 -- ---- room, row by row
 
 module _ {L : Limits} {ws : List Row} {i at lo lr lv le : ℕ} (f : RoomForRowsˡ L ws i at lo lr lv le) where
@@ -53,6 +72,10 @@ module _ {L : Limits} {ws : List Row} {i at lo lr lv le : ℕ} (f : RoomForRows�
       elements = omega (arith, f.room.elements);
     };
   }
+
+-- as much room by the lengths of the numbers
+pub room_as : {L : Limits} {os : List Outer} {lo lo' lr li li' lj lv le : ℕ} → RoomForOutersˡ L os lo lr li lj lv le → lo' ≡ lo → li' ≡ li → RoomForOutersˡ L os lo' lr li' lj lv le
+room_as h p q = rw (p, q) h
 
 -- ---- the copies of one row: those in left are still to be written
 
@@ -70,10 +93,10 @@ module _ (L : Limits) (w : Row) (first place times : ℕ) where
   copy_begun f = record { same = refl; rows = refl; fits = f; lo = refl; lr = refl; lv = refl; le = refl }
 
   pub copy_done : {io₀ : List ℤ} {ir₀ : List ℕ} {v₀ : List ℤ} {e₀ : List ℕ} {io : List ℤ} {ir : List ℕ} {v : List ℤ} {e : List ℕ} {i at left : ℕ} → Copying L w first place times io₀ ir₀ v₀ e₀ io ir v e i at left → left ≤ 0
-      → outs io ir v e (first + times) at ≡ put_rows (outs io₀ ir₀ v₀ e₀ first place) (replicate times w)
+      → outs io ir v e (first + length (replicate times w)) at ≡ put_rows (outs io₀ ir₀ v₀ e₀ first place) (replicate times w)
   unfolding put_rows
   copy_done {io = io} {ir = ir} {v = v} {e = e} {i = i} {at = at} {left = left} s h =
-      let q : first + times ≡ i = omega (arith, s.rows) in
+      let q : first + length (replicate times w) ≡ i = omega (arith, s.rows, length-replicate times w) in
       rw q (rw (replicate-none left w h) at s.same)
 
   -- a turn that writes one copy, the elements es
@@ -251,25 +274,27 @@ module _ (L : Limits) (O : ℕ → Outer) (n : ℕ) where
       pub outer_slot : r + 1 < length oo
       outer_slot = omega (arith, s.rows, s.lo, m.offsets, length-tab O 0 n)
 
-    module _ {io' : List ℤ} {ir' : List ℕ} {v' : List ℤ} {e' : List ℕ} (t k : ℕ) (eq : t ≡ length ws) (p : outs io' ir' v' e' (i + t) k ≡ put_rows (outs io ir v e i at) ws) where
+    module _ {io' : List ℤ} {ir' : List ℕ} {v' : List ℤ} {e' : List ℕ} (t k : ℕ) (eq : t ≡ length ws) (p : outs io' ir' v' e' (i + length ws) k ≡ put_rows (outs io ir v e i at) ws) where
       place : k ≡ at + length (flat ws)
       place = ap (λ (x : Outs). x.at) p ∙ put_at (outs io ir v e i at) ws
 
-      outer_same : (on : Bool) (oo' : List ℤ) (ob' : List ℕ) → is_outer (O r) ≡ on → ob' ≡ push_bit ob r on → oo' ≡ set oo (r + 1) (pos (i + t)) → outers oo' ob' (r + 1) (outs io' ir' v' e' (i + t) k) ≡ put_outer (outers oo ob r (outs io ir v e i at)) (O r)
-      outer_same on oo' ob' b q o = rw (p, q, o, b, same_rows, eq)
+      kept : SameLengths (outs io ir v e i at) (outs io' ir' v' e' (i + length ws) k)
+      kept = rw p (lengths_kept (outs io ir v e i at) ws)
 
-      pub outer-more : (on : Bool) {oo' : List ℤ} {ob' : List ℕ} → is_outer (O r) ≡ on → ob' ≡ push_bit ob r on → oo' ≡ set oo (r + 1) (pos (i + t)) → length io' ≡ length io → length ir' ≡ length ir → length v' ≡ length v → length e' ≡ length e
-          → Repeating L O n oo₀ ob₀ io₀ ir₀ v₀ e₀ oo' ob' io' ir' v' e' (r + 1) (i + t) k (left - 1)
-      outer-more on {oo'} {ob'} b q o li lj lv le = record {
+      outer_same : (on : Bool) (oo' : List ℤ) (ob' : List ℕ) → is_outer (O r) ≡ on → ob' ≡ push_bit ob r on → oo' ≡ set oo (r + 1) (pos (i + t)) → outers oo' ob' (r + 1) (outs io' ir' v' e' (i + t) k) ≡ put_outer (outers oo ob r (outs io ir v e i at)) (O r)
+      outer_same on oo' ob' b q o = rw (eq, p, q, o, b, same_rows, eq)
+
+      pub outer-more : (on : Bool) {oo' : List ℤ} {ob' : List ℕ} → is_outer (O r) ≡ on → ob' ≡ push_bit ob r on → oo' ≡ set oo (r + 1) (pos (i + t)) → Repeating L O n oo₀ ob₀ io₀ ir₀ v₀ e₀ oo' ob' io' ir' v' e' (r + 1) (i + t) k (left - 1)
+      outer-more on {oo'} {ob'} b q o = record {
         same = outers-more _ _ (O r) _ _ _ (tab-step O r left h) (outer_same on oo' ob' b q o) s.same;
         rows = omega (arith, s.rows);
-        fits = fits_as s.fits (omega (arith, rows_turn)) (omega (arith, elems_turn, place)) li lj lv le;
+        fits = fits_as s.fits (omega (arith, rows_turn)) (omega (arith, elems_turn, place)) kept.offsets kept.rows kept.values kept.elements;
         lo = ap length o ∙ length-set oo (r + 1) (pos (i + t)) ∙ s.lo;
         lr = ap length q ∙ length-push_bit ob r on ∙ s.lr;
-        li = li ∙ s.li;
-        lj = lj ∙ s.lj;
-        lv = lv ∙ s.lv;
-        le = le ∙ s.le;
+        li = kept.offsets ∙ s.li;
+        lj = kept.rows ∙ s.lj;
+        lv = kept.values ∙ s.lv;
+        le = kept.elements ∙ s.le;
       }
 
   -- the end

@@ -2,7 +2,7 @@
 use mathlib.Core.Path.{◌≡◌, refl, sym, ap, ◌∙◌}
 use mathlib.Core.Bool.{Bool, true, false, ◌||◌}
 use mathlib.Core.List.{List, [], ◌∷◌}
-use Prim.Native.Nat.{ℕ, zero, suc, ◌+◌, ◌*◌, ◌≤◌}
+use Prim.Native.Nat.{ℕ, zero, suc, ◌+◌, ◌*◌}
 use native.Mathlib.Omega.{arith}
 use borrow.Author.Tests.{eq-eqb, ne_eqb, ltb-false}
 use lib.Dec.{ltb}
@@ -10,7 +10,7 @@ use lib.IntN.{ℤ, pos}
 use lib.ListN.{length, get_or, replicate, length-append, length-replicate}
 use Rattle.model.specs.Basics.{pick, tab, any}
 use Rattle.model.specs.Bitmap.{Bits, valid_at, short_bits}
-use Rattle.model.specs.Column.{Elem, nul, val, Row, Column, Arguments, elem_at, row_at, rows_of, shown_by, row_count, offset_at, refusal13ᵃ, refusal2ᵃ}
+use Rattle.model.specs.Column.{Elem, nul, val, Row, Column, Arguments, elem_at, row_at, rows_of, shown_by, row_count, offset_at, over_seven, refusal13ᵃ, refusal2ᵃ}
 use Rattle.model.specs.Form.{is_outer, inner_of, inner, length_of, flat, RepeatRoom}
 use Rattle.model.specs.Lengths.{room_of_outer, repeat_lengths_shown, repeat_lengths}
 use Rattle.model.specs.Limits.{Limits}
@@ -23,11 +23,10 @@ use Rattle.model.proofs.TabLaws.{length-tab, tab_ext}
 use Rattle.model.proofs.ColumnLaws.{length-rows, length-shown, by_row}
 use Rattle.model.proofs.EarlyLaws.{or_first, gates}
 use Rattle.model.proofs.OutcomeLaws.{gate_open, gate_shut, thirteen_of_arguments, lists-next, arguments-next}
-use Rattle.column.specs.Rows.{row_from, len_from}
+use Rattle.column.specs.Rows.{len_from}
 use Rattle.column.proofs.RowLaws.{elems_from, flat_append}
 use Rattle.column.proofs.WalkLaws.{row_from_lem}
-use Rattle.repeat_walk.specs.Outers.{RoomForOutersˡ}
-use Rattle.repeat_walk.specs.Repeats.{repeat_at, repeat_rows, room_for_outer, early_repeat}
+use Rattle.repeat_walk.specs.Repeats.{Sized, repeat_at, repeat_rows, room_for_outer, early_repeat}
 use Rattle.repeat_sums.specs.Counts.{times_at, repeated_at, sums, sums_of}
 use Rattle.repeat_sums.specs.declared.Sums.{Sums}
 use Rattle.std.specs.Prelude.{Result, Ok, Err}
@@ -52,18 +51,9 @@ unfolding elem_at
 outer_valid w cs cb r = is_outer_lem w (valid_at cb r) (get_or cs r (pos 0))
 
 -- the rows that a turn of the walk writes
-pub copies_are : (c : Column) (a : Arguments) (r t p q : ℕ) → t ≡ times_at a.values a.bits r → p ≡ offset_at c.offsets r → q ≡ offset_at c.offsets (r + 1) → inner_of (repeat_at c a r) ≡ replicate t (row_from c.rows (elem_at c.values c.elements) r p q)
+pub copies_are : (c : Column) (a : Arguments) (r t : ℕ) → t ≡ times_at a r → inner_of (repeat_at c a r) ≡ replicate t (row_at c r)
 unfolding times_at
-copies_are c a r t p q et ep eq = rw (et, row_from_lem c r p q ep eq) (inner_of_lem (row_at c r) (elem_at a.values a.bits r))
-
--- the outer rows made, counted by the code's n
-module _ (c : Column) (a : Arguments) (n : ℕ) (e : n ≡ row_count c.offsets) where
-  pub rows_at : tab (repeat_at c a) 0 n ≡ repeat_rows c a
-  unfolding repeat_rows
-  rows_at = rw e
-
-  pub room_at : {L : Limits} {lo lo' lr li li' lj lv le : ℕ} → RoomForOutersˡ L (repeat_rows c a) lo lr li lj lv le → lo' ≡ lo → li' ≡ li → RoomForOutersˡ L (tab (repeat_at c a) 0 n) lo' lr li' lj lv le
-  room_at h p q = rw (p, q, rows_at) h
+copies_are c a r t e = rw e (inner_of_lem (row_at c r) (elem_at a.values a.bits r))
 
 -- ---- the counts of what is made
 
@@ -82,12 +72,12 @@ length_row c r =
     let E = elem_at c.values c.elements in
     ap length_of (sym (row_from_lem c r a b refl refl)) ∙ ap length (elems_from c.rows r a b E) ∙ length-tab E a (len_from c.rows r a b)
 
-repeated_by_lem : (c : Column) (a : Arguments) (r : ℕ) → repeated_by (row_at c r) (elem_at a.values a.bits r) ≡ repeated_at c.offsets c.rows a.values a.bits r
+repeated_by_lem : (c : Column) (a : Arguments) (r : ℕ) → repeated_by (row_at c r) (elem_at a.values a.bits r) ≡ repeated_at c a r
 unfolding repeated_by repeated_at times_at
 repeated_by_lem c a r = rw (length_row c r)
 
 module _ (c : Column) (a : Arguments) where
-  lists_of : (r n : ℕ) → length (inner (tab (repeat_at c a) r n)) ≡ total (tab (times_at a.values a.bits) r n)
+  lists_of : (r n : ℕ) → length (inner (tab (repeat_at c a) r n)) ≡ total (tab (times_at a) r n)
   unfolding tab inner total times_at
   lists_of r zero = refl
   lists_of r (suc n) =
@@ -95,7 +85,7 @@ module _ (c : Column) (a : Arguments) where
       let i = lists_of (suc r) n in
       rw (inner_of_lem (row_at c r) e, length-append, length-replicate, i)
 
-  values_of : (r n : ℕ) → length (flat (inner (tab (repeat_at c a) r n))) ≡ total (tab (repeated_at c.offsets c.rows a.values a.bits) r n)
+  values_of : (r n : ℕ) → length (flat (inner (tab (repeat_at c a) r n))) ≡ total (tab (repeated_at c a) r n)
   unfolding tab inner total flat repeated_by
   values_of r zero = refl
   values_of r (suc n) =
@@ -103,11 +93,11 @@ module _ (c : Column) (a : Arguments) where
       let i = values_of (suc r) n in
       rw (inner_of_lem (row_at c r) e, flat_append (replicate (times_of e) (row_at c r)) (inner (tab (repeat_at c a) (suc r) n)), length-append, length-copies, i, ← repeated_by_lem c a r)
 
-  lists_are : length (inner (repeat_rows c a)) ≡ total (tab (times_at a.values a.bits) 0 (row_count c.offsets))
+  lists_are : length (inner (repeat_rows c a)) ≡ total (tab (times_at a) 0 (row_count c.offsets))
   unfolding repeat_rows
   lists_are = lists_of 0 (row_count c.offsets)
 
-  values_are : length (flat (inner (repeat_rows c a))) ≡ total (tab (repeated_at c.offsets c.rows a.values a.bits) 0 (row_count c.offsets))
+  values_are : length (flat (inner (repeat_rows c a))) ≡ total (tab (repeated_at c a) 0 (row_count c.offsets))
   unfolding repeat_rows
   values_are = values_of 0 (row_count c.offsets)
 
@@ -118,11 +108,11 @@ module _ (c : Column) (a : Arguments) where
 -- ---- the refusals before the sums
 
 module _ (c : Column) (a : Arguments) where
-  pub early_starts : ltb 7 a.bits.start ≡ true → 13 ≡ early_repeat c a
+  pub early_starts : over_seven a.bits ≡ true → 13 ≡ early_repeat c a
   unfolding early_repeat any refusal13ᵃ
   early_starts h = rw (thirteen_of_arguments (c ∷ []) (a ∷ []) (rw h))
 
-  module _ (s : ltb 7 a.bits.start ≡ false) (k : ℕ) (e : k ≡ columns_refusal (c ∷ []) []) where
+  module _ (s : over_seven a.bits ≡ false) (k : ℕ) (e : k ≡ columns_refusal (c ∷ []) []) where
     not_over : any refusal13ᵃ (a ∷ []) ≡ false
     unfolding any refusal13ᵃ
     not_over = rw s
@@ -170,32 +160,32 @@ fit_if false false t v s e = let q : s ≡ record { lists = t; values = v } = cc
 
 module _ (L : Limits) (c : Column) (a : Arguments) where
   abbrev found : Summed
-  found = sums_of L c.offsets c.rows a.values a.bits
+  found = sums_of L c a
 
   module _ (e : length a.values ≡ row_count c.offsets) where
     made_repeats : repeats_made (rows_of c) (shown_by a) ≡ repeat_rows c a
     unfolding repeats_made repeat_rows
     made_repeats = by_row repeat_of c a e
 
-    times_shown : tab (λ r. times_of (argument_of (shown_by a) r)) 0 (length (rows_of c)) ≡ tab (times_at a.values a.bits) 0 (row_count c.offsets)
+    times_shown : tab (λ r. times_of (argument_of (shown_by a) r)) 0 (length (rows_of c)) ≡ tab (times_at a) 0 (row_count c.offsets)
     unfolding times_at
     times_shown = by_row (λ w n. times_of n) c a e
 
-    values-shown : tab (λ r. repeated_by (row_of (rows_of c) r) (argument_of (shown_by a) r)) 0 (length (rows_of c)) ≡ tab (repeated_at c.offsets c.rows a.values a.bits) 0 (row_count c.offsets)
+    values-shown : tab (λ r. repeated_by (row_of (rows_of c) r) (argument_of (shown_by a) r)) 0 (length (rows_of c)) ≡ tab (repeated_at c a) 0 (row_count c.offsets)
     values-shown = by_row repeated_by c a e ∙ tab_ext _ _ 0 0 (row_count c.offsets) (λ r h. repeated_by_lem c a (0 + r))
 
     refuses_eight : repeat_refusal L (rows_of c) (shown_by a) ≡ refused_by found
     unfolding repeat_refusal sums_of
-    refuses_eight = rw (times_shown, values-shown) (eight_sums L (total (tab (times_at a.values a.bits) 0 (row_count c.offsets))) (total (tab (repeated_at c.offsets c.rows a.values a.bits) 0 (row_count c.offsets))))
+    refuses_eight = rw (times_shown, values-shown) (eight_sums L (total (tab (times_at a) 0 (row_count c.offsets))) (total (tab (repeated_at c a) 0 (row_count c.offsets))))
 
   -- what the sums that do not exceed their limits are
-  pub sums_are : (s : Sums) → Ok s ≡ found → (s.lists ≡ length (inner (repeat_rows c a))) × (s.values ≡ length (flat (inner (repeat_rows c a)))) × (s.lists ≤ L.outer) × (s.values ≤ L.repeated)
+  pub sums_are : (s : Sums) → Ok s ≡ found → Sized L (repeat_rows c a) s
   unfolding sums_of sums
   sums_are s q =
-      let T = total (tab (times_at a.values a.bits) 0 (row_count c.offsets)) in
-      let U = total (tab (repeated_at c.offsets c.rows a.values a.bits) 0 (row_count c.offsets)) in
+      let T = total (tab (times_at a) 0 (row_count c.offsets)) in
+      let U = total (tab (repeated_at c a) 0 (row_count c.offsets)) in
       let f = fit_if (ltb L.outer T) (ltb L.repeated U) T U s q in
-      (f.2 ∙ sym (lists_are c a), f.3 ∙ sym (values_are c a), rw f.2 (ltb-false L.outer T f.0), rw f.3 (ltb-false L.repeated U f.1))
+      record { lists = f.2 ∙ sym (lists_are c a); values = f.3 ∙ sym (values_are c a); few = rw f.2 (ltb-false L.outer T f.0); small = rw f.3 (ltb-false L.repeated U f.1) }
 
   -- the run and the measure both begin with the refusals above
 
@@ -239,4 +229,4 @@ module _ (L : Limits) (c : Column) (a : Arguments) where
 
         pub lengths-made : (n : ℕ) → n ≡ row_count c.offsets → made (room_for_outer n s.lists s.values) ≡ repeat_lengths L c a
         unfolding gate
-        lengths-made n en = let m = sums_are s f in sym (lengths_go ∙ rw (← f, length_repeats c a, ← m.0, ← m.1, ← en))
+        lengths-made n en = let m = sums_are s f in sym (lengths_go ∙ rw (← f, length_repeats c a, ← m.lists, ← m.values, ← en))

@@ -1,15 +1,14 @@
 -- Writing, outer row after outer row: what that makes of list-repeat's outputs.
 use Rattle.std.specs.Prelude.{ℕ, ◌+◌, ◌≤◌, ◌≡◌, List, [], ◌∷◌, map, length, set, ℤ, pos}
-use Rattle.std.specs.Borrow.{MutBor}
 use Rattle.model.specs.Bitmap.{bytes_for, pack}
 use Rattle.model.specs.Column.{Row}
-use Rattle.model.specs.Contract.{MutSlice}
 use Rattle.model.specs.Form.{Outer, is_outer, inner_of, inner, outer_length, flat, over, offsets_from}
 use Rattle.model.specs.Limits.{Limits}
-use Rattle.model.specs.Widths.{used, limits_at, mut_entry_at, exit_at}
-use Rattle.model.specs.declared.Width.{Width}
 use Rattle.bitmap.specs.Push.{push_bit}
-use Rattle.column.specs.Put.{Outs, put_rows, RoomInˡ, Fillsˡ}
+use Rattle.column.specs.Outputs.{SameLists, SameOuters}
+use Rattle.column.specs.Put.{Outs, outs, put_rows, RoomInˡ, Fillsˡ}
+use Rattle.column.specs.declared.lists.ListOutput.{ListOutput}
+use Rattle.column.specs.declared.lists.OuterOutput.{OuterOutput}
 
 -- the two outer outputs, the outer rows written so far, and the four outputs of the inner rows
 pub record Outers : Type 0 where
@@ -51,16 +50,25 @@ pub record FillsOutersˡ (os : List Outer) (oo oo' : List ℤ) (ro ro' : List �
   pub rows : ro' ≡ over (pack (map is_outer os)) ro
   pub lists : Fillsˡ (inner os) io io' ir ir' vo vo' eo eo'
 
--- the same, said of slices, the offsets those of a width
-abbrev pub RoomForRowsAt : Width → List Row → ℕ → ℕ → MutBor (List ℤ) → MutBor (List ℤ) → MutBor (List ℕ) → MutBor (List ℤ) → MutBor (List ℕ) → Type 0
-RoomForRowsAt w ws i at o x r v e = RoomForRowsˡ (limits_at w) ws i at (length (used w o.now x.now)) (length r.now) (length v.now) (length e.now)
+-- the same, said of outputs; numbers are those of their offsets
+abbrev pub RoomForRows : {A : Type 0} → (List A → List ℤ) → Limits → List Row → ℕ → ℕ → ListOutput A → Type 0
+RoomForRows numbers L ws i at o = RoomForRowsˡ L ws i at (length (numbers o.offsets.now)) (length o.rows.now) (length o.elements.now.values.now) (length o.elements.now.bits.now)
 
-abbrev pub RoomForOutersAt : Width → List Outer → MutBor (List ℤ) → MutBor (List ℤ) → MutBor (List ℕ) → MutBor (List ℤ) → MutBor (List ℤ) → MutBor (List ℕ) → MutBor (List ℤ) → MutBor (List ℕ) → Type 0
-RoomForOutersAt w os o x r io ix ir v e =
-    RoomForOutersˡ (limits_at w) os (length (used w o.now x.now)) (length r.now) (length (used w io.now ix.now)) (length ir.now) (length v.now) (length e.now)
+abbrev pub RoomForOuters : {A : Type 0} → (List A → List ℤ) → Limits → List Outer → OuterOutput A → ListOutput A → Type 0
+RoomForOuters numbers L os o i =
+    RoomForOutersˡ L os (length (numbers o.offsets.now)) (length o.rows.now)
+    (length (numbers i.offsets.now)) (length i.rows.now) (length i.elements.now.values.now) (length i.elements.now.bits.now)
 
-abbrev pub FillsOutersAt : Width → List Outer → MutSlice ℤ → MutSlice ℤ → MutSlice ℕ → MutSlice ℤ → MutSlice ℤ → MutSlice ℕ → MutSlice ℤ → MutSlice ℕ → Type 0
-FillsOutersAt w os o x r io ix ir v e =
-    FillsOutersˡ os
-    (mut_entry_at w o x) (exit_at w o x) r.entry.now r.exit.now (mut_entry_at w io ix) (exit_at w io ix) ir.entry.now ir.exit.now
-    v.entry.now v.exit.now e.entry.now e.exit.now
+-- the rows ws are written after i rows and at elements; k is the place after them
+pub record WritesRows {A : Type 0} (numbers : List A → List ℤ) (ws : List Row) (i at : ℕ) (o o' : ListOutput A) (k : ℕ) : Type 0 where
+  pub written : outs (numbers o'.offsets.now) o'.rows.now o'.elements.now.values.now o'.elements.now.bits.now (i + length ws) k ≡ put_rows (outs (numbers o.offsets.now) o.rows.now o.elements.now.values.now o.elements.now.bits.now i at) ws
+  pub same : SameLists o o'
+
+-- the result form of the outer rows os is written, over what was there
+pub record FillsOuters {A : Type 0} (numbers : List A → List ℤ) (os : List Outer) (o o' : OuterOutput A) (i i' : ListOutput A) : Type 0 where
+  pub filled :
+      FillsOutersˡ os (numbers o.offsets.now) (numbers o'.offsets.now) o.rows.now o'.rows.now
+      (numbers i.offsets.now) (numbers i'.offsets.now) i.rows.now i'.rows.now
+      i.elements.now.values.now i'.elements.now.values.now i.elements.now.bits.now i'.elements.now.bits.now
+  pub outer : SameOuters o o'
+  pub lists : SameLists i i'

@@ -2,146 +2,116 @@
 // meet what it asks.
 #![tactic(auto)]
 
-ghost use Rattle.std.specs.Prelude.{◌<◌, ◌≤◌, ltb, length, false, true, ◌≡◌};
+ghost use Rattle.std.specs.Prelude.{IfSome, ◌<◌, ◌≤◌, length, false, true, ◌≡◌};
 ghost use Rattle.arguments.specs.Taken.{Served, Serves};
 ghost use Rattle.bitmap.specs.Push.{Covers};
-ghost use Rattle.column.specs.Outputs.{FillsAt, ReadableElems, RoomAt, RoomForRow, WritesRow};
+ghost use Rattle.bitmap.specs.Reads.{bits_in};
+ghost use Rattle.column.specs.Columns.{column_in, elems_in, values_in};
+ghost use Rattle.column.specs.Outputs.{Fills, ReadableElems, RoomFor, RoomForElems, Writes};
 ghost use Rattle.column.specs.Put.{Readable};
 ghost use Rattle.made_rows.specs.Made.{call_rows};
 ghost use Rattle.model.specs.Column.{row_count};
 ghost use Rattle.model.specs.Form.{flat};
-ghost use Rattle.model.specs.Inner.{lent_arguments_from, lent_at, lent_bits, lent_elems, now_arguments, now_bits, now_column_at, now_elems};
-ghost use Rattle.model.specs.Rows.{row_made};
-ghost use Rattle.model.specs.Widths.{limits_at, used};
-ghost use Rattle.ops.specs.Ops.{is_resize, op_made, resize_op, takes_of};
-ghost use Rattle.resize_walk.specs.Resized.{count_for, fill_for};
+ghost use Rattle.ops.specs.Ops.{is_resize, op_elems, resize_op};
+ghost use Rattle.resize_walk.specs.Resized.{count_for, fill_for, fills_in, fills_of};
 
 use arguments::taken;
-use column::widths;
+use bitmap::Validity;
+use column::elements::{ValueColumn, ValueOutput};
+use column::lists::{ListColumn, ListOutput};
+use column::offsets;
 use fills::resize;
-use model::Width;
+use model::offsets::Offset;
 use ops::ListOp;
 use rows::{Cell, Fill, utils};
 
-// Whether the operation takes a column of fills.
-fn is_filled(op: ListOp) -> bool
-    ensures { result ≡ ltb 1 (takes_of op) }
+// The column of fills, where the operation takes one.
+#[tactic(auto, unfolding(crate::specs::Resized::fills_of))]
+fn fills_of<'a>(op: ListOp, column: ValueColumn<'a>) -> Option<ValueColumn<'a>>
+    ensures { fills_in result ≡ fills_of op (values_in column.entry) }
 {
-    let t = ops::takes(op);
-    let k = t.columns;
-    1 < k
+    if 1 < ops::takes(op).columns {
+        Some(column)
+    } else {
+        None
+    }
 }
 
 // The count of row r of n; a null where the row is null.
-fn count_at(
-    rows: &[u8],
-    rstart: usize,
-    n: usize,
-    xs: &[i64],
-    xbits: &[u8],
-    xstart: usize,
-    r: usize,
-) -> Cell
-    requires covers { Covers (now_bits rows rstart) n }
-    requires serves { Serves false n (now_arguments xs xbits xstart) }
+#[tactic(auto, unfolding(crate::specs::Resized::count_for))]
+fn count_at(rows: Validity, n: usize, counts: ValueColumn, r: usize) -> Cell
+    requires covers { Covers (bits_in rows) n }
+    requires serves { Serves false n (values_in counts) }
     requires r_lt_n { r < n }
-    ensures { result ≡ count_for (lent_bits rows rstart) (lent_arguments_from xs xbits xstart) r }
+    ensures { result ≡ count_for (bits_in rows.entry) (values_in counts.entry) r }
 {
-    if !bitmap::is_valid(rows, rstart, r, n) {
+    if !rows.is_valid(r, n) {
         return None;
     }
-    taken::taken_at(true, false, xs, xbits, xstart, n, r)
+    taken::taken_at(true, false, counts, n, r)
 }
 
 // What row r of n is filled up with.
-fn fill_at(filled: bool, n: usize, ys: &[i64], ybits: &[u8], ystart: usize, r: usize) -> Fill
-    requires serves { filled ≡ true → Serves false n (now_arguments ys ybits ystart) }
+#[tactic(auto, unfolding(crate::specs::Resized::fill_for))]
+fn fill_at(fills: Option<ValueColumn>, n: usize, r: usize) -> Fill
+    requires serves { IfSome (fills_in fills) (λ a. Serves false n a) }
     requires r_lt_n { r < n }
-    ensures { result ≡ fill_for filled (lent_arguments_from ys ybits ystart) r }
+    ensures { result ≡ fill_for (fills_in fills.entry) r }
 {
-    if !filled {
-        return None;
+    match fills {
+        Some(column) => Some(taken::taken_at(true, false, column, n, r)),
+        None => None,
     }
-    Some(taken::taken_at(true, false, ys, ybits, ystart, n, r))
 }
 
-// Writes the len elements from element a on as row r, cut or filled up to a count, but for its offset; gives the number of elements
-// then written. A null count makes a null row.
-fn put_row(
+// Writes the len elements from element a on, cut or filled up to a count: none where it is null. Gives the number of elements then written.
+#[tactic(auto, unfolding(ops::specs::Ops::resize_op, ops::specs::Ops::op_elems))]
+fn put_elements(
     count: Cell,
     fill: Fill,
-    values: &[i64],
-    elements: &[u8],
-    estart: usize,
+    elements: ValueColumn,
     a: usize,
     len: usize,
-    r: usize,
-    out_rows: &mut [u8],
-    out_values: &mut [i64],
-    out_elements: &mut [u8],
+    out: &mut ValueOutput,
     at: usize,
 ) -> usize
-    requires column { ReadableElems values elements estart a len }
-    requires room { RoomForRow (row_made (op_made (resize_op count fill) (now_elems values elements estart a len))) r at out_rows out_values out_elements }
-    ensures { WritesRow (row_made (op_made (resize_op count fill) (lent_elems values elements estart a len))) r at out_rows out_values out_elements result }
+    requires column { ReadableElems elements a len }
+    requires room { RoomForElems (op_elems (resize_op count fill) (elems_in elements a len)) at out.old }
+    ensures { Writes (op_elems (resize_op count fill) (elems_in elements.entry a len)) at out.old out.new result }
 {
     match count {
-        None => {
-            bitmap::push_bit(out_rows, r, false);
-            at
-        }
-        Some(n) => {
-            let next = resize::write_resized(
-                values,
-                elements,
-                estart,
-                a,
-                len,
-                utils::limit_of(n),
-                fill,
-                out_values,
-                out_elements,
-                at,
-            );
-            bitmap::push_bit(out_rows, r, true);
-            next
-        }
+        Some(k) => resize::write_resized(elements, a, len, utils::limit_of(k), fill, out, at),
+        None => at,
     }
 }
 
 // Writes the rows that the operation makes, in result form.
-#[rattlefmt::skip]
-pub fn write_rows(
+pub fn write_rows<O: Offset>(
     op: ListOp,
-    offsets: &[i32], rows: &[u8], rstart: usize, values: &[i64], elements: &[u8], estart: usize,
-    xs: &[i64], xbits: &[u8], xstart: usize,
-    ys: &[i64], ybits: &[u8], ystart: usize,
-    zs: &[i64], zbits: &[u8], zstart: usize,
-    out_offsets: &mut [i32], out_rows: &mut [u8], out_values: &mut [i64], out_elements: &mut [u8],
-    width: Width, large: &[i64], out_large: &mut [i64],
+    list: ListColumn<O>,
+    xs: ValueColumn,
+    ys: ValueColumn,
+    zs: ValueColumn,
+    out: &mut ListOutput<O>,
 )
-    requires column { Readable (now_column_at width offsets large rows rstart values elements estart) }
-    requires arguments { Served op (row_count (used width offsets.now large.now)) (now_arguments xs xbits xstart) (now_arguments ys ybits ystart) (now_arguments zs zbits zstart) }
+    requires column { Readable (column_in O.numbers list) }
+    requires arguments { Served op (row_count (O.numbers list.offsets.now)) (values_in xs) (values_in ys) (values_in zs) }
     requires kind { is_resize op ≡ true }
-    requires small { length (flat (call_rows (limits_at width) op (now_column_at width offsets large rows rstart values elements estart) (now_arguments xs xbits xstart) (now_arguments ys ybits ystart) (now_arguments zs zbits zstart))) ≤ (limits_at width).offset }
-    requires room { RoomAt width (row_count (used width offsets.now large.now)) (length (flat (call_rows (limits_at width) op (now_column_at width offsets large rows rstart values elements estart) (now_arguments xs xbits xstart) (now_arguments ys ybits ystart) (now_arguments zs zbits zstart)))) out_offsets out_large out_rows out_values out_elements }
-    ensures { FillsAt width (call_rows (limits_at width) op (lent_at width offsets large rows rstart values elements estart) (lent_arguments_from xs xbits xstart) (lent_arguments_from ys ybits ystart) (lent_arguments_from zs zbits zstart)) out_offsets out_large out_rows out_values out_elements }
+    requires small { length (flat (call_rows O.LIMITS op (column_in O.numbers list) (values_in xs) (values_in ys) (values_in zs))) ≤ O.LIMITS.offset }
+    requires room { RoomFor (row_count (O.numbers list.offsets.now)) (length (flat (call_rows O.LIMITS op (column_in O.numbers list) (values_in xs) (values_in ys) (values_in zs)))) out.old }
+    ensures { Fills O.numbers (call_rows O.LIMITS op (column_in O.numbers list.entry) (values_in xs.entry) (values_in ys.entry) (values_in zs.entry)) out.old out.new }
 {
-    let n = widths::row_count(width, offsets, large);
-    let filled = is_filled(op);
-    widths::put_offset(width, out_offsets, out_large, 0, 0);
-    let mut at: usize = 0;
+    let n = list.row_count();
+    let fills = fills_of(op, ys);
+    offsets::put_offset(out.offsets, 0, 0);
+    let mut at = 0;
     for r in 0..n {
-        let a = widths::offset_at(width, offsets, large, r);
-        let b = widths::offset_at(width, offsets, large, r + 1);
-        let len = b - a;
-        let count = count_at(rows, rstart, n, xs, xbits, xstart, r);
-        let fill = fill_at(filled, n, ys, ybits, ystart, r);
-        at = put_row(
-            count, fill, values, elements, estart,
-            a, len, r, out_rows, out_values, out_elements,
-            at,
-        );
-        widths::put_offset(width, out_offsets, out_large, r + 1, at);
+        let a = list.offset_at(r);
+        let b = list.offset_at(r + 1);
+        let count = count_at(list.rows, n, xs, r);
+        let fill = fill_at(fills, n, r);
+        bitmap::push_bit(out.rows, r, count.is_some());
+        at = put_elements(count, fill, list.elements, a, b - a, out.elements, at);
+        offsets::put_offset(out.offsets, r + 1, at);
     }
 }

@@ -3,31 +3,25 @@
 
 mod reverse;
 
-ghost use Rattle.column.specs.Outputs.{ReadableElems, RoomForElems, Writes};
+ghost use Rattle.column.specs.Columns.{elems_in};
+ghost use Rattle.column.specs.Outputs.{RoomForElems, Writes, ReadableElems};
 ghost use Rattle.model.specs.Elements.{unary_elems};
-ghost use Rattle.model.specs.Inner.{now_elems, lent_elems};
 ghost use Rattle.std.specs.Prelude.{length, ◌≡◌};
 
+use column::elements::{ValueColumn, ValueOutput};
 use kept_elements::distinct;
 use model::Unary;
 use rows::utils;
 
 // The number of elements that the operation makes of the n elements from element a on.
 #[tactic(auto, unfolding(model::specs::Elements::unary_elems))]
-pub fn measure_plain(
-    op: Unary,
-    values: &[i64],
-    elements: &[u8],
-    estart: usize,
-    a: usize,
-    n: usize,
-) -> usize
-    requires column { ReadableElems values elements estart a n }
-    ensures { result ≡ length (unary_elems op (lent_elems values elements estart a n)) }
+pub fn measure_plain(op: Unary, elements: ValueColumn, a: usize, n: usize) -> usize
+    requires column { ReadableElems elements a n }
+    ensures { result ≡ length (unary_elems op (elems_in elements.entry a n)) }
 {
     match op {
         Unary::Reverse => n,
-        Unary::Distinct => distinct::measure_distinct(values, elements, estart, a, n),
+        Unary::Distinct => distinct::measure_distinct(elements, a, n),
         Unary::PopFront => utils::one_less(n),
         Unary::PopBack => utils::one_less(n),
     }
@@ -37,60 +31,21 @@ pub fn measure_plain(
 #[tactic(auto, using(set_elements::proofs::ElementLaws::pop_front, set_elements::proofs::ElementLaws::pop_back), unfolding(model::specs::Elements::unary_elems))]
 pub fn write_plain(
     op: Unary,
-    values: &[i64],
-    elements: &[u8],
-    estart: usize,
+    elements: ValueColumn,
     a: usize,
     n: usize,
-    out_values: &mut [i64],
-    out_elements: &mut [u8],
+    out: &mut ValueOutput,
     at: usize,
 ) -> usize
-    requires column { ReadableElems values elements estart a n }
-    requires room { RoomForElems (unary_elems op (now_elems values elements estart a n)) at out_values out_elements }
-    ensures { Writes (unary_elems op (lent_elems values elements estart a n)) at out_values out_elements result }
+    requires column { ReadableElems elements a n }
+    requires room { RoomForElems (unary_elems op (elems_in elements a n)) at out.old }
+    ensures { Writes (unary_elems op (elems_in elements.entry a n)) at out.old out.new result }
 {
     let k = utils::one_less(n);
     match op {
-        Unary::Reverse => reverse::write_backward(
-            values,
-            elements,
-            estart,
-            a,
-            n,
-            out_values,
-            out_elements,
-            at,
-        ),
-        Unary::Distinct => distinct::write_distinct(
-            values,
-            elements,
-            estart,
-            a,
-            n,
-            out_values,
-            out_elements,
-            at,
-        ),
-        Unary::PopFront => utils::write_forward(
-            values,
-            elements,
-            estart,
-            a + (n - k),
-            k,
-            out_values,
-            out_elements,
-            at,
-        ),
-        Unary::PopBack => utils::write_forward(
-            values,
-            elements,
-            estart,
-            a,
-            k,
-            out_values,
-            out_elements,
-            at,
-        ),
+        Unary::Reverse => reverse::write_backward(elements, a, n, out, at),
+        Unary::Distinct => distinct::write_distinct(elements, a, n, out, at),
+        Unary::PopFront => utils::write_forward(elements, a + (n - k), k, out, at),
+        Unary::PopBack => utils::write_forward(elements, a, k, out, at),
     }
 }

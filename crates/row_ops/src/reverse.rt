@@ -1,26 +1,25 @@
 // Reverse: the elements of a row, last first.
 // After reverse.rs of datafusion-functions-nested 55.2.0, Apache License 2.0, Apache Software Foundation; changed, see NOTICE.
-ghost use Rattle.column.specs.Outputs.{ReadableElems, RoomForElems, Writes};
-ghost use Rattle.model.specs.Inner.{now_elems, lent_elems};
+ghost use Rattle.column.specs.Columns.{elems_in};
+ghost use Rattle.column.specs.Outputs.{RoomForElems, Writes, ReadableElems};
 ghost use Rattle.std.specs.Prelude.{reverse};
+
+use column::elements::{ValueColumn, ValueOutput};
 
 // Writes the n elements from element a on, last first.
 pub fn write_backward(
-    values: &[i64],
-    elements: &[u8],
-    estart: usize,
+    elements: ValueColumn,
     a: usize,
     n: usize,
-    out_values: &mut [i64],
-    out_elements: &mut [u8],
+    out: &mut ValueOutput,
     at: usize,
 ) -> usize
-    requires column { ReadableElems values elements estart a n }
-    requires room { RoomForElems (reverse (now_elems values elements estart a n)) at out_values out_elements }
-    ensures { Writes (reverse (lent_elems values elements estart a n)) at out_values out_elements result }
+    requires column { ReadableElems elements a n }
+    requires room { RoomForElems (reverse (elems_in elements a n)) at out.old }
+    ensures { Writes (reverse (elems_in elements.entry a n)) at out.old out.new result }
 {
-    if elements.len() == 0 {
-        return runs::write_backward(values, elements, estart, a, n, out_values, out_elements, at);
+    if elements.bits.bytes.len() == 0 {
+        return runs::write_backward(elements, a, n, out, at);
     }
-    nullable_runs::write_backward(values, elements, estart, a, n, out_values, out_elements, at)
+    nullable_runs::write_backward(elements, a, n, out, at)
 }

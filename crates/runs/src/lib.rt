@@ -1,15 +1,17 @@
 // Runs of elements without nulls, or of nulls alone: values at once, and whole bytes of bits at a time. An inner crate: its callers meet what it asks.
 #![tactic(auto)]
 
-ghost use Rattle.std.specs.Prelude.{◌%◌, ◌*◌, ◌+◌, ◌-◌, ◌/◌, ◌<◌, ◌^◌, ◌≤◌, length, replicate, reverse, ◌≡◌};
 ghost use Rattle.bitmap.specs.Push.{push_bits};
-ghost use Rattle.column.specs.Outputs.{ReadableElems, RoomForElems, Writes};
+ghost use Rattle.column.specs.Columns.{elems_in};
+ghost use Rattle.column.specs.Outputs.{RoomForElems, Writes, ReadableElems};
 ghost use Rattle.model.specs.Basics.{pick};
 ghost use Rattle.model.specs.Bitmap.{bytes_for};
 ghost use Rattle.model.specs.Column.{nul, val};
 ghost use Rattle.model.specs.Inner.{now_elems, lent_elems};
+ghost use Rattle.std.specs.Prelude.{◌%◌, ◌*◌, ◌+◌, ◌-◌, ◌/◌, ◌<◌, ◌^◌, ◌≤◌, length, replicate, reverse, ◌≡◌};
 
 use column::elements;
+use column::elements::{ValueColumn, ValueOutput};
 
 // ---- bits
 
@@ -76,68 +78,56 @@ pub fn push_same(bitmap: &mut [u8], at: usize, n: usize, on: bool)
 
 // Writes the n elements from element a on, none of them null, from place at of the result on; gives the next place.
 pub fn write_forward(
-    values: &[i64],
-    elements: &[u8],
-    estart: usize,
+    elements: ValueColumn,
     a: usize,
     n: usize,
-    out_values: &mut [i64],
-    out_elements: &mut [u8],
+    out: &mut ValueOutput,
     at: usize,
 ) -> usize
-    requires column { ReadableElems values elements estart a n }
-    requires room { RoomForElems (now_elems values elements estart a n) at out_values out_elements }
-    requires plain { length elements.now ≡ 0 }
-    ensures { Writes (lent_elems values elements estart a n) at out_values out_elements result }
+    requires column { ReadableElems elements a n }
+    requires room { RoomForElems (elems_in elements a n) at out.old }
+    requires plain { length elements.bits.bytes.now ≡ 0 }
+    ensures { Writes (elems_in elements.entry a n) at out.old out.new result }
 {
-    stores::copy_values(values, a, n, out_values, at);
-    push_same(out_elements, at, n, true);
+    stores::copy_values(elements.values, a, n, out.values, at);
+    push_same(out.bits, at, n, true);
     at + n
 }
 
 // Writes the n elements from element a on, none of them null, last first.
 pub fn write_backward(
-    values: &[i64],
-    elements: &[u8],
-    estart: usize,
+    elements: ValueColumn,
     a: usize,
     n: usize,
-    out_values: &mut [i64],
-    out_elements: &mut [u8],
+    out: &mut ValueOutput,
     at: usize,
 ) -> usize
-    requires column { ReadableElems values elements estart a n }
-    requires room { RoomForElems (reverse (now_elems values elements estart a n)) at out_values out_elements }
-    requires plain { length elements.now ≡ 0 }
-    ensures { Writes (reverse (lent_elems values elements estart a n)) at out_values out_elements result }
+    requires column { ReadableElems elements a n }
+    requires room { RoomForElems (reverse (elems_in elements a n)) at out.old }
+    requires plain { length elements.bits.bytes.now ≡ 0 }
+    ensures { Writes (reverse (elems_in elements.entry a n)) at out.old out.new result }
 {
-    stores::copy_backward(values, a, n, out_values, at);
-    push_same(out_elements, at, n, true);
+    stores::copy_backward(elements.values, a, n, out.values, at);
+    push_same(out.bits, at, n, true);
     at + n
 }
 
 // Writes a value n times; gives the next place.
-pub fn write_value(
-    v: i64,
-    n: usize,
-    out_values: &mut [i64],
-    out_elements: &mut [u8],
-    at: usize,
-) -> usize
-    requires room { RoomForElems (replicate n (val v)) at out_values out_elements }
-    ensures { Writes (replicate n (val v)) at out_values out_elements result }
+pub fn write_value(v: i64, n: usize, out: &mut ValueOutput, at: usize) -> usize
+    requires room { RoomForElems (replicate n (val v)) at out.old }
+    ensures { Writes (replicate n (val v)) at out.old out.new result }
 {
-    stores::fill_values(v, n, out_values, at);
-    push_same(out_elements, at, n, true);
+    stores::fill_values(v, n, out.values, at);
+    push_same(out.bits, at, n, true);
     at + n
 }
 
 // Writes n nulls; gives the next place.
-pub fn write_null(n: usize, out_values: &mut [i64], out_elements: &mut [u8], at: usize) -> usize
-    requires room { RoomForElems (replicate n nul) at out_values out_elements }
-    ensures { Writes (replicate n nul) at out_values out_elements result }
+pub fn write_null(n: usize, out: &mut ValueOutput, at: usize) -> usize
+    requires room { RoomForElems (replicate n nul) at out.old }
+    ensures { Writes (replicate n nul) at out.old out.new result }
 {
-    stores::fill_values(elements::UNDER_NULL, n, out_values, at);
-    push_same(out_elements, at, n, false);
+    stores::fill_values(elements::UNDER_NULL, n, out.values, at);
+    push_same(out.bits, at, n, false);
     at + n
 }

@@ -4,17 +4,19 @@
 
 ghost use Rattle.std.specs.Prelude.{◌<◌, eqb, ◌&&◌, [], ◌∷◌, ◌≡◌};
 ghost use Rattle.bitmap.specs.Push.{Covers};
+ghost use Rattle.bitmap.specs.Reads.{bits_in};
+ghost use Rattle.column.specs.Columns.{column_in};
 ghost use Rattle.model.specs.Answers.{refused_by};
 ghost use Rattle.model.specs.Bitmap.{valid_at};
 ghost use Rattle.model.specs.Column.{row_count};
-ghost use Rattle.model.specs.Inner.{lent_at, lent_bits, now_bits};
 ghost use Rattle.model.specs.Outcome.{columns_refusal};
 ghost use Rattle.model.specs.Refusals.{union_refusal};
-ghost use Rattle.model.specs.Widths.{entry_at, limits_at};
 ghost use Rattle.set_checks.specs.Earlier.{earlier};
 
-use column::widths;
-use model::{Refusal, SetOp, Width};
+use bitmap::Validity;
+use column::lists::ListColumn;
+use model::offsets::Offset;
+use model::{Refusal, SetOp};
 
 // Which of two lists' refusals comes first.
 fn earlier(left: Result<(), Refusal>, right: Result<(), Refusal>) -> Result<(), Refusal>
@@ -33,81 +35,36 @@ fn earlier(left: Result<(), Refusal>, right: Result<(), Refusal>) -> Result<(), 
 }
 
 // A starting bit over 7 of either list, else bad offsets of either, else a short bitmap of either.
-pub fn lists_refusal(
-    loffsets: &[i32],
-    lrows: &[u8],
-    l_rstart: usize,
-    lvalues: &[i64],
-    lelements: &[u8],
-    l_estart: usize,
-    roffsets: &[i32],
-    rrows: &[u8],
-    r_rstart: usize,
-    rvalues: &[i64],
-    relements: &[u8],
-    r_estart: usize,
-    width: Width,
-    llarge: &[i64],
-    rlarge: &[i64],
-) -> Result<(), Refusal>
-    ensures { refused_by result ≡ columns_refusal (lent_at width loffsets llarge lrows l_rstart lvalues lelements l_estart ∷ lent_at width roffsets rlarge rrows r_rstart rvalues relements r_estart ∷ []) [] }
+pub fn lists_refusal<O: Offset>(left: ListColumn<O>, right: ListColumn<O>) -> Result<(), Refusal>
+    ensures { refused_by result ≡ columns_refusal (column_in O.numbers left.entry ∷ column_in O.numbers right.entry ∷ []) [] }
 {
-    let left = checks::list_refusal(
-        loffsets, lrows, l_rstart, lvalues, lelements, l_estart, width, llarge,
-    );
-    let right = checks::list_refusal(
-        roffsets, rrows, r_rstart, rvalues, relements, r_estart, width, rlarge,
-    );
-    earlier(left, right)
+    earlier(checks::list_refusal(left), checks::list_refusal(right))
 }
 
 // Whether both lists have as many rows.
-pub fn same_row_count(
-    loffsets: &[i32],
-    roffsets: &[i32],
-    width: Width,
-    llarge: &[i64],
-    rlarge: &[i64],
-) -> bool
-    ensures { result ≡ eqb (row_count (entry_at width roffsets rlarge)) (row_count (entry_at width loffsets llarge)) }
+pub fn same_row_count<O: Offset>(left: ListColumn<O>, right: ListColumn<O>) -> bool
+    ensures { result ≡ eqb (row_count (column_in O.numbers right.entry).offsets) (row_count (column_in O.numbers left.entry).offsets) }
 {
-    widths::row_count(width, roffsets, rlarge) == widths::row_count(width, loffsets, llarge)
+    right.row_count() == left.row_count()
 }
 
 // Whether row r of n is valid in both lists.
-pub fn are_valid(
-    lrows: &[u8],
-    l_rstart: usize,
-    rrows: &[u8],
-    r_rstart: usize,
-    n: usize,
-    r: usize,
-) -> bool
-    requires left { Covers (now_bits lrows l_rstart) n }
-    requires right { Covers (now_bits rrows r_rstart) n }
+pub fn are_valid(left: Validity, right: Validity, n: usize, r: usize) -> bool
+    requires left { Covers (bits_in left) n }
+    requires right { Covers (bits_in right) n }
     requires there { r < n }
-    ensures { result ≡ valid_at (lent_bits lrows l_rstart) r && valid_at (lent_bits rrows r_rstart) r }
+    ensures { result ≡ valid_at (bits_in left.entry) r && valid_at (bits_in right.entry) r }
 {
-    bitmap::is_valid(lrows, l_rstart, r, n) && bitmap::is_valid(rrows, r_rstart, r, n)
-}
-
-// The most elements of a union.
-fn most_united(width: Width) -> usize
-    ensures { result ≡ (limits_at width).united }
-{
-    match width {
-        Width::Narrow => 2147483647,
-        Width::Wide => 9223372036854775807,
-    }
+    left.is_valid(r, n) && right.is_valid(r, n)
 }
 
 // A union of more elements than the offsets' width allows.
 #[tactic(auto, unfolding(model::specs::Refusals::union_refusal))]
-pub fn union_refusal(op: SetOp, m: usize, width: Width) -> Result<(), Refusal>
-    ensures { refused_by result ≡ union_refusal (limits_at width) op m }
+pub fn union_refusal<O: Offset>(op: SetOp, m: usize) -> Result<(), Refusal>
+    ensures { refused_by result ≡ union_refusal O.LIMITS op m }
 {
     match op {
-        SetOp::Union if most_united(width) < m => Err(Refusal::TooMany),
+        SetOp::Union if O::LIMITS.united < m => Err(Refusal::TooMany),
         _ => Ok(()),
     }
 }

@@ -2,13 +2,16 @@
 // asks.
 #![tactic(auto)]
 
-ghost use Rattle.std.specs.Prelude.{◌+◌, ◌<◌, ◌≤◌, length, false, ◌≡◌};
 ghost use Rattle.bitmap.specs.Push.{Covers};
+ghost use Rattle.bitmap.specs.Reads.{bits_in};
+ghost use Rattle.column.specs.Columns.{elem_in, elems_in};
 ghost use Rattle.model.specs.Column.{nul, val};
 ghost use Rattle.model.specs.Elements.{eq_z, is_in, same_elem};
-ghost use Rattle.model.specs.Inner.{now_bits, lent_elem, lent_elems};
 ghost use Rattle.set_elements.specs.Pairs.{has_value};
 ghost use Rattle.set_elements.specs.Search.{Before, value_is};
+ghost use Rattle.std.specs.Prelude.{◌+◌, ◌<◌, ◌≤◌, length, false, ◌≡◌};
+
+use column::elements::ValueColumn;
 
 pub fn same_value(a: i64, b: i64) -> bool
     ensures { result ≡ eq_z a b }
@@ -18,27 +21,18 @@ pub fn same_value(a: i64, b: i64) -> bool
 
 // Whether element i of one column and element j of another are the same: two nulls, or one value.
 #[tactic(auto, unfolding(model::specs::Elements::same_elem, model::specs::Column::elem_at))]
-pub fn same_elem(
-    values: &[i64],
-    elements: &[u8],
-    estart: usize,
-    i: usize,
-    others: &[i64],
-    oelements: &[u8],
-    ostart: usize,
-    j: usize,
-) -> bool
-    requires i_in_bounds { i < length values.now }
-    requires covers { Covers (now_bits elements estart) (length values.now) }
-    requires j_in_bounds { j < length others.now }
-    requires covers_2 { Covers (now_bits oelements ostart) (length others.now) }
-    ensures { result ≡ same_elem (lent_elem values elements estart i) (lent_elem others oelements ostart j) }
+pub fn same_elem(elements: ValueColumn, i: usize, others: ValueColumn, j: usize) -> bool
+    requires i_in_bounds { i < length elements.values.now }
+    requires covers { Covers (bits_in elements.bits) (length elements.values.now) }
+    requires j_in_bounds { j < length others.values.now }
+    requires covers_2 { Covers (bits_in others.bits) (length others.values.now) }
+    ensures { result ≡ same_elem (elem_in elements.entry i) (elem_in others.entry j) }
 {
-    let valid = bitmap::is_valid(elements, estart, i, values.len());
-    if valid != bitmap::is_valid(oelements, ostart, j, others.len()) {
+    let valid = elements.bits.is_valid(i, elements.values.len());
+    if valid != others.bits.is_valid(j, others.values.len()) {
         return false;
     }
-    !valid || same_value(values[i], others[j])
+    !valid || same_value(elements.values[i], others.values[j])
 }
 
 // Whether a value is one of four: no branch among them, so that they are compared at once.
@@ -82,16 +76,16 @@ pub fn before_value(values: &[i64], a: usize, k: usize, v: i64) -> usize
 
 // Whether a value is one of the valid elements among the k from element a on: the bit is read only where the value is equal.
 // It goes from match to match, so a `for` would need a step of its own.
-fn has_valid(others: &[i64], oelements: &[u8], ostart: usize, a: usize, k: usize, v: i64) -> bool
-    requires k_in_bounds { a + k ≤ length others.now }
-    requires covers { Covers (now_bits oelements ostart) (length others.now) }
-    ensures { result ≡ is_in (val v) (lent_elems others oelements ostart a k) }
+fn has_valid(others: ValueColumn, a: usize, k: usize, v: i64) -> bool
+    requires k_in_bounds { a + k ≤ length others.values.now }
+    requires covers { Covers (bits_in others.bits) (length others.values.now) }
+    ensures { result ≡ is_in (val v) (elems_in others.entry a k) }
 {
     let end = a + k;
     let mut p = a;
     while p < end {
-        let found = p + before_value(others, p, end - p, v);
-        if found < end && bitmap::is_valid(oelements, ostart, found, others.len()) {
+        let found = p + before_value(others.values, p, end - p, v);
+        if found < end && others.bits.is_valid(found, others.values.len()) {
             return true;
         }
         p = found + 1;
@@ -100,16 +94,16 @@ fn has_valid(others: &[i64], oelements: &[u8], ostart: usize, a: usize, k: usize
 }
 
 // Whether one of the k elements from element a on is null.
-fn has_null(others: &[i64], oelements: &[u8], ostart: usize, a: usize, k: usize) -> bool
-    requires k_in_bounds { a + k ≤ length others.now }
-    requires covers { Covers (now_bits oelements ostart) (length others.now) }
-    ensures { result ≡ is_in nul (lent_elems others oelements ostart a k) }
+fn has_null(others: ValueColumn, a: usize, k: usize) -> bool
+    requires k_in_bounds { a + k ≤ length others.values.now }
+    requires covers { Covers (bits_in others.bits) (length others.values.now) }
+    ensures { result ≡ is_in nul (elems_in others.entry a k) }
 {
-    if oelements.is_empty() {
+    if others.bits.bytes.is_empty() {
         return false;
     }
     for p in a..a + k {
-        if !bitmap::is_valid(oelements, ostart, p, others.len()) {
+        if !others.bits.is_valid(p, others.values.len()) {
             return true;
         }
     }
@@ -118,28 +112,18 @@ fn has_null(others: &[i64], oelements: &[u8], ostart: usize, a: usize, k: usize)
 
 // Whether element i of one column is among the k elements from element a on of another: values alone where no element can be null, a value
 // among the valid ones, a null among the bits.
-pub fn is_among(
-    values: &[i64],
-    elements: &[u8],
-    estart: usize,
-    i: usize,
-    others: &[i64],
-    oelements: &[u8],
-    ostart: usize,
-    a: usize,
-    k: usize,
-) -> bool
-    requires i_in_bounds { i < length values.now }
-    requires covers { Covers (now_bits elements estart) (length values.now) }
-    requires k_in_bounds { a + k ≤ length others.now }
-    requires covers_2 { Covers (now_bits oelements ostart) (length others.now) }
-    ensures { result ≡ is_in (lent_elem values elements estart i) (lent_elems others oelements ostart a k) }
+pub fn is_among(elements: ValueColumn, i: usize, others: ValueColumn, a: usize, k: usize) -> bool
+    requires i_in_bounds { i < length elements.values.now }
+    requires covers { Covers (bits_in elements.bits) (length elements.values.now) }
+    requires k_in_bounds { a + k ≤ length others.values.now }
+    requires covers_2 { Covers (bits_in others.bits) (length others.values.now) }
+    ensures { result ≡ is_in (elem_in elements.entry i) (elems_in others.entry a k) }
 {
-    if elements.is_empty() && oelements.is_empty() {
-        return has_value(others, a, k, values[i]);
+    if elements.bits.bytes.is_empty() && others.bits.bytes.is_empty() {
+        return has_value(others.values, a, k, elements.values[i]);
     }
-    if bitmap::is_valid(elements, estart, i, values.len()) {
-        return has_valid(others, oelements, ostart, a, k, values[i]);
+    if elements.bits.is_valid(i, elements.values.len()) {
+        return has_valid(others, a, k, elements.values[i]);
     }
-    has_null(others, oelements, ostart, a, k)
+    has_null(others, a, k)
 }

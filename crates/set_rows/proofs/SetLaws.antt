@@ -2,7 +2,7 @@
 use mathlib.Core.Path.{◌≡◌, refl, sym, ap, ◌∙◌}
 use mathlib.Core.Bool.{Bool, true, false, not, ◌&&◌, ◌||◌}
 use mathlib.Core.List.{List, [], ◌∷◌, ◌++◌, map, map-append, append_assoc, append-nil}
-use Prim.Native.Nat.{ℕ, suc, ◌+◌, ◌-◌, ◌%◌, ◌≤◌, ◌<◌}
+use Prim.Native.Nat.{ℕ, suc, ◌+◌, ◌-◌, ◌≤◌, ◌<◌}
 use native.Mathlib.Omega.{arith}
 use native.Mathlib.Numerals.{add-one}
 use borrow.Author.Tests.{lt-ltb, le-ltb, ltb-true, ltb-false}
@@ -10,20 +10,19 @@ use lib.Dec.{ltb}
 use lib.IntN.{ℤ}
 use lib.ListN.{length, length-append}
 use lib.Seq.{sets, length-sets}
-use Rattle.bitmap.specs.Push.{push_bit, bits_from, push_bits}
+use Rattle.bitmap.specs.Push.{push_bit, push_bits}
 use Rattle.bitmap.proofs.BitLaws.{bit_le, length-push_bits}
 use Rattle.model.specs.Basics.{pick, tab}
-use Rattle.model.specs.Bitmap.{Bits, from, bit}
-use Rattle.model.specs.Column.{Elem, elem_at}
+use Rattle.model.specs.Bitmap.{bit}
+use Rattle.model.specs.Column.{Elem}
 use Rattle.model.specs.Form.{is_val, value_of}
 use Rattle.model.specs.Elements.{same_elem, is_in, firsts, distinct, common, set_elems}
 use Rattle.model.specs.declared.SetOp.{SetOp}
 use Rattle.model.specs.declared.SetOp.TheVariants.{Union, Intersect}
-use Rattle.model.proofs.TabLaws.{length-tab, tab-step, tab-none, tab-last, length-map}
-use Rattle.column.specs.Put.{ReadableElemsˡ, RoomForElemsˡ, Writesˡ}
+use Rattle.model.proofs.TabLaws.{tab-step, tab-none, tab-last, length-map}
+use Rattle.column.specs.Put.{RoomForElemsˡ, Writesˡ}
 use Rattle.set_elements.specs.Pairs.{keeps, kept}
 use Rattle.set_elements.proofs.PairLaws.{not_so, same_eq, is_in-append}
-use Rattle.set_elements.proofs.PartLaws.{cut_source, cut_row, Longer, longer_right, longer_left}
 
 -- ---- the walk: what is left after k elements, with those as seen
 
@@ -157,27 +156,6 @@ module _ (l r : List Elem) where
   unfolding set_elems common
   intersect_left h = rw (le-ltb _ _ h) (firsts-common r [] l)
 
--- ---- the part that `longer` hands back, as the row walked: x is the place of its first bit in the bytes bs
-
-module _ (lv : List ℤ) (lb : Bits) (a n : ℕ) (rv : List ℤ) (rb : Bits) (b m : ℕ) (s : ReadableElemsˡ lv lb a n) (t : ReadableElemsˡ rv rb b m) {w : List ℤ} {x : ℕ} {bs : List ℕ} (e : Longer lv rv a n b m w) where
-  module _ (h : n < m) (p : x ≡ (rb.start + b) % 8) (q : bs ≡ (bits_from rb b).bytes) where
-    pub right_source : ReadableElemsˡ w (from x bs) 0 m
-    right_source = cut_source rv rb b m t (longer_right lv rv a n b m s.inside t.inside e h) p q
-
-    pub right_walked : set_elems Intersect (tab (elem_at lv lb) a n) (tab (elem_at rv rb) b m) ≡ kept true (tab (elem_at lv lb) a n) [] (tab (elem_at w (from x bs)) 0 m)
-    right_walked =
-        intersect_right (tab (elem_at lv lb) a n) (tab (elem_at rv rb) b m) (omega (arith, length-tab (elem_at lv lb) a n, length-tab (elem_at rv rb) b m))
-        ∙ rw (cut_row rv rb b m t (longer_right lv rv a n b m s.inside t.inside e h) p q)
-
-  module _ (h : m ≤ n) (p : x ≡ (lb.start + a) % 8) (q : bs ≡ (bits_from lb a).bytes) where
-    pub left_source : ReadableElemsˡ w (from x bs) 0 n
-    left_source = cut_source lv lb a n s (longer_left lv rv a n b m s.inside t.inside e h) p q
-
-    pub left_walked : set_elems Intersect (tab (elem_at lv lb) a n) (tab (elem_at rv rb) b m) ≡ kept true (tab (elem_at rv rb) b m) [] (tab (elem_at w (from x bs)) 0 n)
-    left_walked =
-        intersect_left (tab (elem_at lv lb) a n) (tab (elem_at rv rb) b m) (omega (arith, length-tab (elem_at lv lb) a n, length-tab (elem_at rv rb) b m))
-        ∙ rw (cut_row lv lb a n s (longer_left lv rv a n b m s.inside t.inside e h) p q)
-
 -- ---- lengths
 
 kept-one : (b : Bool) (e : Elem) (es : List Elem) (n : ℕ) → length es ≤ n → length (pick b (e ∷ es) es) ≤ suc n
@@ -253,12 +231,9 @@ module _ (l r : List Elem) where
       by true e = let h = ltb-true _ _ e in rw (intersect_right l r h) (f h)
       by false e = let h = ltb-false _ _ e in rw (intersect_left l r h) (g h)
 
-  -- an intersection is no longer than either row
+  -- an intersection is no longer than the left row
   pub intersect_le_left : length (set_elems Intersect l r) ≤ length l
   intersect_le_left = either (λ n. n ≤ length l) (λ h. omega (arith, shared_le l [] r, unseen_le l [])) (λ h. kept_le true r [] l)
-
-  pub intersect_le_right : length (set_elems Intersect l r) ≤ length r
-  intersect_le_right = either (λ n. n ≤ length r) (λ h. kept_le true l [] r) (λ h. omega (arith, shared_le r [] l, unseen_le r []))
 
 pub set_le : (op : SetOp) (l r : List Elem) → length (set_elems op l r) ≤ length l + length r
 set_le Union l r = union_le l r

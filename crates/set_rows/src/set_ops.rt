@@ -1,233 +1,182 @@
 // Union and intersect of one pair of rows, by comparing with the elements before.
 // After set_ops.rs of datafusion-functions-nested 55.2.0, Apache License 2.0, Apache Software Foundation; changed, see NOTICE.
-ghost use Rattle.std.specs.Prelude.{◌+◌, ◌<◌, ◌^◌, length, [], ◌≡◌};
-ghost use Rattle.column.specs.Outputs.{ReadableElems, RoomForElems, Writes};
+ghost use Rattle.std.specs.Prelude.{◌+◌, ◌<◌, ◌^◌, length, ltb, [], ◌++◌, ◌≡◌};
+ghost use Rattle.column.specs.Outputs.{RoomForElems, Writes};
+ghost use Rattle.model.specs.Basics.{pick};
 ghost use Rattle.model.specs.Elements.{set_elems};
-ghost use Rattle.model.specs.Inner.{now_elems, lent_elems};
 ghost use Rattle.set_elements.specs.Pairs.{kept};
+ghost use Rattle.set_rows.specs.Runs.{ReadableRun, run_elems};
 
-use column::elements;
+use crate::runs::Run;
+use column::elements::{ValueColumn, ValueOutput};
 use kept_elements::set_ops;
 use model::SetOp;
 
-// How many of the n elements from element a on are kept.
-fn measure_kept(
-    values: &[i64],
-    elements: &[u8],
-    estart: usize,
-    a: usize,
-    n: usize,
-    others: &[i64],
-    oelements: &[u8],
-    ostart: usize,
-    b: usize,
-    m: usize,
-    shared: bool,
-) -> usize
-    requires row { ReadableElems values elements estart a n }
-    requires other { ReadableElems others oelements ostart b m }
-    ensures { result ≡ length (kept shared (lent_elems others oelements ostart b m) [] (lent_elems values elements estart a n)) }
+// How many of a row's elements are kept.
+fn measure_kept(row: Run, others: Run, shared: bool) -> usize
+    requires row { ReadableRun row }
+    requires other { ReadableRun others }
+    ensures { result ≡ length (kept shared (run_elems others.entry) [] (run_elems row.entry)) }
 {
     let mut len: usize = 0;
-    for k in 0..n {
+    for k in 0..row.count {
         let new = set_ops::is_kept(
-            values, elements, estart, a, k, others, oelements, ostart, b, m, shared,
+            row.column,
+            row.from,
+            k,
+            others.column,
+            others.from,
+            others.count,
+            shared,
         );
         len += usize::from(new);
     }
     len
 }
 
-// Writes those of the n elements from element a on that are kept.
-#[rattlefmt::skip]
-fn write_kept(
-    values: &[i64], elements: &[u8], estart: usize,
-    a: usize, n: usize, others: &[i64], oelements: &[u8], ostart: usize, b: usize, m: usize, shared: bool,
-    out_values: &mut [i64], out_elements: &mut [u8],
-    at: usize,
-) -> usize
-    requires row { ReadableElems values elements estart a n }
-    requires other { ReadableElems others oelements ostart b m }
-    requires room { RoomForElems (kept shared (now_elems others oelements ostart b m) [] (now_elems values elements estart a n)) at out_values out_elements }
-    ensures { Writes (kept shared (lent_elems others oelements ostart b m) [] (lent_elems values elements estart a n)) at out_values out_elements result }
+// Writes those of a row's elements that are kept.
+fn write_kept(row: Run, others: Run, shared: bool, out: &mut ValueOutput, at: usize) -> usize
+    requires row { ReadableRun row }
+    requires other { ReadableRun others }
+    requires room { RoomForElems (kept shared (run_elems others) [] (run_elems row)) at out.old }
+    ensures { Writes (kept shared (run_elems others.entry) [] (run_elems row.entry)) at out.old out.new result }
 {
     let mut p = at;
-    for k in 0..n {
+    for k in 0..row.count {
         if set_ops::is_kept(
-            values, elements, estart,
-            a, k, others, oelements, ostart, b, m, shared,
+            row.column,
+            row.from,
+            k,
+            others.column,
+            others.from,
+            others.count,
+            shared,
         ) {
-            let i = a + k;
-            elements::write_elem(values, elements, estart, i, out_values, out_elements, p);
+            out.put_elem(row.column, row.from + k, p);
             p += 1;
         }
     }
     p
 }
 
-// The length of the union.
-fn measure_union(
-    lvalues: &[i64],
-    lelements: &[u8],
-    lstart: usize,
-    a: usize,
-    n: usize,
-    rvalues: &[i64],
-    relements: &[u8],
-    rstart: usize,
-    b: usize,
-    m: usize,
-) -> usize
-    requires left { ReadableElems lvalues lelements lstart a n }
-    requires right { ReadableElems rvalues relements rstart b m }
-    requires sum { n + m < 2 ^ 64 }
-    ensures { result ≡ length (set_elems SetOp.Union (lent_elems lvalues lelements lstart a n) (lent_elems rvalues relements rstart b m)) }
+// A run of no elements.
+fn none_of(run: Run) -> Run
+    requires { ReadableRun run }
+    ensures elems { run_elems result ≡ [] }
+    ensures readable { ReadableRun result }
 {
-    let first = measure_kept(
-        lvalues, lelements, lstart, a, n, rvalues, relements, rstart, b, 0, false,
-    );
-    let second = measure_kept(
-        rvalues, relements, rstart, b, m, lvalues, lelements, lstart, a, n, false,
-    );
+    Run { count: 0, ..run }
+}
+
+// The length of the union.
+fn measure_union(left: Run, right: Run) -> usize
+    requires left { ReadableRun left }
+    requires right { ReadableRun right }
+    requires sum { left.count + right.count < 2 ^ 64 }
+    ensures { result ≡ length (set_elems SetOp.Union (run_elems left.entry) (run_elems right.entry)) }
+{
+    let first = measure_kept(left, none_of(right), false);
+    let second = measure_kept(right, left, false);
     first + second
 }
 
 // Writes the union: the first occurrences of the left row, then those of the right row that the left row doesn't have.
-#[rattlefmt::skip]
-fn write_union(
-    lvalues: &[i64], lelements: &[u8], lstart: usize, a: usize, n: usize, rvalues: &[i64], relements: &[u8], rstart: usize,
-    b: usize, m: usize, out_values: &mut [i64], out_elements: &mut [u8],
-    at: usize,
-) -> usize
-    requires left { ReadableElems lvalues lelements lstart a n }
-    requires right { ReadableElems rvalues relements rstart b m }
-    requires room { RoomForElems (set_elems SetOp.Union (now_elems lvalues lelements lstart a n) (now_elems rvalues relements rstart b m)) at out_values out_elements }
-    ensures { Writes (set_elems SetOp.Union (lent_elems lvalues lelements lstart a n) (lent_elems rvalues relements rstart b m)) at out_values out_elements result }
+fn write_union(left: Run, right: Run, out: &mut ValueOutput, at: usize) -> usize
+    requires left { ReadableRun left }
+    requires right { ReadableRun right }
+    requires room { RoomForElems (set_elems SetOp.Union (run_elems left) (run_elems right)) at out.old }
+    ensures { Writes (set_elems SetOp.Union (run_elems left.entry) (run_elems right.entry)) at out.old out.new result }
 {
-    let next = write_kept(
-        lvalues, lelements, lstart, a, n, rvalues, relements, rstart, b, 0, false, out_values, out_elements,
-        at,
-    );
-    write_kept(
-        rvalues, relements, rstart, b, m, lvalues, lelements, lstart, a, n, false, out_values, out_elements,
-        next,
-    )
+    let next = write_kept(left, none_of(right), false, out, at);
+    write_kept(right, left, false, out, next)
 }
 
-// The length of the intersection. Both rows are cut out of their columns, and the values walked are the part that `longer` hands
-// back. References with lifetimes of their own can't be one result or one local (the prover doesn't cover it), so the values of
-// both rows share a lifetime here and in each caller; bitmap and other row, which don't, go by the same test in two calls.
-fn measure_intersect<'a>(
-    lvalues: &'a [i64],
-    lelements: &[u8],
-    lstart: usize,
-    a: usize,
-    n: usize,
-    rvalues: &'a [i64],
-    relements: &[u8],
-    rstart: usize,
-    b: usize,
-    m: usize,
-) -> usize
-    requires left { ReadableElems lvalues lelements lstart a n }
-    requires right { ReadableElems rvalues relements rstart b m }
-    ensures { result ≡ length (set_elems SetOp.Intersect (lent_elems lvalues lelements lstart a n) (lent_elems rvalues relements rstart b m)) }
+// The row that intersect walks, cut out of its column: the longer one, the left one on equal lengths. Its values are the part that
+// `longer` hands back. References with lifetimes of their own can't be one result (the prover doesn't cover it), so both rows share a
+// lifetime here and in each caller.
+fn walked<'a>(left: Run<'a>, right: Run<'a>) -> Run<'a>
+    requires left { ReadableRun left }
+    requires right { ReadableRun right }
+    ensures elems { run_elems result ≡ pick (ltb left.entry.count right.entry.count) (run_elems right.entry) (run_elems left.entry) }
+    ensures readable { ReadableRun result }
 {
-    let walked = set_ops::longer(&lvalues[a..a + n], &rvalues[b..b + m]);
-    if n < m {
-        let bits = bitmap::bits_from(relements, rstart, b, rvalues.len());
-        let start = bitmap::start_from(rstart, b);
-        return measure_kept(
-            walked, bits, start, 0, m, lvalues, lelements, lstart, a, n, true,
-        );
+    let values = set_ops::longer(left.values(), right.values());
+    let row = if left.count < right.count {
+        right
+    } else {
+        left
+    };
+    Run {
+        column: ValueColumn {
+            values,
+            bits: row.bits(),
+        },
+        from: 0,
+        count: row.count,
     }
-    let bits = bitmap::bits_from(lelements, lstart, a, lvalues.len());
-    let start = bitmap::start_from(lstart, a);
-    measure_kept(
-        walked, bits, start, 0, n, rvalues, relements, rstart, b, m, true,
-    )
+}
+
+// The other row, whose elements are looked for.
+fn looked_in<'a>(left: Run<'a>, right: Run<'a>) -> Run<'a>
+    requires left { ReadableRun left }
+    requires right { ReadableRun right }
+    ensures elems { run_elems result ≡ pick (ltb left.entry.count right.entry.count) (run_elems left.entry) (run_elems right.entry) }
+    ensures readable { ReadableRun result }
+{
+    if left.count < right.count {
+        left
+    } else {
+        right
+    }
+}
+
+// The length of the intersection.
+fn measure_intersect<'a>(left: Run<'a>, right: Run<'a>) -> usize
+    requires left { ReadableRun left }
+    requires right { ReadableRun right }
+    ensures { result ≡ length (set_elems SetOp.Intersect (run_elems left.entry) (run_elems right.entry)) }
+{
+    measure_kept(walked(left, right), looked_in(left, right), true)
 }
 
 // Writes the intersection, walked as it was measured.
-#[rattlefmt::skip]
-fn write_intersect<'a>(
-    lvalues: &'a [i64], lelements: &[u8], lstart: usize, a: usize, n: usize, rvalues: &'a [i64], relements: &[u8], rstart: usize,
-    b: usize, m: usize, out_values: &mut [i64], out_elements: &mut [u8],
-    at: usize,
-) -> usize
-    requires left { ReadableElems lvalues lelements lstart a n }
-    requires right { ReadableElems rvalues relements rstart b m }
-    requires room { RoomForElems (set_elems SetOp.Intersect (now_elems lvalues lelements lstart a n) (now_elems rvalues relements rstart b m)) at out_values out_elements }
-    ensures { Writes (set_elems SetOp.Intersect (lent_elems lvalues lelements lstart a n) (lent_elems rvalues relements rstart b m)) at out_values out_elements result }
+fn write_intersect<'a>(left: Run<'a>, right: Run<'a>, out: &mut ValueOutput, at: usize) -> usize
+    requires left { ReadableRun left }
+    requires right { ReadableRun right }
+    requires room { RoomForElems (set_elems SetOp.Intersect (run_elems left) (run_elems right)) at out.old }
+    ensures { Writes (set_elems SetOp.Intersect (run_elems left.entry) (run_elems right.entry)) at out.old out.new result }
 {
-    let walked = set_ops::longer(&lvalues[a..a + n], &rvalues[b..b + m]);
-    if n < m {
-        let bits = bitmap::bits_from(relements, rstart, b, rvalues.len());
-        let start = bitmap::start_from(rstart, b);
-        return write_kept(
-            walked, bits, start,
-            0, m, lvalues, lelements, lstart, a, n, true, out_values, out_elements,
-            at,
-        );
-    }
-    let bits = bitmap::bits_from(lelements, lstart, a, lvalues.len());
-    let start = bitmap::start_from(lstart, a);
-    write_kept(
-        walked, bits, start,
-        0, n, rvalues, relements, rstart, b, m, true, out_values, out_elements,
-        at,
-    )
+    write_kept(walked(left, right), looked_in(left, right), true, out, at)
 }
 
 // The length of what an operation makes of a pair of rows.
-pub fn measure_set<'a>(
-    op: SetOp,
-    lvalues: &'a [i64],
-    lelements: &[u8],
-    lstart: usize,
-    a: usize,
-    n: usize,
-    rvalues: &'a [i64],
-    relements: &[u8],
-    rstart: usize,
-    b: usize,
-    m: usize,
-) -> usize
-    requires left { ReadableElems lvalues lelements lstart a n }
-    requires right { ReadableElems rvalues relements rstart b m }
-    requires sum { n + m < 2 ^ 64 }
-    ensures { result ≡ length (set_elems op (lent_elems lvalues lelements lstart a n) (lent_elems rvalues relements rstart b m)) }
+pub fn measure_set<'a>(op: SetOp, left: Run<'a>, right: Run<'a>) -> usize
+    requires left { ReadableRun left }
+    requires right { ReadableRun right }
+    requires sum { left.count + right.count < 2 ^ 64 }
+    ensures { result ≡ length (set_elems op (run_elems left.entry) (run_elems right.entry)) }
 {
     match op {
-        SetOp::Union => measure_union(
-            lvalues, lelements, lstart, a, n, rvalues, relements, rstart, b, m,
-        ),
-        SetOp::Intersect => measure_intersect(
-            lvalues, lelements, lstart, a, n, rvalues, relements, rstart, b, m,
-        ),
+        SetOp::Union => measure_union(left, right),
+        SetOp::Intersect => measure_intersect(left, right),
     }
 }
 
 // Writes what an operation makes of a pair of rows.
-#[rattlefmt::skip]
 pub fn write_set<'a>(
-    op: SetOp, lvalues: &'a [i64], lelements: &[u8], lstart: usize, a: usize, n: usize, rvalues: &'a [i64], relements: &[u8],
-    rstart: usize, b: usize, m: usize, out_values: &mut [i64], out_elements: &mut [u8],
+    op: SetOp,
+    left: Run<'a>,
+    right: Run<'a>,
+    out: &mut ValueOutput,
     at: usize,
 ) -> usize
-    requires left { ReadableElems lvalues lelements lstart a n }
-    requires right { ReadableElems rvalues relements rstart b m }
-    requires room { RoomForElems (set_elems op (now_elems lvalues lelements lstart a n) (now_elems rvalues relements rstart b m)) at out_values out_elements }
-    ensures { Writes (set_elems op (lent_elems lvalues lelements lstart a n) (lent_elems rvalues relements rstart b m)) at out_values out_elements result }
+    requires left { ReadableRun left }
+    requires right { ReadableRun right }
+    requires room { RoomForElems (set_elems op (run_elems left) (run_elems right)) at out.old }
+    ensures { Writes (set_elems op (run_elems left.entry) (run_elems right.entry)) at out.old out.new result }
 {
     match op {
-        SetOp::Union => write_union(
-            lvalues, lelements, lstart, a, n, rvalues, relements, rstart, b, m, out_values, out_elements,
-            at,
-        ),
-        SetOp::Intersect => write_intersect(
-            lvalues, lelements, lstart, a, n, rvalues, relements, rstart, b, m, out_values, out_elements,
-            at,
-        ),
+        SetOp::Union => write_union(left, right, out, at),
+        SetOp::Intersect => write_intersect(left, right, out, at),
     }
 }

@@ -1,5 +1,5 @@
 -- Laws of the operations on two lists: a pair of rows, and the whole call.
-use mathlib.Core.Path.{◌≡◌, refl, sym, ap, ◌∙◌}
+use mathlib.Core.Path.{◌≡◌, refl, sym, ◌∙◌}
 use mathlib.Core.Bool.{Bool, true, false, ◌&&◌}
 use mathlib.Core.List.{List, [], ◌∷◌, map}
 use Prim.Native.Nat.{ℕ, zero, suc, ◌+◌, ◌-◌, ◌≤◌, ◌<◌}
@@ -7,10 +7,11 @@ use native.Mathlib.Omega.{arith}
 use native.Mathlib.Nat.{zero-add}
 use borrow.Author.Tests.{eq-eqb, ne_eqb, ltb-false}
 use lib.Dec.{ltb}
+use lib.IntN.{ℤ}
 use lib.ListN.{length}
 use Rattle.model.specs.Basics.{tab, pick}
-use Rattle.model.specs.Bitmap.{Bits, valid_at}
-use Rattle.model.specs.Column.{Elem, Row, null_row, list_row, Column, row_at, rows_of, elem_at, offset_at, row_count}
+use Rattle.model.specs.Bitmap.{valid_at}
+use Rattle.model.specs.Column.{Elem, Row, null_row, list_row, Column, row_at, rows_of, length_at, offset_at, row_count}
 use Rattle.model.specs.Elements.{set_elems}
 use Rattle.model.specs.Form.{Room, is_row, elems_of, flat}
 use Rattle.model.specs.Lengths.{room_for, list_lengths}
@@ -25,11 +26,15 @@ use Rattle.model.proofs.TabLaws.{length-tab, map-tab, tab_ext}
 use Rattle.model.proofs.ColumnLaws.{length-rows, row_at_lem}
 use Rattle.model.proofs.EarlyLaws.{or_first, early_outcome, early_lengths}
 use Rattle.model.proofs.OutcomeLaws.{gate_open, gate_shut}
-use Rattle.column.specs.Put.{RoomInˡ}
-use Rattle.column.specs.Rows.{row_from}
-use Rattle.column.proofs.WalkLaws.{Summing, sum_more, row_from_lem}
+use Rattle.bitmap.specs.Push.{push_bit, push_bits}
+use Rattle.column.specs.Put.{Readable, RoomInˡ, RoomForElemsˡ, Writesˡ}
+use Rattle.column.specs.Rows.{RoomForRowˡ, WritesRowˡ}
+use Rattle.column.proofs.OffsetLaws.{mono}
+use Rattle.column.proofs.WalkLaws.{Summing, sum_more}
+use Rattle.set_rows.specs.Runs.{row_elems}
+use Rattle.set_rows.proofs.RunLaws.{length_row}
 use Rattle.set_rows.proofs.SetLaws.{set_le, intersect_le_left}
-use Rattle.set_walk.specs.Pairs.{pair_at, pair_rows, bound_of}
+use Rattle.set_walk.specs.Pairs.{Begun, pair_at, pair_rows, bound_of}
 
 -- ---- a pair of rows
 
@@ -49,36 +54,66 @@ unfolding is_row
 is_row_if true es = refl
 is_row_if false es = refl
 
-pub made_le : (op : SetOp) (E F : ℕ → Elem) (a b c d : ℕ) → a ≤ b → c ≤ d → length (set_elems op (tab E a (b - a)) (tab F c (d - c))) ≤ bound_of op b d - bound_of op a c
-unfolding bound_of
-made_le Union E F a b c d h k = omega (arith, set_le Union (tab E a (b - a)) (tab F c (d - c)), length-tab E a (b - a), length-tab F c (d - c))
-made_le Intersect E F a b c d h k = omega (arith, intersect_le_left (tab E a (b - a)) (tab F c (d - c)), length-tab E a (b - a))
+-- whatever f makes of the rows r of both columns
+module _ (f : List Elem → List Elem → List Elem) (c d : Column) (r : ℕ) where
+  abbrev pair_row : Row
+  pair_row = on_rows f (row_at c r) (row_at d r)
 
--- whatever f makes of the elements of both
-module _ (f : List Elem → List Elem → List Elem) (lb rb : Bits) (E F : ℕ → Elem) (r a b c d : ℕ) where
-  abbrev pair_from : Row
-  pair_from = on_rows f (row_from lb E r a b) (row_from rb F r c d)
+  abbrev pub made : List Elem
+  made = f (row_elems c r) (row_elems d r)
 
-  abbrev made : List Elem
-  made = f (tab E a (b - a)) (tab F c (d - c))
-
-  pair_from_lem : pair_from ≡ pick (valid_at lb r && valid_at rb r) (list_row made) null_row
-  unfolding row_from
-  pair_from_lem = pair_if f (valid_at lb r) (valid_at rb r) (tab E a (b - a)) (tab F c (d - c))
-
-  module _ (v : Bool) (e : v ≡ (valid_at lb r && valid_at rb r)) where
-    pub elems_pair : elems_of pair_from ≡ pick v made []
-    elems_pair = rw (pair_from_lem, ← e) (elems_if v made)
-
-    pub is_row_pair : is_row pair_from ≡ v
-    is_row_pair = rw (pair_from_lem, ← e) (is_row_if v made)
+  pair_row_lem : pair_row ≡ pick (valid_at c.rows r && valid_at d.rows r) (list_row made) null_row
+  unfolding row_at
+  pair_row_lem = pair_if f (valid_at c.rows r) (valid_at d.rows r) (row_elems c r) (row_elems d r)
 
   none_or : (v : Bool) → length (pick v made []) ≤ length made
   none_or true = omega arith
   none_or false = omega arith
 
-  pub pair_le : (k : ℕ) → length made ≤ k → length (elems_of pair_from) ≤ k
-  pair_le k h = rw (elems_pair (valid_at lb r && valid_at rb r) refl) (omega (arith, none_or (valid_at lb r && valid_at rb r)))
+  pub pair_le : (k : ℕ) → length made ≤ k → length (elems_of pair_row) ≤ k
+  pair_le k h = rw (pair_row_lem, elems_if (valid_at c.rows r && valid_at d.rows r) made) (omega (arith, none_or (valid_at c.rows r && valid_at d.rows r)))
+
+  -- v is whether both are valid
+  module _ {v : Bool} (e : v ≡ valid_at c.rows r && valid_at d.rows r) where
+    elems_pair : elems_of pair_row ≡ pick v made []
+    elems_pair = rw (pair_row_lem, ← e) (elems_if v made)
+
+    is_row_pair : is_row pair_row ≡ v
+    is_row_pair = rw (pair_row_lem, ← e) (is_row_if v made)
+
+    module _ (h : v ≡ false) where
+      none : elems_of pair_row ≡ []
+      none = elems_pair ∙ rw h
+
+      pub pair_none : 0 ≡ length (elems_of pair_row)
+      pair_none = rw none
+
+      pub null_written : {at : ℕ} {ro ro' eo : List ℕ} {vo : List ℤ} → ro' ≡ push_bit ro r false → WritesRowˡ pair_row r at ro ro' vo vo eo eo at
+      unfolding push_bits
+      null_written q = record { rows = rw (is_row_pair, h) q; values = rw none; elements = rw none; place = rw none (omega arith) }
+
+    -- es is what f makes of the elements of both, as the code has them
+    module _ (h : v ≡ true) {es : List Elem} (q : es ≡ made) where
+      all : elems_of pair_row ≡ es
+      all = elems_pair ∙ rw (h, q)
+
+      pub pair_length : length es ≡ length (elems_of pair_row)
+      pair_length = rw all
+
+      pub pair_room : {at lr lv le : ℕ} → RoomForRowˡ pair_row r at lr lv le → RoomForElemsˡ es at lv le
+      pair_room m = record { values = rw all at m.values; elements = rw all at m.elements }
+
+      pub pair_written : {at k : ℕ} {ro ro' eo eo' : List ℕ} {vo vo' : List ℤ} → ro' ≡ push_bit ro r true → Writesˡ es at vo vo' eo eo' k → WritesRowˡ pair_row r at ro ro' vo vo' eo eo' k
+      pair_written p w = record { rows = rw (is_row_pair, h) p; values = rw all w.values; elements = rw all w.elements; place = rw all w.next }
+
+pub made_le : (op : SetOp) (c d : Column) (r : ℕ) → length (made (set_elems op) c d r) ≤ bound_of op (length_at c r) (length_at d r)
+unfolding bound_of
+made_le Union c d r = omega (arith, set_le Union (row_elems c r) (row_elems d r), length_row c r, length_row d r)
+made_le Intersect c d r = omega (arith, intersect_le_left (row_elems c r) (row_elems d r), length_row c r)
+
+-- the offsets of a row rise
+pub rises : (c : Column) (r : ℕ) → Readable c → r < row_count c.offsets → offset_at c.offsets r ≤ offset_at c.offsets (r + 1)
+rises c r w h = mono c.offsets (length c.values) r w.offsets (omega arith)
 
 -- a bound grows with its parts, and an index can hold it
 pub bound_grows : (op : SetOp) {a b c d : ℕ} → a ≤ b → c ≤ d → bound_of op a c ≤ bound_of op b d
@@ -86,18 +121,10 @@ unfolding bound_of
 bound_grows Union h k = omega arith
 bound_grows Intersect h k = h
 
-pub bound_same : (op : SetOp) {a b c d : ℕ} → a ≡ b → c ≡ d → bound_of op b d ≡ bound_of op a c
-bound_same op h k = rw (h, k)
-
 pub bound_small : (op : SetOp) {n : ℕ} → n ≤ 9223372036854775807 → bound_of op n n ≤ 18446744073709551614
 unfolding bound_of
 bound_small Union h = omega arith
 bound_small Intersect h = omega arith
-
--- rows between the offsets are the columns' rows
-pub same_pair : (f : List Elem → List Elem → List Elem) (c d : Column) (r p q u v : ℕ) → p ≡ offset_at c.offsets r → q ≡ offset_at c.offsets (r + 1) → u ≡ offset_at d.offsets r → v ≡ offset_at d.offsets (r + 1)
-    → on_rows f (row_from c.rows (elem_at c.values c.elements) r p q) (row_from d.rows (elem_at d.values d.elements) r u v) ≡ on_rows f (row_at c r) (row_at d r)
-same_pair f c d r p q u v hp hq hu hv = rw (row_from_lem c r p q hp hq, row_from_lem d r u v hu hv)
 
 -- ---- the call
 
@@ -177,17 +204,21 @@ unfolding bound_of union_refusal
 united L Union m u h z = omega (arith, not_eight L.united m (ltb L.united m) refl z)
 united L Intersect m u h z = h
 
+-- a bound between offsets
+pub bound_between : (op : SetOp) {a b c d : ℕ} → a ≤ b → c ≤ d → bound_of op (b - a) (d - c) ≡ bound_of op b d - bound_of op a c
+unfolding bound_of
+bound_between Union h k = omega arith
+bound_between Intersect h k = refl
+
 -- the measuring walk after one more pair of rows
-pub pair_more : (op : SetOp) (c d : Column) (n top found r k p q u w : ℕ) → Summing (pair_at op c d) n (bound_of op (offset_at c.offsets r) (offset_at d.offsets r)) (bound_of op top top) found r (n - r) → r < n
-    → p ≡ offset_at c.offsets r → q ≡ offset_at c.offsets (r + 1) → u ≡ offset_at d.offsets r → w ≡ offset_at d.offsets (r + 1) → p ≤ q → u ≤ w → q ≤ top → w ≤ top
-    → k ≡ length (elems_of (on_rows (set_elems op) (row_from c.rows (elem_at c.values c.elements) r p q) (row_from d.rows (elem_at d.values d.elements) r u w)))
+pub pair_more : (op : SetOp) (c d : Column) (n top found r k : ℕ) → Begun c d → n ≡ row_count c.offsets → Summing (pair_at op c d) n (bound_of op (offset_at c.offsets r) (offset_at d.offsets r)) (bound_of op top top) found r (n - r) → r < n
+    → offset_at c.offsets (r + 1) ≤ top → offset_at d.offsets (r + 1) ≤ top → k ≡ length (elems_of (pair_at op c d r))
     → Summing (pair_at op c d) n (bound_of op (offset_at c.offsets (r + 1)) (offset_at d.offsets (r + 1))) (bound_of op top top) (found + k) (r + 1) (n - (r + 1))
-pair_more op c d n top found r k p q u w s h hp hq hu hw i j x y e =
+pair_more op c d n top found r k b e s h x y q =
     let m : n - (r + 1) ≡ n - r - 1 = omega arith in
-    let E = elem_at c.values c.elements in
-    let F = elem_at d.values d.elements in
-    rw (m, ← hq, ← hw)
-    (sum_more (pair_at op c d) n (bound_of op top top) k (bound_of op p u) (bound_of op q w) s (omega arith)
-    (e ∙ ap (λ (z : Row). length (elems_of z)) (same_pair (set_elems op) c d r p q u w hp hq hu hw))
-    (rw e (pair_le (set_elems op) c.rows d.rows E F r p q u w _ (made_le op E F p q u w i j)))
-    (bound_grows op i j) (bound_same op hp hu) (bound_grows op x y))
+    let i = rises c r b.left (omega arith) in
+    let j = rises d r b.right (omega (arith, b.equal)) in
+    rw m
+    (sum_more (pair_at op c d) n (bound_of op top top) k _ _ s (omega arith) q
+    (rw (q, ← bound_between op i j) (pair_le (set_elems op) c d r _ (made_le op c d r)))
+    (bound_grows op i j) refl (bound_grows op x y))

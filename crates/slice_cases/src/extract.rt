@@ -1,21 +1,33 @@
 // Case K: element. Four calls, on S, which is [10,20,30,40], and on [].
+use crate::columns::{bits, lists, values};
+use column::elements::{ValueColumn, ValueOutput};
+use column::lists::ListColumn;
 use compare::UNDER_NULL;
-use model::Refusal;
+use lists::extract::general_array_element;
+use model::{Refusal, ValueAnswer};
+
+// The element of each row at its index, into these slices.
+fn element(
+    list: ListColumn<i32>,
+    indexes: ValueColumn,
+    out_values: &mut [i64],
+    out_rows: &mut [u8],
+) -> ValueAnswer {
+    let mut out = ValueOutput {
+        values: out_values,
+        bits: out_rows,
+    };
+    general_array_element(list, indexes, &mut out)
+}
 
 // Element -4 of S gives 10. The bitmaps start at bits 3, 6 and 6.
 fn fourth_last() -> bool {
     let mut out_values = [77i64; 2];
     let mut out_rows = [0xaau8; 2];
-    let answer = lists::extract::general_array_element(
-        &[1, 5],
-        &[0b0000_1000],
-        3,
-        &[5, 10, 20, 30, 40],
-        &[0b1011_1111, 0b0000_0111],
-        6,
-        &[-4],
-        &[0b0100_0000],
-        6,
+    let elements = values(&[5, 10, 20, 30, 40], bits(&[0b1011_1111, 0b0000_0111], 6));
+    let answer = element(
+        lists(&[1, 5], bits(&[0b0000_1000], 3), elements),
+        values(&[-4], bits(&[0b0100_0000], 6)),
         &mut out_values,
         &mut out_rows,
     );
@@ -28,16 +40,10 @@ fn fourth_last() -> bool {
 fn none_at_zero() -> bool {
     let mut out_values = [77i64; 2];
     let mut out_rows = [0xaau8; 2];
-    let answer = lists::extract::general_array_element(
-        &[0, 4],
-        &[],
-        0,
-        &[10, 20, 30, 40],
-        &[],
-        0,
-        &[0],
-        &[],
-        0,
+    let elements = values(&[10, 20, 30, 40], bits(&[], 0));
+    let answer = element(
+        lists(&[0, 4], bits(&[], 0), elements),
+        values(&[0], bits(&[], 0)),
         &mut out_values,
         &mut out_rows,
     );
@@ -46,23 +52,21 @@ fn none_at_zero() -> bool {
         && compare::same(&out_rows, &[0, 0xaa])
 }
 
+// The element of [] at an index, into these slices.
+fn of_empty(index: i64, out_values: &mut [i64], out_rows: &mut [u8]) -> ValueAnswer {
+    element(
+        lists(&[1, 1], bits(&[], 0), values(&[5], bits(&[], 0))),
+        values(&[index], bits(&[], 0)),
+        out_values,
+        out_rows,
+    )
+}
+
 // Element 2147483647 of [] gives null.
 fn none_in_empty() -> bool {
     let mut out_values = [77i64; 2];
     let mut out_rows = [0xaau8; 2];
-    let answer = lists::extract::general_array_element(
-        &[1, 1],
-        &[],
-        0,
-        &[5],
-        &[],
-        0,
-        &[2147483647],
-        &[],
-        0,
-        &mut out_values,
-        &mut out_rows,
-    );
+    let answer = of_empty(2147483647, &mut out_values, &mut out_rows);
     compare::value_counts(answer, 1, 1)
         && compare::same(&out_values, &[UNDER_NULL, 77])
         && compare::same(&out_rows, &[0, 0xaa])
@@ -72,19 +76,7 @@ fn none_in_empty() -> bool {
 fn refused_past_32_bits() -> bool {
     let mut out_values = [77i64; 2];
     let mut out_rows = [0xaau8; 2];
-    let answer = lists::extract::general_array_element(
-        &[1, 1],
-        &[],
-        0,
-        &[5],
-        &[],
-        0,
-        &[2147483648],
-        &[],
-        0,
-        &mut out_values,
-        &mut out_rows,
-    );
+    let answer = of_empty(2147483648, &mut out_values, &mut out_rows);
     compare::value_refused(answer, Refusal::WideIndex)
         && compare::same(&out_values, &[77, 77])
         && compare::same(&out_rows, &[0xaa, 0xaa])

@@ -1,76 +1,64 @@
--- Laws of a slice's row as it is written.
+-- Laws of a slice's row: what its plan makes of it, and the row that its bit and its elements make.
 use Prim.Native.Nat.{ℕ}
-use mathlib.Core.Path.{◌≡◌, refl, sym, ◌∙◌}
-use mathlib.Core.Bool.{Bool, true, false}
+use mathlib.Core.Path.{◌≡◌, refl}
+use mathlib.Core.Bool.{Bool, true, false, ◌&&◌}
 use mathlib.Core.List.{List, []}
 use lib.IntN.{ℤ}
-use Rattle.model.specs.Column.{Elem, Row, null_row, list_row}
+use Rattle.model.specs.Column.{Elem, Row}
 use Rattle.model.specs.Form.{is_row, elems_of}
 use Rattle.model.specs.Rows.{row_made}
 use Rattle.model.specs.Slice.{sliced}
-use Rattle.model.proofs.BoolLaws.{never}
 use Rattle.bitmap.specs.Push.{push_bit}
-use Rattle.column.specs.Put.{RoomForElemsˡ, Writesˡ}
-use Rattle.column.specs.Rows.{RoomForRowˡ, WritesRowˡ}
-use Rattle.std.specs.Prelude.{None, Some, Ok, Err}
+use Rattle.column.specs.Put.{Writesˡ}
+use Rattle.column.specs.Rows.{WritesRowˡ}
+use Rattle.std.specs.Prelude.{None, Some, Ok, Err, is_ok}
 use Rattle.model.specs.declared.Refusal.{Refusal}
 use Rattle.index.specs.Plan.{SlicePlan}
 use Rattle.index.specs.declared.slice.Steps.{Steps}
 use Rattle.strides.specs.Strides.{Walks}
 use Rattle.ops.specs.Ops.{plan_op, op_elems, op_made}
-use Rattle.ops.specs.RowOp as R
 use Rattle.row_ops.specs.Doable.{Doable}
 use Rattle.slice_rows.specs.Sliced.{NullEmpty, op_if}
 
-module _ (valid : Bool) (p : SlicePlan) (es : List Elem) where
-  abbrev row : Row
-  row = row_made (op_made (op_if valid p) es)
+-- ---- the elements that a plan makes of es
 
-  pub empty-bit : p ≡ Ok None → is_row row ≡ valid
-  unfolding is_row row_made op_made op_if plan_op
-  empty-bit e = rw e (cases valid)
-    where
-      cases : (v : Bool) → is_row (row_made (op_made (op_if v (Ok None)) es)) ≡ v
-      cases true = refl
-      cases false = refl
+module _ (p : SlicePlan) (es : List Elem) where
+  pub empty_elems : p ≡ Ok None → op_elems (plan_op p) es ≡ []
+  unfolding op_elems plan_op
+  empty_elems e = rw e
 
-  pub empty_elems : p ≡ Ok None → elems_of row ≡ []
-  unfolding elems_of row_made op_made op_if plan_op
-  empty_elems e = rw e (cases valid)
-    where
-      cases : (v : Bool) → elems_of (row_made (op_made (op_if v (Ok None)) es)) ≡ []
-      cases true = refl
-      cases false = refl
+  pub refused_elems : (k : Refusal) → p ≡ Err k → op_elems (plan_op p) es ≡ []
+  unfolding op_elems plan_op
+  refused_elems k e = rw e
 
-  pub refused_row : (k : Refusal) → p ≡ Err k → row ≡ null_row
-  unfolding row_made op_made op_if plan_op
-  refused_row k e = rw e (cases valid)
-    where
-      cases : (v : Bool) → row_made (op_made (op_if v (Err k)) es) ≡ null_row
-      cases true = refl
-      cases false = refl
+  pub steps_elems : (t : Steps) → p ≡ Ok (Some t) → op_elems (plan_op p) es ≡ sliced t.start t.stride t.count es
+  unfolding op_elems plan_op
+  steps_elems t e = rw e
 
-  -- a plan with places is that of a valid row
-  module _ (t : Steps) (h : NullEmpty valid p) (e : p ≡ Ok (Some t)) where
-    steps_op : op_if valid p ≡ R.Steps t.start t.stride t.count
-    unfolding op_if plan_op
-    steps_op = cases valid h
-      where
-        cases : (v : Bool) → NullEmpty v p → op_if v p ≡ R.Steps t.start t.stride t.count
-        cases true h = rw e
-        cases false h = let q : ◌≡◌ {A = SlicePlan} (Ok None) (Ok (Some t)) = sym (h refl) ∙ e in never cc
+pub steps_walk : (p : SlicePlan) (t : Steps) (n : ℕ) → p ≡ Ok (Some t) → Doable (plan_op p) n → Walks t.start t.stride t.count n
+unfolding Doable plan_op
+steps_walk p t n e d = rw e at d
 
-    pub steps_row : row ≡ list_row (sliced t.start t.stride t.count es)
-    unfolding row_made op_made op_elems
-    steps_row = rw steps_op
+-- ---- the row
 
-    pub steps_walk : (n : ℕ) → Doable (op_if valid p) n → Walks t.start t.stride t.count n
-    unfolding Doable
-    steps_walk n d = rw steps_op at d
+pub planned_bit : (valid : Bool) (p : SlicePlan) (es : List Elem) → NullEmpty valid p → is_row (row_made (op_made (op_if valid p) es)) ≡ valid && is_ok p
+unfolding is_row row_made op_made op_if plan_op
+planned_bit true (Ok None) es h = refl
+planned_bit true (Ok (Some t)) es h = refl
+planned_bit true (Err k) es h = refl
+planned_bit false p es h = refl
 
-    pub steps_room : {r at lr lv le : ℕ} → RoomForRowˡ row r at lr lv le → RoomForElemsˡ (sliced t.start t.stride t.count es) at lv le
-    unfolding elems_of
-    steps_room m = let q = rw steps_row at m in record { values = q.values; elements = q.elements }
+pub planned_elems : (valid : Bool) (p : SlicePlan) (es : List Elem) → NullEmpty valid p → elems_of (row_made (op_made (op_if valid p) es)) ≡ op_elems (plan_op p) es
+unfolding elems_of row_made op_made op_elems op_if plan_op
+planned_elems true (Ok None) es h = refl
+planned_elems true (Ok (Some t)) es h = refl
+planned_elems true (Err k) es h = refl
+planned_elems false p es h = rw (h refl)
+
+pub planned_doable : (valid : Bool) (p : SlicePlan) (n : ℕ) → NullEmpty valid p → Doable (op_if valid p) n → Doable (plan_op p) n
+unfolding Doable op_if plan_op
+planned_doable true p n h d = d
+planned_doable false p n h d = rw (h refl) tt
 
 -- a row's elements and its bit make the row
 pub row_put : (w : Row) (b : Bool) (es : List Elem) {r at k : ℕ} {ro ro' : List ℕ} {vo vo' : List ℤ} {eo eo' : List ℕ} → is_row w ≡ b → elems_of w ≡ es → ro' ≡ push_bit ro r b → Writesˡ es at vo vo' eo eo' k → WritesRowˡ w r at ro ro' vo vo' eo eo' k

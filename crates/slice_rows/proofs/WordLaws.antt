@@ -1,5 +1,5 @@
 -- Laws of the bits of rows read at once: ones where no bitmap is lent, and both of two bits.
-use Prim.Native.Nat.{ℕ, zero, suc, ◌+◌, ◌/◌, ◌%◌, ◌≤◌, ◌<◌, min}
+use Prim.Native.Nat.{ℕ, zero, suc, ◌+◌, ◌-◌, ◌/◌, ◌%◌, ◌≤◌, ◌<◌, min}
 use mathlib.Core.Path.{◌≡◌, refl, sym, ap, ◌∙◌}
 use mathlib.Core.Bool.{Bool, true, false, ◌&&◌}
 use mathlib.Core.List.{List, [], ◌∷◌}
@@ -15,7 +15,7 @@ use Rattle.model.specs.Basics.{pick, tab}
 use Rattle.model.specs.Bitmap.{Bits, bit_at, valid_at, bytes_for, short_bits}
 use Rattle.model.proofs.TabLaws.{tab_ext}
 use Rattle.bitmap.specs.Push.{Covers}
-use Rattle.slice_rows.specs.Sliced.{valid_if, batch_of}
+use Rattle.slice_rows.specs.Sliced.{batch_of}
 
 -- ---- ones
 
@@ -73,15 +73,12 @@ and_bits f g (suc m) x y p a b =
     let v : low_bits (y / 2) m ≡ tab g (suc p) m = cc in
     rw (d, e, both_odd (x % 2) (y % 2) (omega arith) (omega arith), h, k) (ap (λ (l : List Bool). (f p && g p) ∷ l) (and_bits f g m (x / 2) (y / 2) (suc p) u v))
 
--- ---- the strides
-
-pub no_strides : (by : Bool) (b : Bits) → by ≡ false → (i : ℕ) → valid_if by b i ≡ true
-unfolding valid_if
-no_strides by b e i = rw e
-
-pub by_strides : (by : Bool) (b : Bits) (r m : ℕ) → by ≡ true → tab (valid_if by b) r m ≡ tab (valid_at b) r m
-unfolding valid_if
-by_strides by b r m e = tab_ext (valid_if by b) (valid_at b) r r m (λ i o. rw e)
+pub and_ones : (f : ℕ → Bool) (m x p : ℕ) → low_bits x m ≡ tab f p m → low_bits x m ≡ tab (λ i. f i && true) p m
+and_ones f m x p a = a ∙ tab_ext f (λ i. f i && true) p p m (λ i o. same (f (p + i)))
+  where
+    same : (b : Bool) → b ≡ b && true
+    same true = refl
+    same false = refl
 
 -- ---- a batch
 
@@ -96,3 +93,20 @@ one_bit f r left b h e = rw (lt-ltb left 64 h, ← e) (cases b)
 pub word_bits : (f : ℕ → Bool) (r left w : ℕ) → 64 ≤ left → low_bits w 64 ≡ tab f r 64 → low_bits w (batch_of left) ≡ tab f r (batch_of left)
 unfolding batch_of
 word_bits f r left w h e = rw (le-ltb left 64 h) e
+
+-- ---- bits that are held: the first of them, and the rest
+
+module _ (f : ℕ → Bool) (r word : ℕ) where
+  pub held_first : (known : ℕ) → low_bits word known ≡ tab f r known → 0 < known → eqb (word % 2) 1 ≡ f r
+  unfolding low_bits tab
+  held_first zero b s = let z : ⊥ = omega arith in absurd z
+  held_first (suc k) b s = cc
+
+  pub held_rest : (known : ℕ) → low_bits word known ≡ tab f r known → 0 < known → low_bits (word / 2) (known - 1) ≡ tab f (r + 1) (known - 1)
+  unfolding low_bits tab
+  held_rest zero b s = let z : ⊥ = omega arith in absurd z
+  held_rest (suc k) b s =
+      let t : low_bits (word / 2) k ≡ tab f (suc r) k = cc in
+      let e : suc k - 1 ≡ k = omega arith in
+      let d : r + 1 ≡ suc r = omega arith in
+      rw (e, d) t

@@ -1,1 +1,2 @@
 pub mod Sliced
+pub mod Columns

@@ -1,53 +1,41 @@
 // The plan of a row, from its arguments' numbers.
-ghost use Rattle.std.specs.Prelude.{◌<◌, ◌≤◌, length, true, ◌≡◌};
-ghost use Rattle.index.specs.Plan.{plan_of};
-ghost use Rattle.model.specs.Slice.{slice_plan};
-ghost use Rattle.model.specs.Widths.{limits_at};
-ghost use Rattle.slice_rows.specs.Sliced.{plan_at, steps_count, stride_at};
+ghost use Rattle.std.specs.Prelude.{◌<◌, ◌≤◌, ◌≡◌};
+ghost use Rattle.index.specs.Plan.{stride_in};
+ghost use Rattle.slice_rows.specs.Columns.{slice_in};
+ghost use Rattle.slice_rows.specs.Sliced.{HasRow, plan_at, steps_count, stride_at};
 
+use crate::SliceColumns;
 use index::slice::{SlicePlan, Steps};
-use model::Width;
+use model::offsets::Offset;
 
-// The stride of row r: an absent one is 1.
-fn stride_at(by: bool, zs: &[i64], r: usize) -> i64
-    requires { by ≡ true → r < length zs.now }
-    ensures { result ≡ stride_at by zs.now r }
+// The stride of row r, where the slice goes by one.
+#[tactic(auto, unfolding(crate::specs::Sliced::stride_at, index::specs::Plan::stride_in))]
+fn stride_at(columns: SliceColumns, r: usize) -> Option<i64>
+    requires { HasRow (slice_in columns) r }
+    ensures { stride_in result ≡ stride_at (slice_in columns.entry).stride r }
 {
-    if by { zs[r] } else { 1 }
-}
-
-// The plan of a slice between these bounds, of a row of len elements.
-fn plan_of(len: usize, from: i64, to: i64, stride: i64, width: Width) -> SlicePlan
-    requires { len ≤ (limits_at width).offset }
-    ensures { result ≡ plan_of (slice_plan (limits_at width) len from to stride) }
-{
-    match width {
-        Width::Narrow => index::slice::compute_slice_plan(len, from, to, Some(stride)),
-        Width::Wide => large_index::slice::compute_slice_plan(len, from, to, Some(stride)),
+    match columns.stride {
+        Some(column) => Some(column.values[r]),
+        None => None,
     }
 }
 
 // The plan of row r, of len elements; an empty one where the row or an argument is null.
-pub fn plan_at(
-    valid: bool,
-    by: bool,
-    xs: &[i64],
-    ys: &[i64],
-    zs: &[i64],
-    r: usize,
-    len: usize,
-    width: Width,
-) -> SlicePlan
-    requires first { r < length xs.now }
-    requires second { r < length ys.now }
-    requires third { by ≡ true → r < length zs.now }
-    requires small { len ≤ (limits_at width).offset }
-    ensures { result ≡ plan_at (limits_at width) valid by xs.now ys.now zs.now r len }
+#[tactic(auto, unfolding(crate::specs::Sliced::plan_at))]
+pub fn plan_at<O: Offset>(valid: bool, columns: SliceColumns, r: usize, len: usize) -> SlicePlan
+    requires there { HasRow (slice_in columns) r }
+    requires small { len ≤ O.LIMITS.offset }
+    ensures { result ≡ plan_at O.LIMITS valid (slice_in columns.entry) r len }
 {
     if !valid {
         return Ok(None);
     }
-    plan_of(len, xs[r], ys[r], stride_at(by, zs, r), width)
+    index::slice::compute_slice_plan::<O>(
+        len,
+        columns.from.values[r],
+        columns.to.values[r],
+        stride_at(columns, r),
+    )
 }
 
 // The number of places of an accepted plan.

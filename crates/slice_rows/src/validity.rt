@@ -1,74 +1,97 @@
 // Which rows of a slice are null: those that are, and those with a null argument. Bits of 64 rows are read at once, as a word.
-ghost use Rattle.std.specs.Prelude.{◌+◌, ◌<◌, ◌≤◌, true, ◌≡◌};
+ghost use Rattle.std.specs.Prelude.{◌+◌, ◌-◌, ◌<◌, ◌≡◌};
 ghost use Rattle.bit_words.specs.Words.{low_bits};
 ghost use Rattle.bitmap.specs.Push.{Covers};
+ghost use Rattle.bitmap.specs.Reads.{bits_in};
 ghost use Rattle.model.specs.Basics.{tab};
 ghost use Rattle.model.specs.Bitmap.{valid_at};
-ghost use Rattle.model.specs.Inner.{now_bits, lent_bits};
-ghost use Rattle.slice_rows.specs.Sliced.{Known, all_valid, batch_of, valid_if};
+ghost use Rattle.slice_rows.specs.Columns.{Held, slice_in};
+ghost use Rattle.slice_rows.specs.Sliced.{Known, all_valid, batch_of};
+
+use crate::SliceColumns;
+use bitmap::Validity;
 
 // The number of rows whose bits are read at once, where so many are left: 64, or one.
 #[tactic(auto, using(std::proofs::lemmas::Grind::common_steps), unfolding(crate::specs::Sliced::batch_of))]
-pub fn batch(left: usize) -> usize
-    ensures { result ≡ batch_of left }
+fn batch(left: usize) -> usize
+    ensures value { result ≡ batch_of left }
+    ensures lower_bound { 0 < result }
 {
     if left < 64 { 1 } else { 64 }
 }
 
-// The bits of these rows from row r on, the first lowest; ones where the bitmap is empty.
-fn word_at(bits: &[u8], start: usize, n: usize, r: usize, left: usize) -> u64
-    requires known { Covers (now_bits bits start) n }
-    requires some { 0 < left }
-    requires there { r + left ≤ n }
-    ensures { low_bits result (batch_of left) ≡ tab (valid_at (lent_bits bits start)) r (batch_of left) }
+// The bits of the rows from row r of n on that are read at once, the first lowest; ones where no bytes are lent.
+fn word_at(bits: Validity, n: usize, r: usize) -> u64
+    requires known { Covers (bits_in bits) n }
+    requires there { r < n }
+    ensures { low_bits result (batch_of (n - r)) ≡ tab (valid_at (bits_in bits.entry)) r (batch_of (n - r)) }
 {
-    if bits.is_empty() {
+    if bits.bytes.is_empty() {
         return u64::MAX;
     }
-    if left < 64 {
-        return bitmap::is_valid(bits, start, r, n) as u64;
+    if n - r < 64 {
+        return bits.is_valid(r, n) as u64;
     }
-    let p = start + r % 8;
-    bit_words::word_from(bits, r / 8 + p / 8, p % 8)
+    let p = bits.start + r % 8;
+    bit_words::word_from(bits.bytes, r / 8 + p / 8, p % 8)
 }
 
-// The same of the strides; ones where the slice goes by none.
-fn word_by(by: bool, bits: &[u8], start: usize, n: usize, r: usize, left: usize) -> u64
-    requires known { by ≡ true → Covers (now_bits bits start) n }
-    requires some { 0 < left }
-    requires there { r + left ≤ n }
-    ensures { low_bits result (batch_of left) ≡ tab (valid_if by (lent_bits bits start)) r (batch_of left) }
+// Which of these rows are valid, their from, their to and, where the slice goes by one, their stride too.
+fn valid_bits(rows: Validity, columns: SliceColumns, n: usize, r: usize) -> u64
+    requires known { Known n (bits_in rows) (slice_in columns) }
+    requires there { r < n }
+    ensures { low_bits result (batch_of (n - r)) ≡ tab (all_valid (bits_in rows.entry) (slice_in columns.entry)) r (batch_of (n - r)) }
 {
-    if !by {
-        return u64::MAX;
+    let bits = word_at(rows, n, r)
+        & word_at(columns.from.bits, n, r)
+        & word_at(columns.to.bits, n, r);
+    match columns.stride {
+        Some(column) => bits & word_at(column.bits, n, r),
+        None => bits,
     }
-    word_at(bits, start, n, r, left)
 }
 
-// Which of these rows from row r on are valid, their from, their to and, where the slice goes by one, their stride too: their bits, the
-// first lowest.
-pub fn valid_bits(
-    by: bool,
-    rows: &[u8],
-    rstart: usize,
-    n: usize,
-    xbits: &[u8],
-    xstart: usize,
-    ybits: &[u8],
-    ystart: usize,
-    zbits: &[u8],
-    zstart: usize,
-    r: usize,
-    left: usize,
-) -> u64
-    requires known { Known by n (now_bits rows rstart) (now_bits xbits xstart) (now_bits ybits ystart) (now_bits zbits zstart) }
-    requires some { 0 < left }
-    requires there { r + left ≤ n }
-    ensures { low_bits result (batch_of left) ≡ tab (all_valid by (lent_bits rows rstart) (lent_bits xbits xstart) (lent_bits ybits ystart) (lent_bits zbits zstart)) r (batch_of left) }
-{
-    let listed = word_at(rows, rstart, n, r, left);
-    let from = word_at(xbits, xstart, n, r, left);
-    let to = word_at(ybits, ystart, n, r, left);
-    let stride = word_by(by, zbits, zstart, n, r, left);
-    listed & from & to & stride
+// The bits of the next rows that are read and not yet taken, the first lowest, and how many they are.
+#[derive(Drop)]
+pub struct NextBits {
+    word: u64,
+    known: usize,
+}
+
+impl NextBits {
+    // None are read yet.
+    pub fn none() -> NextBits
+        ensures { result.known ≡ 0 }
+    {
+        NextBits { word: 0, known: 0 }
+    }
+
+    // Reads the bits of the rows from row r of n on, where none are left.
+    fn read(&mut self, rows: Validity, columns: SliceColumns, n: usize, r: usize)
+        requires known { Known n (bits_in rows) (slice_in columns) }
+        requires there { r < n }
+        requires held { Held (all_valid (bits_in rows) (slice_in columns)) r self.old }
+        ensures held { Held (all_valid (bits_in rows.entry) (slice_in columns.entry)) r self.new }
+        ensures some { 0 < self.new.known }
+    {
+        if self.known == 0 {
+            self.word = valid_bits(rows, columns, n, r);
+            self.known = batch(n - r);
+        }
+    }
+
+    // Whether row r of n is valid, its from, its to and, where the slice goes by one, its stride too.
+    pub fn take(&mut self, rows: Validity, columns: SliceColumns, n: usize, r: usize) -> bool
+        requires known { Known n (bits_in rows) (slice_in columns) }
+        requires there { r < n }
+        requires held { Held (all_valid (bits_in rows) (slice_in columns)) r self.old }
+        ensures valid { result ≡ all_valid (bits_in rows.entry) (slice_in columns.entry) r }
+        ensures held { Held (all_valid (bits_in rows.entry) (slice_in columns.entry)) (r + 1) self.new }
+    {
+        self.read(rows, columns, n, r);
+        let valid = self.word % 2 == 1;
+        self.word /= 2;
+        self.known -= 1;
+        valid
+    }
 }

@@ -1,5 +1,5 @@
 -- Laws of a walk of slices: what it needs of its columns, and what is done to a row.
-use Prim.Native.Nat.{ℕ, zero, suc, ◌+◌, ◌-◌, ◌/◌, ◌%◌, ◌≤◌, ◌<◌}
+use Prim.Native.Nat.{ℕ, zero, suc, ◌+◌, ◌-◌, ◌≤◌, ◌<◌}
 use mathlib.Core.Path.{◌≡◌, refl, sym, ap, ◌∙◌}
 use mathlib.Core.Bool.{Bool, true, false, not, ◌&&◌}
 use mathlib.Core.List.{List}
@@ -21,54 +21,40 @@ use Rattle.made_rows.proofs.CallLaws.{refusal_of_lem, row_of_lem, length_of_lem,
 use Rattle.made_rows.proofs.LoopLaws.{Measuring, measuring_more, measuring_stops, rows_stop}
 use Rattle.model.specs.Bitmap.{Bits, valid_at, bytes_for, short_bits}
 use Rattle.model.specs.Column.{Elem, nul, val, Column, Arguments, elem_at, offset_at, row_count}
-use Rattle.model.specs.Form.{flat}
 use Rattle.model.specs.Limits.{Limits}
 use Rattle.model.specs.Slice.{slice_plan}
-use Rattle.model.proofs.BoolLaws.{never_true}
-use Rattle.bitmap.specs.Push.{Covers}
-use Rattle.column.specs.Put.{RoomInˡ}
-use Rattle.std.specs.Prelude.{Option, None, Some, Ok, Err}
+use Rattle.model.proofs.BoolLaws.{never, never_true}
+use Rattle.bitmap.specs.Push.{Covers, push_bit}
+use Rattle.column.specs.Put.{RoomForElemsˡ, Writesˡ}
+use Rattle.column.specs.Rows.{RoomForRowˡ, WritesRowˡ}
+use Rattle.std.specs.Prelude.{Option, None, Some, IfSome, Ok, Err, is_ok}
 use Rattle.index.specs.Plan.{SlicePlan, plan_of, stride_in}
 use Rattle.strides.proofs.StrideLaws.{length-sliced}
-use Rattle.ops.specs.Ops.{is_slice, is_resize, takes_of, table, plan_op, slice_op, stride_op, valid_op, row_op_of, op_elems, op_made}
+use Rattle.ops.specs.Ops.{is_slice, is_resize, table, plan_op, slice_op, stride_op, valid_op, row_op_of, op_elems, op_made}
 use Rattle.ops.specs.declared.ListOp.{ListOp}
 use Rattle.ops.specs.declared.ListOp.TheVariants as L
 use Rattle.ops.specs.RowOp as R
 use Rattle.arguments.specs.Taken.{cell_of, place_in, taken_at, op_at, Serves, Served}
-use Rattle.made_rows.specs.Made.{op_refusal, call_rows}
+use Rattle.made_rows.specs.Made.{op_refusal}
 use Rattle.bit_words.specs.Words.{low_bits}
-use Rattle.slice_rows.specs.Sliced.{op_by, valid_if, all_valid, batch_of, Known, stride_at, plan_at, NullEmpty, op_if, plan_refusal, plan_count, steps_count}
+use Rattle.slice_rows.specs.Columns.{Held}
+use Rattle.slice_rows.specs.Sliced.{SliceArguments, slice_arguments, valid_if, all_valid, Known, HasRow, stride_at, plan_at, NullEmpty, op_if, plan_count, steps_count}
+use Rattle.slice_rows.specs.declared.validity.NextBits.{NextBits}
+use Rattle.slice_rows.proofs.RowLaws.{planned_bit, planned_elems, row_put}
 
 -- ---- the operation
 
-pub op_by_lem : (op : ListOp) → is_slice op ≡ true → op ≡ op_by (ltb 2 (takes_of op))
-unfolding is_slice op_by table
-op_by_lem (L.Plain u) h = never_true (sym h)
-op_by_lem L.Slice h = refl
-op_by_lem L.SliceBy h = refl
-op_by_lem L.Resize h = never_true (sym h)
-op_by_lem L.ResizeWith h = never_true (sym h)
-op_by_lem L.Replace h = never_true (sym h)
-op_by_lem L.Remove h = never_true (sym h)
+pub no_resize : (op : ListOp) → is_slice op ≡ true → is_resize op ≡ false
+unfolding is_slice table
+no_resize (L.Plain u) h = never_true (sym h)
+no_resize L.Slice h = refl
+no_resize L.SliceBy h = refl
+no_resize L.Resize h = never_true (sym h)
+no_resize L.ResizeWith h = never_true (sym h)
+no_resize L.Replace h = never_true (sym h)
+no_resize L.Remove h = never_true (sym h)
 
-pub no_resize : (by : Bool) → is_resize (op_by by) ≡ false
-unfolding op_by table
-no_resize true = refl
-no_resize false = refl
-
--- the columns serve it, by the code's number of rows
-pub served_as : {op op' : ListOp} {n n' : ℕ} {x y z : Arguments} → op ≡ op' → n' ≡ n → Served op n x y z → Served op' n' x y z
-served_as e q s = rw (← e, q) s
-
--- the elements that it makes
-pub size_as : {op op' : ListOp} (lim : Limits) (c : Column) (x y z : Arguments) → op ≡ op' → length (flat (call_rows lim op c x y z)) ≡ length (flat (call_rows lim op' c x y z))
-size_as lim c x y z e = rw e
-
--- there is room for its rows
-pub room_as : {op op' : ListOp} (lim : Limits) (c : Column) (x y z : Arguments) {n lo lr lv le : ℕ} → op ≡ op' → RoomInˡ n (length (flat (call_rows lim op c x y z))) lo lr lv le → RoomInˡ n (length (flat (call_rows lim op' c x y z))) lo lr lv le
-room_as lim c x y z e m = rw (← e) m
-
--- ---- validity
+-- ---- the columns
 
 -- where n bits can be read, so can fewer
 fewer_bits : (b : Bits) (n m : ℕ) → n ≤ m → Covers b m → Covers b n
@@ -80,7 +66,7 @@ fewer_bits b n m h g = record { small = g.small; long = cases (eqb (length b.byt
     cases false e = le-ltb (length b.bytes) (bytes_for (b.start + n)) (omega (arith, ltb-false (length b.bytes) (bytes_for (b.start + m)) e))
 
 module _ (n : ℕ) (a : Arguments) (s : Serves false n a) where
-  pub there : (r : ℕ) → r < n → r < length a.values
+  there : (r : ℕ) → r < n → r < length a.values
   unfolding place_in
   there r h = s.there r h
 
@@ -91,73 +77,49 @@ module _ (n : ℕ) (a : Arguments) (s : Serves false n a) where
       enough zero e = omega arith
       enough (suc m) e = omega (arith, there m (omega arith))
 
-module _ {n : ℕ} {x y z : Arguments} where
-  pub first-served : (by : Bool) → Served (op_by by) n x y z → Serves false n x
-  unfolding op_by table
-  first-served true s = s.first refl
-  first-served false s = s.first refl
+-- each of them has an argument for each of n rows
+record ServedBy (n : ℕ) (s : SliceArguments) : Type 0 where
+  pub from : Serves false n s.from
+  pub to : Serves false n s.to
+  pub stride : (z : Arguments) → s.stride ≡ Some z → Serves false n z
 
-  pub second-served : (by : Bool) → Served (op_by by) n x y z → Serves false n y
-  unfolding op_by table
-  second-served true s = s.second refl
-  second-served false s = s.second refl
+served_by : (op : ListOp) {n : ℕ} {x y z : Arguments} → is_slice op ≡ true → Served op n x y z → ServedBy n (slice_arguments op x y z)
+unfolding is_slice slice_arguments table
+served_by (L.Plain u) h s = never_true (sym h)
+served_by L.Slice h s = record { from = s.first refl; to = s.second refl; stride = λ z e. never cc }
+served_by L.SliceBy h s = record { from = s.first refl; to = s.second refl; stride = λ z e. let q : ◌≡◌ {A = Arguments} _ z = cc in rw (← q) (s.third refl) }
+served_by L.Resize h s = never_true (sym h)
+served_by L.ResizeWith h s = never_true (sym h)
+served_by L.Replace h s = never_true (sym h)
+served_by L.Remove h s = never_true (sym h)
 
-  pub third-served : (by : Bool) → Served (op_by by) n x y z → by ≡ true → Serves false n z
-  unfolding op_by table
-  third-served true s h = s.third refl
-  third-served false s h = never_true (sym h)
+if_some : {A : Type 0} {P : A → Type 0} (o : Option A) → ((a : A) → o ≡ Some a → P a) → IfSome o P
+if_some None h = tt
+if_some (Some a) h = h a refl
 
-  pub known : (by : Bool) (rb : Bits) → Covers rb n → Served (op_by by) n x y z → Known by n rb x.bits y.bits z.bits
-  known by rb g s = record {
+module _ (op : ListOp) {n : ℕ} {x y z : Arguments} (k : is_slice op ≡ true) (t : Served op n x y z) {s : SliceArguments} (e : s ≡ slice_arguments op x y z) where
+  served : ServedBy n s
+  served = rw e (served_by op k t)
+
+  pub known : (rb : Bits) → Covers rb n → Known n rb s
+  known rb g = record {
     rows = g;
-    first = covered n x (first-served by s);
-    second = covered n y (second-served by s);
-    third = λ h. covered n z (third-served by s h);
+    from = covered n s.from served.from;
+    to = covered n s.to served.to;
+    stride = if_some s.stride (λ a q. covered n a (served.stride a q));
   }
 
--- ---- bits that are held
+  pub has_row : (r : ℕ) → r < n → HasRow s r
+  has_row r h = record {
+    from = there n s.from served.from r h;
+    to = there n s.to served.to r h;
+    stride = if_some s.stride (λ a q. there n a (served.stride a q) r h);
+  }
 
--- the word has the bits of so many rows from row r on, and of one at least
-pub record Held (f : ℕ → Bool) (r word known : ℕ) : Type 0 where
-  pub bits : low_bits word known ≡ tab f r known
-  pub some : 0 < known
-
-some_left : (left : ℕ) → 0 < batch_of left
-unfolding batch_of
-some_left left = cases (ltb left 64)
-  where
-    cases : (t : Bool) → 0 < pick t 1 64
-    cases true = omega arith
-    cases false = omega arith
-
-module _ (f : ℕ → Bool) where
-  pub held_none : (r word : ℕ) → low_bits word 0 ≡ tab f r 0
-  unfolding low_bits tab
-  held_none r word = refl
-
-  -- read anew, of a batch of those that are left
-  pub held_anew : (r left : ℕ) {word known w k : ℕ} → word ≡ w → known ≡ k → k ≡ batch_of left → low_bits w (batch_of left) ≡ tab f r (batch_of left) → Held f r word known
-  held_anew r left e d b h = let q = d ∙ b in record { bits = rw (e, q) h; some = rw q (some_left left) }
-
-  -- still held
-  pub held_still : (r : ℕ) {word known w k : ℕ} → word ≡ w → known ≡ k → 0 < k → low_bits w k ≡ tab f r k → Held f r word known
-  held_still r e d s h = record { bits = rw (e, d) h; some = rw d s }
-
-  module _ {r word : ℕ} where
-    pub held_first : (known : ℕ) → Held f r word known → eqb (word % 2) 1 ≡ f r
-    unfolding low_bits tab
-    held_first zero h = let z : ⊥ = omega (arith, h.some) in absurd z
-    held_first (suc k) h = let b = h.bits in cc
-
-    pub held_rest : (known : ℕ) → Held f r word known → low_bits (word / 2) (known - 1) ≡ tab f (r + 1) (known - 1)
-    unfolding low_bits tab
-    held_rest zero h = let z : ⊥ = omega (arith, h.some) in absurd z
-    held_rest (suc k) h =
-        let b = h.bits in
-        let t : low_bits (word / 2) k ≡ tab f (suc r) k = cc in
-        let e : suc k - 1 ≡ k = omega arith in
-        let d : r + 1 ≡ suc r = omega arith in
-        rw (e, d) t
+-- none are read ahead
+pub none_held : (f : ℕ → Bool) (r : ℕ) (b : NextBits) → b.known ≡ 0 → Held f r b
+unfolding low_bits tab
+none_held f r b e = record { bits = rw e }
 
 -- ---- what is done to a row
 
@@ -179,23 +141,24 @@ module _ (lim : Limits) (n : ℕ) (f t : ℤ) where
   stride_cells s true true true false = refl
   stride_cells s true true true true = refl
 
-module _ (lim : Limits) (rb : Bits) (x y z : Arguments) (r n : ℕ) where
-  op_planned : (by : Bool) → let v = all_valid by rb x.bits y.bits z.bits r in op_if v (plan_at lim v by x.values y.values z.values r n) ≡ op_at lim (op_by by) rb x y z r n
-  unfolding op_by op_at row_op_of valid_op table taken_at place_in elem_at valid_if all_valid plan_at stride_at
-  op_planned true = stride_cells lim n _ _ _ (valid_at rb r) (valid_at x.bits r) (valid_at y.bits r) (valid_at z.bits r)
-  op_planned false = slice_cells lim n _ _ (valid_at rb r) (valid_at x.bits r) (valid_at y.bits r)
+op_planned : (lim : Limits) (rb : Bits) (x y z : Arguments) (r n : ℕ) (op : ListOp) → is_slice op ≡ true
+    → let s = slice_arguments op x y z in let v = all_valid rb s r in op_if v (plan_at lim v s r n) ≡ op_at lim op rb x y z r n
+unfolding is_slice slice_arguments op_at row_op_of valid_op table taken_at place_in elem_at valid_if all_valid plan_at stride_at
+op_planned lim rb x y z r n (L.Plain u) h = never_true (sym h)
+op_planned lim rb x y z r n L.Slice h = slice_cells lim n _ _ (valid_at rb r) (valid_at x.bits r) (valid_at y.bits r)
+op_planned lim rb x y z r n L.SliceBy h = stride_cells lim n _ _ _ (valid_at rb r) (valid_at x.bits r) (valid_at y.bits r) (valid_at z.bits r)
+op_planned lim rb x y z r n L.Resize h = never_true (sym h)
+op_planned lim rb x y z r n L.ResizeWith h = never_true (sym h)
+op_planned lim rb x y z r n L.Replace h = never_true (sym h)
+op_planned lim rb x y z r n L.Remove h = never_true (sym h)
 
-  -- by the code's test and plan
-  pub op_chosen : (by valid : Bool) (p : SlicePlan) → valid ≡ all_valid by rb x.bits y.bits z.bits r → p ≡ plan_at lim valid by x.values y.values z.values r n → op_if valid p ≡ op_at lim (op_by by) rb x y z r n
-  op_chosen by valid p e q = rw (q, e) (op_planned by)
-
-pub null_empty : (lim : Limits) (valid by : Bool) (xs ys zs : List ℤ) (r n : ℕ) (p : SlicePlan) → p ≡ plan_at lim valid by xs ys zs r n → NullEmpty valid p
+pub null_empty : (lim : Limits) (valid : Bool) (s : SliceArguments) (r n : ℕ) (p : SlicePlan) → p ≡ plan_at lim valid s r n → NullEmpty valid p
 unfolding plan_at
-null_empty lim valid by xs ys zs r n p e h = e ∙ rw h
+null_empty lim valid s r n p e h = e ∙ rw h
 
 -- ---- by the plan alone
 
-pub refusal-planned : (valid : Bool) (p : SlicePlan) → NullEmpty valid p → plan_refusal p ≡ op_refusal (op_if valid p)
+pub refusal-planned : (valid : Bool) (p : SlicePlan) → NullEmpty valid p → refused_by p ≡ op_refusal (op_if valid p)
 unfolding op_refusal op_if plan_op
 refusal-planned true (Ok None) h = refl
 refusal-planned true (Ok (Some s)) h = refl
@@ -229,35 +192,48 @@ number_some RowsOutside e = omega arith
 
 -- ---- a turn: row r of n, which lies from a to b
 
-module _ (L : Limits) (by : Bool) (c : Column) (x y z : Arguments) (n r a b : ℕ) (place : a ≡ offset_at c.offsets r) (ends : b ≡ offset_at c.offsets (r + 1)) where
+module _ (L : Limits) (op : ListOp) (k : is_slice op ≡ true) (c : Column) (x y z : Arguments) (s : SliceArguments) (t : s ≡ slice_arguments op x y z)
+    (n r a b : ℕ) (place : a ≡ offset_at c.offsets r) (ends : b ≡ offset_at c.offsets (r + 1)) where
+  abbrev es : List Elem
+  es = tab (elem_at c.values c.elements) a (b - a)
+
   -- by the code's test and plan of it
-  module _ (valid : Bool) (p : SlicePlan) (e : valid ≡ all_valid by c.rows x.bits y.bits z.bits r) (q : p ≡ plan_at L valid by x.values y.values z.values r (b - a)) where
-    pub chosen : op_if valid p ≡ op_at L (op_by by) c.rows x y z r (b - a)
-    chosen = op_chosen L c.rows x y z r (b - a) by valid p e q
+  module _ (valid : Bool) (p : SlicePlan) (e : valid ≡ all_valid c.rows s r) (q : p ≡ plan_at L valid s r (b - a)) where
+    pub chosen : op_if valid p ≡ op_at L op c.rows x y z r (b - a)
+    chosen = rw (q, e, t) (op_planned L c.rows x y z r (b - a) op k)
 
-    empty : NullEmpty valid p
-    empty = null_empty L valid by x.values y.values z.values r (b - a) p q
+    pub empty : NullEmpty valid p
+    empty = null_empty L valid s r (b - a) p q
 
-    turn_refusal : refused_by p ≡ refusal_at L (op_by by) c x y z r
-    turn_refusal = refusal-planned valid p empty ∙ refusal_of_lem L (op_by by) c x y z r a b (op_if valid p) place ends chosen
+    turn_refusal : refused_by p ≡ refusal_at L op c x y z r
+    turn_refusal = refusal-planned valid p empty ∙ refusal_of_lem L op c x y z r a b (op_if valid p) place ends chosen
 
-    pub turn_row : row_made (op_made (op_if valid p) (tab (elem_at c.values c.elements) a (b - a))) ≡ row_made_at L (op_by by) c x y z r
-    turn_row = row_of_lem L (op_by by) c x y z r a b (op_if valid p) place ends chosen
+    pub turn_row : row_made (op_made (op_if valid p) es) ≡ row_made_at L op c x y z r
+    turn_row = row_of_lem L op c x y z r a b (op_if valid p) place ends chosen
 
-    module _ {found : ℕ} (m : Measuring (row_made_at L (op_by by) c x y z) (refusal_at L (op_by by) c x y z) n a L.offset found r (n - r)) (h : r < n) where
+    -- where there is room for the row, there is for its elements
+    pub turn_room : {at lr lv le : ℕ} → RoomForRowˡ (row_made (op_made (op_if valid p) es)) r at lr lv le → RoomForElemsˡ (op_elems (plan_op p) es) at lv le
+    turn_room m = rw (← planned_elems valid p es empty) (record { values = m.values; elements = m.elements })
+
+    -- its bit and its elements make it
+    pub turn_put : {i : Bool} {at m : ℕ} {ro ro' : List ℕ} {vo vo' : List ℤ} {eo eo' : List ℕ} → i ≡ is_ok p → ro' ≡ push_bit ro r (valid && i) → Writesˡ (op_elems (plan_op p) es) at vo vo' eo eo' m
+        → WritesRowˡ (row_made (op_made (op_if valid p) es)) r at ro ro' vo vo' eo eo' m
+    turn_put i h w = row_put _ (valid && is_ok p) _ (planned_bit valid p es empty) (planned_elems valid p es empty) (rw (← i) h) w
+
+    module _ {found : ℕ} (m : Measuring (row_made_at L op c x y z) (refusal_at L op c x y z) n a L.offset found r (n - r)) (h : r < n) where
       -- it is not refused
-      pub turn_measured : (s : Option Steps) → p ≡ Ok s → a ≤ b → b ≤ L.offset → Measuring (row_made_at L (op_by by) c x y z) (refusal_at L (op_by by) c x y z) n b L.offset (found + steps_count s) (r + 1) (n - (r + 1))
+      pub turn_measured : (u : Option Steps) → p ≡ Ok u → a ≤ b → b ≤ L.offset → Measuring (row_made_at L op c x y z) (refusal_at L op c x y z) n b L.offset (found + steps_count u) (r + 1) (n - (r + 1))
       unfolding plan_count
-      turn_measured s o l u =
+      turn_measured u o l g =
           let d : n - (r + 1) ≡ n - r - 1 = omega arith in
-          let t : steps_count s ≡ length (op_elems (op_if valid p) (tab (elem_at c.values c.elements) a (b - a))) = ap plan_count (sym o) ∙ count-planned valid p (tab (elem_at c.values c.elements) a (b - a)) empty in
+          let t : steps_count u ≡ length (op_elems (op_if valid p) es) = ap plan_count (sym o) ∙ count-planned valid p es empty in
           rw d
           (measuring_more _ _ m (refused_by p) (omega arith) turn_refusal (rw o refl)
-          (sum_more _ n L.offset (steps_count s) a b m.sums (omega arith) (t ∙ length_of_lem L (op_by by) c x y z r a b (op_if valid p) place ends chosen)
-          (rw t (length_le L (op_by by) c x y z r a b (op_if valid p) place ends chosen (no_resize by))) l refl u))
+          (sum_more _ n L.offset (steps_count u) a b m.sums (omega arith) (t ∙ length_of_lem L op c x y z r a b (op_if valid p) place ends chosen)
+          (rw t (length_le L op c x y z r a b (op_if valid p) place ends chosen (no_resize op k))) l refl g))
 
       -- it is refused
-      pub turn_stops : (k : Refusal) → p ≡ Err k → n ≡ row_count c.offsets → refused (number_of k) ≡ rows_measure L (op_by by) c x y z
-      turn_stops k o d =
-          let t : number_of k ≡ refusal_at L (op_by by) c x y z r = ap (λ (q : SlicePlan). refused_by q) (sym o) ∙ turn_refusal in
-          rows_stop L (op_by by) c x y z n d (number_of k) (measuring_stops _ _ m (number_of k) (omega arith) t (number_some k)) (number_some k)
+      pub turn_stops : (j : Refusal) → p ≡ Err j → n ≡ row_count c.offsets → refused (number_of j) ≡ rows_measure L op c x y z
+      turn_stops j o d =
+          let t : number_of j ≡ refusal_at L op c x y z r = ap (λ (q : SlicePlan). refused_by q) (sym o) ∙ turn_refusal in
+          rows_stop L op c x y z n d (number_of j) (measuring_stops _ _ m (number_of j) (omega arith) t (number_some j)) (number_some j)

@@ -1,26 +1,30 @@
 -- Laws of one step: the call that it makes, the columns that it uses, and the rows that it takes.
-use Prim.Native.Nat.{ℕ, ◌+◌, ◌≤◌}
-use mathlib.Core.Path.{◌≡◌, refl, ◌∙◌}
+use Prim.Native.Nat.{ℕ, ◌+◌}
+use mathlib.Core.Path.{◌≡◌, sym, ap, subst, ◌∙◌}
 use native.Mathlib.Omega.{arith}
-use mathlib.Core.List.{List}
-use Rattle.std.specs.Prelude.{Option, Some, None, map}
+use mathlib.Core.List.{List, map}
+use Rattle.std.specs.Prelude.{Option, Some, None}
+use Rattle.std.proofs.lemmas.List.{take-map}
 use borrow.Author.Tests.{eq-eqb, ne_eqb}
 use lib.IntN.{ℤ}
-use lib.ListN.{length, take}
+use lib.ListN.{take}
+use lib.Seq.{length-take-le}
 use Rattle.model.specs.Bitmap.{from, bytes_for}
-use Rattle.model.specs.Column.{Elem, Row, Column, column, rows_of}
+use Rattle.model.specs.Column.{Elem, Row, Column, column, row_count, rows_of}
+use Rattle.model.specs.Answers.{ListAnswer}
+use Rattle.model.specs.Limits.{Limits}
+use Rattle.model.specs.Outcome.{after_three}
 use Rattle.model.specs.Recipe.{Step, step_call}
 use Rattle.model.specs.Recipe as recipe
 use Rattle.model.specs.Rows.{set_op_call}
-use Rattle.model.specs.Widths.{used}
-use Rattle.model.specs.declared.Width.{Width}
-use Rattle.model.specs.declared.Width.TheVariants as W
 use Rattle.model.specs.declared.SetOp.{SetOp}
 use Rattle.ops.specs.Ops.{call_of}
 use Rattle.ops.specs.declared.ListOp.{ListOp}
 use Rattle.codes.specs.Codes.{operations, operation_of}
 use Rattle.one_list.specs.Uses.{Uses}
-use Rattle.column.specs.Front.{front}
+use Rattle.column.specs.Front.{front, AtFront}
+use Rattle.column.specs.Outputs.{ListAnswers}
+use Rattle.column.specs.declared.lists.ListOutput.{ListOutput}
 use Rattle.step.specs.Step.{op_call, op_uses, rows_taken}
 use Rattle.codes.specs.declared.Operation.{Operation}
 use Rattle.codes.specs.declared.Operation.TheVariants as S
@@ -60,29 +64,21 @@ pub taken-later : (k : ℕ) (c t : Column) → (k ≡ 0 → ⊥) → rows_taken 
 unfolding rows_taken
 taken-later k c t h = rw (ne_eqb k 0 h)
 
--- ---- the front of a tray, of whose offsets the width uses one slice: k and l are how much of each is cut
+-- a step on those rows, told of it as it stands in the recipe
+pub step_told : {A : Type 0} (numbers : List A → List ℤ) (N : Limits) (rs : List Row) (col : ℕ → List Elem) (s t : Step) (ws vs : List Row) {x : ListAnswer} {o o' : ListOutput A}
+    → s ≡ t → ws ≡ vs → ListAnswers numbers (after_three N (step_call s ws rs col)) x o o' → ListAnswers numbers (after_three N (step_call t vs rs col)) x o o'
+step_told numbers N rs col s t ws vs {x} {o} {o'} e f h =
+    subst (λ (y : Step). ListAnswers numbers (after_three N (step_call y vs rs col)) x o o') e
+    (subst (λ (us : List Row). ListAnswers numbers (after_three N (step_call s us rs col)) x o o') f h)
 
-module _ (w : Width) (n k l : ℕ) (a b : List ℤ) (ek : k ≡ used w n 0) (el : l ≡ used w 0 n) where
-  cut : (w : Width) → used w (take (used w n 0) a) (take (used w 0 n) b) ≡ take n (used w a b)
-  cut W.Narrow = refl
-  cut W.Wide = refl
+-- ---- the front of a tray, of whose offsets so many are cut
 
-  pub front-offsets : used w (take k a) (take l b) ≡ take n (used w a b)
-  front-offsets = rw (ek, el) (cut w)
-
-  narrow_in : (w : Width) → n ≤ length (used w a b) → used w n 0 ≤ length a
-  narrow_in W.Narrow h = h
-  narrow_in W.Wide h = omega arith
-
-  wide_in : (w : Width) → n ≤ length (used w a b) → used w 0 n ≤ length b
-  wide_in W.Narrow h = omega arith
-  wide_in W.Wide h = h
-
-  pub front-narrow : n ≤ length (used w a b) → k ≤ length a
-  front-narrow h = rw ek (narrow_in w h)
-
-  pub front-wide : n ≤ length (used w a b) → l ≤ length b
-  front-wide h = rw el (wide_in w h)
+pub numbers_front : {A : Type 0} (number : A → ℤ) (numbers : List A → List ℤ) → ((l : List A) → numbers l ≡ map number l) → (n : ℕ) (l : List A) → numbers (take n l) ≡ take n (numbers l)
+numbers_front number numbers are n l = are (take n l) ∙ sym (take-map number n l) ∙ ap (λ (x : List ℤ). take n x) (sym (are l))
 
 pub front_is : {o : List ℤ} (o' : List ℤ) (r : List ℕ) (v : List ℤ) (e : List ℕ) (n m nr ne : ℕ) → o ≡ take (n + 1) o' → nr ≡ bytes_for n → ne ≡ bytes_for m → column o (from 0 (take nr r)) (take m v) (from 0 (take ne e)) ≡ front o' r v e n m
 front_is o' r v e n m nr ne p q t = rw (p, q, t)
+
+-- it has n rows
+pub front_rows : {n m : ℕ} {c : Column} {o : List ℤ} {r : List ℕ} {v : List ℤ} {e : List ℕ} → AtFront n m o r v e → c ≡ front o r v e n m → row_count c.offsets ≡ n
+front_rows {n} {o = o} h q = let l = length-take-le (n + 1) o h.offsets in rw q (omega arith)

@@ -1,16 +1,14 @@
 -- One step of a recipe: what it does, the rows that it takes, and the column that a tray holds at its front.
-use Rattle.std.specs.Prelude.{ℕ, ◌≡◌, List, [], ◌∷◌, eqb, ℤ, length, Option, Some, None}
+use Rattle.std.specs.Prelude.{ℕ, ◌≡◌, List, eqb, ℤ, length, Option, Some, None}
 use Rattle.model.specs.Basics.{pick}
 use Rattle.model.specs.Column.{Elem, Row, Column, Arguments, row_count, rows_of}
-use Rattle.model.specs.Contract.{Slice, MutSlice}
 use Rattle.model.specs.Recipe.{Step}
-use Rattle.model.specs.Widths.{entry_at, mut_entry_at}
-use Rattle.model.specs.declared.Width.{Width}
 use Rattle.model.specs.Rows.{ListCall, unary, set_op_call}
 use Rattle.model.specs.declared.Unary.TheVariants.{Reverse}
 use Rattle.bitmap.specs.Push.{Covers}
 use Rattle.column.specs.Front.{front, AtFront}
 use Rattle.column.specs.Put.{Readable}
+use Rattle.column.specs.declared.lists.ListOutput.{ListOutput}
 use Rattle.ops.specs.Ops.{call_of}
 use Rattle.one_list.specs.Uses.{Uses}
 use Rattle.codes.specs.Codes.{operation_of}
@@ -23,13 +21,9 @@ op_call (Some (S.One op)) ws rs a b c = call_of op ws a b c
 op_call (Some (S.Two op)) ws rs a b c = set_op_call op ws rs
 op_call None ws rs a b c = unary Reverse ws
 
--- the column at the front of a tray as the call begins: n rows of m elements
-abbrev pub lent_front : Width → Slice ℤ → Slice ℤ → Slice ℕ → Slice ℤ → Slice ℕ → ℕ → ℕ → Column
-lent_front w o x r v e n m = front (entry_at w o x) r.entry.now v.entry.now e.entry.now n m
-
--- the same of a tray that the call writes
-abbrev pub mut_lent_front : Width → MutSlice ℤ → MutSlice ℤ → MutSlice ℕ → MutSlice ℤ → MutSlice ℕ → ℕ → ℕ → Column
-mut_lent_front w o x r v e n m = front (mut_entry_at w o x) r.entry.now v.entry.now e.entry.now n m
+-- the column at the front of a tray: n rows of m elements; numbers are those of its offsets
+abbrev pub front_in : {A : Type 0} → (List A → List ℤ) → ℕ → ℕ → ListOutput A → Column
+front_in numbers n m t = front (numbers t.offsets.now) t.rows.now t.elements.now.values.now t.elements.now.bits.now n m
 
 -- a step has an operation, and the columns that it uses are there
 unfoldable pub op_uses : Option Operation → Step → ℕ → ℕ → ℕ → Type 0
@@ -55,3 +49,7 @@ pub record Taken (k n m : ℕ) (list : Column) (o : List ℤ) (r : List ℕ) (v 
   pub first : k ≡ 0 → Readable list
   pub rows : k ≡ 0 → row_count list.offsets ≡ n
   pub later : (k ≡ 0 → ⊥) → AtFront n m o r v e
+
+-- the same, said of a tray
+abbrev pub TakenIn : {A : Type 0} → (List A → List ℤ) → ℕ → ℕ → ℕ → Column → ListOutput A → Type 0
+TakenIn numbers k n m list t = Taken k n m list (numbers t.offsets.now) t.rows.now t.elements.now.values.now t.elements.now.bits.now

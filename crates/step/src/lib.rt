@@ -2,124 +2,100 @@
 #![tactic(auto)]
 
 ghost use Rattle.std.specs.Prelude.{◌+◌, ◌*◌, ◌≤◌, length, ◌≡◌};
-ghost use Rattle.codes.specs.Codes.{step};
+ghost use Rattle.codes.specs.Codes.{step_in};
+ghost use Rattle.column.specs.Columns.{column_in, values_in};
+ghost use Rattle.column.specs.Front.{AtFront, front};
+ghost use Rattle.column.specs.Outputs.{ListAnswers};
 ghost use Rattle.column.specs.Put.{Readable};
-ghost use Rattle.model.specs.Column.{row_count, rows_of, shown_by};
-ghost use Rattle.model.specs.Inner.{lent_arguments_from, lent_at, now_arguments, now_column_at};
+ghost use Rattle.model.specs.Column.{row_count, rows_of};
 ghost use Rattle.model.specs.Outcome.{after_three};
 ghost use Rattle.model.specs.Recipe.{step_at, step_call};
-ghost use Rattle.one_list.specs.Uses.{column_at};
-ghost use Rattle.model.specs.Widths.{ListAnswersAt, limits_at, used};
-ghost use Rattle.column.specs.Front.{AtFront};
-ghost use Rattle.step.specs.Step.{Beside, StepFits, Taken, lent_front, rows_taken};
+ghost use Rattle.one_list.specs.Uses.{columns_in};
+ghost use Rattle.step.specs.Step.{Beside, StepFits, TakenIn, front_in, rows_taken};
 
-use codes::Operation;
-use column::widths;
-use model::{ListAnswer, Refusal, Width};
+use bitmap::Validity;
+use codes::{Operation, Step};
+use column::elements::{ValueColumn, ValueOutput};
+use column::lists::{ListColumn, ListOutput};
+use model::offsets::Offset;
+use model::{ListAnswer, Refusal};
+use one_list::ArgumentColumns;
 
-// One step on the carried list of n rows, its argument columns `pitch` values apart: what its operation does after 3.
-#[rattlefmt::skip]
-fn step<'a>(
-    code: u32, first: u32, second: u32, third: u32, n: usize, pitch: usize,
-    offsets: &[i32], rows: &[u8], rstart: usize, values: &'a [i64], elements: &[u8], estart: usize,
-    roffsets: &[i32], rrows: &[u8], r_rstart: usize, rvalues: &'a [i64], relements: &[u8], r_estart: usize,
-    args: &[i64], bits: &[u8], start: usize,
-    out_offsets: &mut [i32], out_rows: &mut [u8], out_values: &mut [i64], out_elements: &mut [u8],
-    width: Width, large: &[i64], rlarge: &[i64], out_large: &mut [i64],
+// What stays the same over the steps of a recipe: its numbers, its two lists, and its argument columns, of as many rows.
+#[derive(Clone, Copy)]
+pub struct Inputs<'a, O> {
+    pub recipe: &'a [u32],
+    pub list: ListColumn<'a, O>,
+    pub second: ListColumn<'a, O>,
+    pub args: ArgumentColumns<'a>,
+}
+
+// One step on the carried list: what its operation does after 3.
+fn take_step<O: Offset>(
+    step: Step,
+    list: ListColumn<O>,
+    second: ListColumn<O>,
+    args: ArgumentColumns,
+    out: &mut ListOutput<O>,
 ) -> ListAnswer
-    requires column { Readable (now_column_at width offsets large rows rstart values elements estart) }
-    requires rows { row_count (used width offsets.now large.now) ≡ n }
-    requires beside { Beside n (now_column_at width roffsets rlarge rrows r_rstart rvalues relements r_estart) (now_arguments args bits start) }
-    requires fits { StepFits (step code first second third) pitch n (length args.now) }
-    ensures { ListAnswersAt width (after_three (limits_at width) (step_call (step code first second third) (rows_of (lent_at width offsets large rows rstart values elements estart)) (rows_of (lent_at width roffsets rlarge rrows r_rstart rvalues relements r_estart)) (column_at (shown_by (lent_arguments_from args bits start)) pitch n))) result out_offsets out_large out_rows out_values out_elements }
+    requires column { Readable (column_in O.numbers list) }
+    requires rows { row_count (O.numbers list.offsets.now) ≡ args.rows }
+    requires beside { Beside args.rows (column_in O.numbers second) (values_in args.columns) }
+    requires fits { StepFits (step_in step) args.pitch args.rows (length args.columns.values.now) }
+    ensures { ListAnswers O.numbers (after_three O.LIMITS (step_call (step_in step) (rows_of (column_in O.numbers list.entry)) (rows_of (column_in O.numbers second.entry)) (columns_in args.entry))) result out.old out.new }
 {
-    match codes::operation_of(code) {
-        Some(Operation::One(op)) => one_list::one_list(
-            op,
-            offsets, rows, rstart, values, elements, estart,
-            n, pitch, first as usize, second as usize, third as usize,
-            args, bits, start,
-            out_offsets, out_rows, out_values, out_elements,
-            width, large, out_large,
-        ),
-        Some(Operation::Two(op)) => set_walk::after_three(
-            op,
-            offsets, rows, rstart, values, elements, estart,
-            roffsets, rrows, r_rstart, rvalues, relements, r_estart,
-            out_offsets, out_rows, out_values, out_elements,
-            width, large, rlarge, out_large,
-        ),
+    match codes::operation_of(step.code) {
+        Some(Operation::One(op)) => one_list::one_list(op, list, step, args, out),
+        Some(Operation::Two(op)) => set_walk::after_three(op, list, second, out),
         None => Err(Refusal::MalformedRecipe),
     }
 }
 
-// One step from the front of a tray, which holds n rows of m elements.
-#[rattlefmt::skip]
-fn step_from<'a>(
-    code: u32, first: u32, second: u32, third: u32, n: usize, m: usize, pitch: usize,
-    from_offsets: &[i32], from_rows: &[u8], from_values: &'a [i64], from_elements: &[u8],
-    roffsets: &[i32], rrows: &[u8], r_rstart: usize, rvalues: &'a [i64], relements: &[u8], r_estart: usize,
-    args: &[i64], bits: &[u8], start: usize,
-    out_offsets: &mut [i32], out_rows: &mut [u8], out_values: &mut [i64], out_elements: &mut [u8],
-    width: Width, from_large: &[i64], rlarge: &[i64], out_large: &mut [i64],
-) -> ListAnswer
-    requires front { AtFront n m (used width from_offsets.now from_large.now) from_rows.now from_values.now from_elements.now }
-    requires beside { Beside n (now_column_at width roffsets rlarge rrows r_rstart rvalues relements r_estart) (now_arguments args bits start) }
-    requires fits { StepFits (step code first second third) pitch n (length args.now) }
-    ensures { ListAnswersAt width (after_three (limits_at width) (step_call (step code first second third) (rows_of (lent_front width from_offsets from_large from_rows from_values from_elements n m)) (rows_of (lent_at width roffsets rlarge rrows r_rstart rvalues relements r_estart)) (column_at (shown_by (lent_arguments_from args bits start)) pitch n))) result out_offsets out_large out_rows out_values out_elements }
+// The column at the front of a tray's slices: n rows of m elements.
+fn front<'a, O: Offset>(
+    offsets: &'a [O],
+    rows: &'a [u8],
+    elements: &'a ValueOutput,
+    n: usize,
+    m: usize,
+) -> ListColumn<'a, O>
+    requires { AtFront n m (O.numbers offsets.now) rows.now elements.now.values.now elements.now.bits.now }
+    ensures { column_in O.numbers result ≡ front (O.numbers offsets.now) rows.now elements.now.values.now elements.now.bits.now n m }
 {
-    let no = widths::pick(width, n + 1, 0);
-    let nl = widths::pick(width, 0, n + 1);
-    let nr = bitmap::bytes_for(n);
-    let ne = bitmap::bytes_for(m);
-    step(
-        code, first, second, third, n, pitch,
-        &from_offsets[..no], &from_rows[..nr], 0, &from_values[..m], &from_elements[..ne], 0,
-        roffsets, rrows, r_rstart, rvalues, relements, r_estart,
-        args, bits, start,
-        out_offsets, out_rows, out_values, out_elements,
-        width, &from_large[..nl], rlarge, out_large,
-    )
+    ListColumn {
+        offsets: &offsets[..n + 1],
+        rows: Validity {
+            bytes: &rows[..bitmap::bytes_for(n)],
+            start: 0,
+        },
+        elements: ValueColumn {
+            values: &elements.values[..m],
+            bits: Validity {
+                bytes: &elements.bits[..bitmap::bytes_for(m)],
+                start: 0,
+            },
+        },
+    }
 }
 
-// Step k of a recipe: the first takes the list, a later one the front of a tray, which holds n rows of m elements.
-#[rattlefmt::skip]
-pub fn step_at<'a>(
-    recipe: &[u32], k: usize, n: usize, m: usize, pitch: usize,
-    offsets: &[i32], rows: &[u8], rstart: usize, values: &'a [i64], elements: &[u8], estart: usize,
-    from_offsets: &[i32], from_rows: &[u8], from_values: &'a [i64], from_elements: &[u8],
-    roffsets: &[i32], rrows: &[u8], r_rstart: usize, rvalues: &'a [i64], relements: &[u8], r_estart: usize,
-    args: &[i64], bits: &[u8], start: usize,
-    out_offsets: &mut [i32], out_rows: &mut [u8], out_values: &mut [i64], out_elements: &mut [u8],
-    width: Width, large: &[i64], from_large: &[i64], rlarge: &[i64], out_large: &mut [i64],
+// Step k of a recipe: the first takes the list, a later one the front of a tray, which holds as many rows of m elements.
+pub fn step_at<O: Offset>(
+    inputs: Inputs<O>,
+    k: usize,
+    from: &ListOutput<O>,
+    m: usize,
+    out: &mut ListOutput<O>,
 ) -> ListAnswer
-    requires there { 4 * k + 4 ≤ length recipe.now }
-    requires taken { Taken k n m (now_column_at width offsets large rows rstart values elements estart) (used width from_offsets.now from_large.now) from_rows.now from_values.now from_elements.now }
-    requires beside { Beside n (now_column_at width roffsets rlarge rrows r_rstart rvalues relements r_estart) (now_arguments args bits start) }
-    requires fits { StepFits (step_at recipe.now k) pitch n (length args.now) }
-    ensures { ListAnswersAt width (after_three (limits_at width) (step_call (step_at recipe.now k) (rows_taken k (lent_at width offsets large rows rstart values elements estart) (lent_front width from_offsets from_large from_rows from_values from_elements n m)) (rows_of (lent_at width roffsets rlarge rrows r_rstart rvalues relements r_estart)) (column_at (shown_by (lent_arguments_from args bits start)) pitch n))) result out_offsets out_large out_rows out_values out_elements }
+    requires there { 4 * k + 4 ≤ length inputs.recipe.now }
+    requires taken { TakenIn O.numbers k inputs.args.rows m (column_in O.numbers inputs.list) from.now }
+    requires beside { Beside inputs.args.rows (column_in O.numbers inputs.second) (values_in inputs.args.columns) }
+    requires fits { StepFits (step_at inputs.recipe.now k) inputs.args.pitch inputs.args.rows (length inputs.args.columns.values.now) }
+    ensures { ListAnswers O.numbers (after_three O.LIMITS (step_call (step_at inputs.entry.recipe.now k) (rows_taken k (column_in O.numbers inputs.entry.list) (front_in O.numbers inputs.entry.args.rows m from.now)) (rows_of (column_in O.numbers inputs.entry.second)) (columns_in inputs.entry.args))) result out.old out.new }
 {
-    let i = 4 * k;
-    let code = recipe[i];
-    let first = recipe[i + 1];
-    let second = recipe[i + 2];
-    let third = recipe[i + 3];
+    let step = codes::step_at(inputs.recipe, k);
     if k == 0 {
-        return step(
-            code, first, second, third, n, pitch,
-            offsets, rows, rstart, values, elements, estart,
-            roffsets, rrows, r_rstart, rvalues, relements, r_estart,
-            args, bits, start,
-            out_offsets, out_rows, out_values, out_elements,
-            width, large, rlarge, out_large,
-        );
+        return take_step(step, inputs.list, inputs.second, inputs.args, out);
     }
-    step_from(
-        code, first, second, third, n, m, pitch,
-        from_offsets, from_rows, from_values, from_elements,
-        roffsets, rrows, r_rstart, rvalues, relements, r_estart,
-        args, bits, start,
-        out_offsets, out_rows, out_values, out_elements,
-        width, from_large, rlarge, out_large,
-    )
+    let carried = front(from.offsets, from.rows, from.elements, inputs.args.rows, m);
+    take_step(step, carried, inputs.second, inputs.args, out)
 }

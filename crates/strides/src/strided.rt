@@ -1,15 +1,16 @@
 // Slice: the elements of a row at places a stride apart.
 // After extract.rs of datafusion-functions-nested 55.2.0, Apache License 2.0, Apache Software Foundation; changed, see NOTICE.
-ghost use Rattle.std.specs.Prelude.{◌+◌, ◌<◌, ◌≤◌, ◌+ℤ◌, nat_abs, pos, get_or, length, ◌≡◌};
-ghost use Rattle.column.specs.Outputs.{ReadableElems, RoomForElems, Writes};
+ghost use Rattle.column.specs.Columns.{elems_in};
+ghost use Rattle.column.specs.Outputs.{RoomForElems, Writes, ReadableElems};
 ghost use Rattle.column.specs.Put.{put_values};
 ghost use Rattle.model.specs.Basics.{tab};
 ghost use Rattle.model.specs.Column.{val};
-ghost use Rattle.model.specs.Inner.{now_elems, lent_elems};
 ghost use Rattle.model.specs.Slice.{sliced};
+ghost use Rattle.std.specs.Prelude.{◌+◌, ◌<◌, ◌≤◌, ◌+ℤ◌, nat_abs, pos, get_or, length, ◌≡◌};
 ghost use Rattle.strides.specs.Strides.{Follows, Walks};
 
-use column::elements;
+use column::elements::{ValueColumn, ValueOutput};
+use index::slice::Steps;
 use rows::utils;
 
 // The place after p.
@@ -31,190 +32,107 @@ fn place_after(p: usize, stride: i64, left: usize) -> usize
     next_place(p, stride)
 }
 
-// Writes count elements of the n from element a on, one after the other: those at start, start + stride, and so on.
+// Writes the elements at the steps' places among the n from element a on, one after the other.
 fn write_each_place(
-    values: &[i64],
-    elements: &[u8],
-    estart: usize,
+    elements: ValueColumn,
     a: usize,
     n: usize,
-    start: usize,
-    stride: i64,
-    count: usize,
-    out_values: &mut [i64],
-    out_elements: &mut [u8],
+    steps: Steps,
+    out: &mut ValueOutput,
     at: usize,
 ) -> usize
-    requires column { ReadableElems values elements estart a n }
-    requires places { Walks start stride count n }
-    requires room { RoomForElems (sliced start stride count (now_elems values elements estart a n)) at out_values out_elements }
-    ensures { Writes (sliced start stride count (lent_elems values elements estart a n)) at out_values out_elements result }
+    requires column { ReadableElems elements a n }
+    requires places { Walks steps.start steps.stride steps.count n }
+    requires room { RoomForElems (sliced steps.start steps.stride steps.count (elems_in elements a n)) at out.old }
+    ensures { Writes (sliced steps.start steps.stride steps.count (elems_in elements.entry a n)) at out.old out.new result }
 {
-    let mut p = start;
-    for j in 0..count {
-        elements::write_elem(
-            values,
-            elements,
-            estart,
-            a + p,
-            out_values,
-            out_elements,
-            at + j,
-        );
-        p = place_after(p, stride, count - j - 1);
+    let mut p = steps.start;
+    for j in 0..steps.count {
+        out.put_elem(elements, a + p, at + j);
+        p = place_after(p, steps.stride, steps.count - j - 1);
     }
-    at + count
+    at + steps.count
 }
 
-// Copies count values of the n from value a on: those at start, start + stride, and so on. The last is copied after the loop, so that no
-// place past it is computed.
-fn copy_places(
-    values: &[i64],
-    a: usize,
-    n: usize,
-    start: usize,
-    stride: i64,
-    count: usize,
-    out: &mut [i64],
-    at: usize,
-)
+// Copies the values at the steps' places among the n from value a on. The last is copied after the loop, so that no place past it is
+// computed.
+fn copy_places(values: &[i64], a: usize, n: usize, steps: Steps, out: &mut [i64], at: usize)
     requires column { a + n ≤ length values.now }
-    requires places { Walks start stride count n }
-    requires room { at + count ≤ length out.old }
-    ensures { out.new ≡ put_values out.old at (sliced start stride count (tab (λ i. val (get_or values.now i (pos 0))) a n)) }
+    requires places { Walks steps.start steps.stride steps.count n }
+    requires room { at + steps.count ≤ length out.old }
+    ensures { out.new ≡ put_values out.old at (sliced steps.start steps.stride steps.count (tab (λ i. val (get_or values.now i (pos 0))) a n)) }
 {
-    if count == 0 {
+    if steps.count == 0 {
         return;
     }
-    let last = count - 1;
-    let mut p = start;
+    let last = steps.count - 1;
+    let mut p = steps.start;
     for j in 0..last {
         out[at + j] = values[a + p];
-        p = next_place(p, stride);
+        p = next_place(p, steps.stride);
     }
     out[at + last] = values[a + p];
 }
 
 // Writes the same elements, none of them null: their values, and then their bits at once.
 fn write_plain_places(
-    values: &[i64],
-    elements: &[u8],
-    estart: usize,
+    elements: ValueColumn,
     a: usize,
     n: usize,
-    start: usize,
-    stride: i64,
-    count: usize,
-    out_values: &mut [i64],
-    out_elements: &mut [u8],
+    steps: Steps,
+    out: &mut ValueOutput,
     at: usize,
 ) -> usize
-    requires column { ReadableElems values elements estart a n }
-    requires places { Walks start stride count n }
-    requires room { RoomForElems (sliced start stride count (now_elems values elements estart a n)) at out_values out_elements }
-    requires plain { length elements.now ≡ 0 }
-    ensures { Writes (sliced start stride count (lent_elems values elements estart a n)) at out_values out_elements result }
+    requires column { ReadableElems elements a n }
+    requires places { Walks steps.start steps.stride steps.count n }
+    requires room { RoomForElems (sliced steps.start steps.stride steps.count (elems_in elements a n)) at out.old }
+    requires plain { length elements.bits.bytes.now ≡ 0 }
+    ensures { Writes (sliced steps.start steps.stride steps.count (elems_in elements.entry a n)) at out.old out.new result }
 {
-    copy_places(values, a, n, start, stride, count, out_values, at);
-    runs::push_same(out_elements, at, count, true);
-    at + count
+    copy_places(elements.values, a, n, steps, out.values, at);
+    runs::push_same(out.bits, at, steps.count, true);
+    at + steps.count
 }
 
 // Writes the same elements, at once where none can be null; gives the next place.
 fn write_places(
-    values: &[i64],
-    elements: &[u8],
-    estart: usize,
+    elements: ValueColumn,
     a: usize,
     n: usize,
-    start: usize,
-    stride: i64,
-    count: usize,
-    out_values: &mut [i64],
-    out_elements: &mut [u8],
+    steps: Steps,
+    out: &mut ValueOutput,
     at: usize,
 ) -> usize
-    requires column { ReadableElems values elements estart a n }
-    requires places { Walks start stride count n }
-    requires room { RoomForElems (sliced start stride count (now_elems values elements estart a n)) at out_values out_elements }
-    ensures { Writes (sliced start stride count (lent_elems values elements estart a n)) at out_values out_elements result }
+    requires column { ReadableElems elements a n }
+    requires places { Walks steps.start steps.stride steps.count n }
+    requires room { RoomForElems (sliced steps.start steps.stride steps.count (elems_in elements a n)) at out.old }
+    ensures { Writes (sliced steps.start steps.stride steps.count (elems_in elements.entry a n)) at out.old out.new result }
 {
-    if elements.is_empty() {
-        return write_plain_places(
-            values,
-            elements,
-            estart,
-            a,
-            n,
-            start,
-            stride,
-            count,
-            out_values,
-            out_elements,
-            at,
-        );
+    if elements.bits.bytes.is_empty() {
+        return write_plain_places(elements, a, n, steps, out, at);
     }
-    write_each_place(
-        values,
-        elements,
-        estart,
-        a,
-        n,
-        start,
-        stride,
-        count,
-        out_values,
-        out_elements,
-        at,
-    )
+    write_each_place(elements, a, n, steps, out, at)
 }
 
-// Writes count elements of the n from element a on: those at start, start + stride, and so on; at stride 1 they are a run.
+// Writes the elements at the steps' places among the n from element a on; at stride 1 they are a run. Gives the next place.
 pub fn write_strided(
-    values: &[i64],
-    elements: &[u8],
-    estart: usize,
+    elements: ValueColumn,
     a: usize,
     n: usize,
-    start: usize,
-    stride: i64,
-    count: usize,
-    out_values: &mut [i64],
-    out_elements: &mut [u8],
+    steps: Steps,
+    out: &mut ValueOutput,
     at: usize,
 ) -> usize
-    requires column { ReadableElems values elements estart a n }
-    requires places { Walks start stride count n }
-    requires room { RoomForElems (sliced start stride count (now_elems values elements estart a n)) at out_values out_elements }
-    ensures { Writes (sliced start stride count (lent_elems values elements estart a n)) at out_values out_elements result }
+    requires column { ReadableElems elements a n }
+    requires places { Walks steps.start steps.stride steps.count n }
+    requires room { RoomForElems (sliced steps.start steps.stride steps.count (elems_in elements a n)) at out.old }
+    ensures { Writes (sliced steps.start steps.stride steps.count (elems_in elements.entry a n)) at out.old out.new result }
 {
-    if stride != 1 {
-        return write_places(
-            values,
-            elements,
-            estart,
-            a,
-            n,
-            start,
-            stride,
-            count,
-            out_values,
-            out_elements,
-            at,
-        );
+    if steps.stride != 1 {
+        return write_places(elements, a, n, steps, out, at);
     }
-    if count == 0 {
+    if steps.count == 0 {
         return at;
     }
-    let first = a + start;
-    utils::write_forward(
-        values,
-        elements,
-        estart,
-        first,
-        count,
-        out_values,
-        out_elements,
-        at,
-    )
+    utils::write_forward(elements, a + steps.start, steps.count, out, at)
 }

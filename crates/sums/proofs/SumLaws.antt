@@ -53,9 +53,6 @@ stays k (n ∷ ns) = stays k ns
 pub record Running (K : ℕ → RowCount) (n total r : ℕ) : Type 0 where
   pub same : sum_of (sum total) (tab K r (n - r)) ≡ sum_of (sum 0) (tab K 0 n)
 
-pub running_begun : (K : ℕ → RowCount) (n : ℕ) → Running K n 0 0
-running_begun K n = let e : n - 0 ≡ n = omega arith in record { same = rw e }
-
 module _ (K : ℕ → RowCount) {n total r : ℕ} (u : Running K n total r) where
   step : r < n → sum_of (plus total (K r)) (tab K (r + 1) (n - (r + 1))) ≡ sum_of (sum 0) (tab K 0 n)
   unfolding sum_of and_then

@@ -1,16 +1,19 @@
 // The sum of resize's counts, and what it comes to. An inner crate: its callers meet what it asks.
 #![tactic(auto)]
 
-ghost use Rattle.std.specs.Prelude.{◌≤◌, false, ◌≡◌};
-ghost use Rattle.sums.specs.Sums.{count_if, let_through, measured, resize_measure, summed};
 ghost use Rattle.arguments.specs.Taken.{Serves};
 ghost use Rattle.bitmap.specs.Push.{Covers};
-ghost use Rattle.model.specs.Inner.{now_arguments, now_bits, lent_arguments_from, lent_bits};
+ghost use Rattle.bitmap.specs.Reads.{bits_in};
+ghost use Rattle.column.specs.Columns.{values_in};
 ghost use Rattle.model.specs.Refusals.{plus};
-ghost use Rattle.model.specs.Widths.{limits_at};
+ghost use Rattle.std.specs.Prelude.{◌≤◌, false, ◌≡◌};
+ghost use Rattle.sums.specs.Sums.{count_if, let_through, measured, resize_measure, summed};
 
 use arguments::taken;
-use model::{Refusal, Width};
+use bitmap::Validity;
+use column::elements::ValueColumn;
+use model::Refusal;
+use model::offsets::Offset;
 use rows::{Cell, utils};
 
 // The running sum with a row's count: 7 at a negative one, 8 where it passes the largest number.
@@ -31,38 +34,24 @@ fn plus_count(sum: usize, valid: bool, count: Cell) -> Result<usize, Refusal>
     }
 }
 
-// The largest sum of counts, refusal 8 of resize.
-fn most_resized(width: Width) -> usize
-    ensures { result ≡ (limits_at width).resized }
-{
-    match width {
-        Width::Narrow => 2147483647,
-        Width::Wide => 1152921504606846975,
-    }
-}
-
 // What resize makes of n rows: the sum of the counts of the rows with list and count valid, or the refusal.
-pub fn measure_resize(
-    rows: &[u8],
-    rstart: usize,
+pub fn measure_resize<O: Offset>(
+    rows: Validity,
     n: usize,
-    counts: &[i64],
-    bits: &[u8],
-    start: usize,
-    width: Width,
+    counts: ValueColumn,
 ) -> Result<usize, Refusal>
-    requires covers { Covers (now_bits rows rstart) n }
-    requires serves { Serves false n (now_arguments counts bits start) }
-    ensures value { measured result ≡ resize_measure (limits_at width) (lent_bits rows rstart) (lent_arguments_from counts bits start) n }
-    ensures result_bound { let_through result ≤ (limits_at width).offset }
+    requires covers { Covers (bits_in rows) n }
+    requires serves { Serves false n (values_in counts) }
+    ensures value { measured result ≡ resize_measure O.LIMITS (bits_in rows.entry) (values_in counts.entry) n }
+    ensures result_bound { let_through result ≤ O.LIMITS.offset }
 {
     let mut sum: usize = 0;
     for r in 0..n {
-        let valid = bitmap::is_valid(rows, rstart, r, n);
-        let count = taken::taken_at(true, false, counts, bits, start, n, r);
+        let valid = rows.is_valid(r, n);
+        let count = taken::taken_at(true, false, counts, n, r);
         sum = plus_count(sum, valid, count)?;
     }
-    if most_resized(width) < sum {
+    if O::LIMITS.resized < sum {
         return Err(Refusal::TooMany);
     }
     Ok(sum)

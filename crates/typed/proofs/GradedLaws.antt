@@ -5,18 +5,20 @@ use mathlib.Core.List.{List}
 use Prim.Native.Nat.{ℕ}
 use lib.IntN.{ℤ}
 use Rattle.model.specs.Basics.{pick, given}
-use Rattle.model.specs.Column.{Row}
+use Rattle.model.specs.Column.{Arguments, Column, Row}
 use Rattle.model.specs.Form.{Room}
 use Rattle.model.specs.Grade.{grade_refusal, graded, graded_move}
 use Rattle.model.specs.Outcome.{Outcome, refused, gate}
 use Rattle.model.specs.Tally.{Tally, Move, moved}
 use Rattle.model.specs.Call.{refusal, written}
-use Rattle.model.specs.Contract.{told, ListMeets, Grades}
+use Rattle.model.specs.Contract.{told, ListMeets, Grades, MutSlice}
 use Rattle.model.specs.Answers.{ListAnswer}
+use Rattle.model.specs.Recipe.{Recipe}
 use Rattle.entry.specs.Entry.{number_of}
 use Rattle.entry.specs.Inner.{number_in, counts_in}
 use Rattle.typed.specs.Typed.{served, Told, TypedList}
-use Rattle.typed.specs.Tallies.{tally_at, with_tally}
+use Rattle.typed.specs.Flat.{graded_lent, graded_tally}
+use Rattle.typed.specs.Tallies.{TypedGraded, tally_at, with_tally}
 use Rattle.typed.proofs.TypedLaws.{too_short, own, list-told}
 
 by_none : (ws : List Row) (j : ℕ) (x : Outcome (List Row)) → graded 0 ws j x ≡ refused 12
@@ -54,3 +56,10 @@ tally-told ws j m k b t {w = w} h q r g = go b q (r ∙ ap (λ (i : ℕ). moved 
     go : (d : Bool) {t' : List ℕ} {p : Tally} → t' ≡ pick d t (with_tally p t) → p ≡ moved (graded_move (pick d 0 k) ws j m) (tally_at t) → t' ≡ pick d t (with_tally (moved (graded_move k ws j m) (tally_at t)) t)
     go true q r = q
     go false q r = q ∙ ap (λ (s : Tally). with_tally s t) r
+
+-- the same said of columns and outputs by their flat slices
+pub graded_at : (k : ℕ) (j : MutSlice ℕ) (s : ℕ) (p : Recipe) (a b : Room) {y y' z z' : Column} {w w' : Arguments} {l : Room} {d : Bool} {n : ℕ} {o o' u v v' x : List ℤ} {r r' i e e' m g g' c c' t t' : List ℕ}
+    → y ≡ y' → z ≡ z' → w ≡ w' → o' ≡ u → r' ≡ i → v' ≡ x → e' ≡ m
+    → TypedGraded k (graded_lent k j s p y z w a b) (graded_tally k j s p y z w a b) d l n o o' r r' v v' e e' g g' c c' t t'
+    → TypedGraded k (graded_lent k j s p y' z' w' a b) (graded_tally k j s p y' z' w' a b) d l n o u r i v x e m g g' c c' t t'
+graded_at k j s p a b q1 q2 q3 q4 q5 q6 q7 h = rw (q1, q2, q3, q4, q5, q6, q7) at h

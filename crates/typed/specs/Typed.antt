@@ -9,6 +9,13 @@ use Rattle.model.specs.View.{ViewRoom, view_offsets, view_sizes}
 use Rattle.model.specs.Grade.{grades_of}
 use Rattle.model.specs.Call.{Answer, list_counts, value_counts, repeat_counts, row_counts}
 use Rattle.model.specs.Contract.{MutSlice, after, room_of, value_room, repeat_room_of, view_room}
+use Rattle.column.specs.Outputs.{SameLists, SameOuters, SameValues, repeat_room_in, room_in, value_room_in}
+use Rattle.column.specs.declared.elements.ValueOutput.{ValueOutput}
+use Rattle.column.specs.declared.lists.ListOutput.{ListOutput}
+use Rattle.column.specs.declared.lists.OuterOutput.{OuterOutput}
+use Rattle.view_checks.specs.Views.{view_room_in}
+use Rattle.view_checks.specs.declared.ViewOutput.{ViewOutput}
+use Rattle.views.specs.ViewOutputs.{SameViews}
 use Rattle.entry.specs.Entry.{number_of}
 use Rattle.entry.specs.Inner.{number_in, counts_in}
 
@@ -109,6 +116,39 @@ ViewServed f n o s r v e c =
 abbrev pub GradeServed : ℕ → (ℕ → Outcome (List Row)) → ℕ → MutSlice ℕ → MutSlice ℕ → Type 0
 GradeServed k f n g c =
     TypedGrades k (served (given f) (short 1 c) (length g.entry.now)) n g.entry.now g.exit.now c.entry.now c.exit.now
+
+-- ---- the same over outputs, which hold those slices as the call returns; numbers are those of the offsets
+
+pub record ListServedIn {A : Type 0} (numbers : List A → List ℤ) (f : Lent (Room → Outcome (List Row))) (n : ℕ) (o o' : ListOutput A) (c : MutSlice ℕ) : Type 0 where
+  pub served :
+      TypedList (served f (short 4 c) (room_in o)) n (numbers o.offsets.now) (numbers o'.offsets.now) o.rows.now o'.rows.now
+      o.elements.now.values.now o'.elements.now.values.now o.elements.now.bits.now o'.elements.now.bits.now c.entry.now c.exit.now
+  pub same : SameLists o o'
+
+pub record ValueServedIn (f : ValueRoom → Outcome (List Elem)) (n : ℕ) (o o' : ValueOutput) (c : MutSlice ℕ) : Type 0 where
+  pub served : TypedValues (served (given f) (short 2 c) (value_room_in o)) n o.values.now o'.values.now o.bits.now o'.bits.now c.entry.now c.exit.now
+  pub same : SameValues o o'
+
+-- with a work area, which holds what it says as the call returns
+pub record HashServedIn {A : Type 0} (numbers : List A → List ℤ) (f : ℕ → Lent (Room → Outcome (List Row))) (n : ℕ) (o o' : ListOutput A) (w c : MutSlice ℕ) : Type 0 where
+  pub served :
+      TypedHash (served (f (length w.entry.now)) (short 4 c) (room_in o)) n (length w.entry.now) (numbers o.offsets.now) (numbers o'.offsets.now) o.rows.now o'.rows.now
+      o.elements.now.values.now o'.elements.now.values.now o.elements.now.bits.now o'.elements.now.bits.now w.exit.now c.entry.now c.exit.now
+  pub same : SameLists o o'
+
+pub record ViewServedIn (f : ViewRoom → Outcome (List Row)) (n : ℕ) (o o' : ViewOutput) (c : MutSlice ℕ) : Type 0 where
+  pub served :
+      TypedView (served (given f) (short 4 c) (view_room_in o)) n o.offsets.now o'.offsets.now o.sizes.now o'.sizes.now o.rows.now o'.rows.now
+      o.elements.now.values.now o'.elements.now.values.now o.elements.now.bits.now o'.elements.now.bits.now c.entry.now c.exit.now
+  pub same : SameViews o o'
+
+pub record RepeatServedIn {A : Type 0} (numbers : List A → List ℤ) (f : RepeatRoom → Outcome (List Outer)) (n : ℕ) (o o' : OuterOutput A) (i i' : ListOutput A) (c : MutSlice ℕ) : Type 0 where
+  pub served :
+      TypedRepeat (served (given f) (short 6 c) (repeat_room_in o i)) n (numbers o.offsets.now) (numbers o'.offsets.now) o.rows.now o'.rows.now
+      (numbers i.offsets.now) (numbers i'.offsets.now) i.rows.now i'.rows.now
+      i.elements.now.values.now i'.elements.now.values.now i.elements.now.bits.now i'.elements.now.bits.now c.entry.now c.exit.now
+  pub outer : SameOuters o o'
+  pub lists : SameLists i i'
 
 -- ---- how much to lend: x is what the measure comes to, f its lengths in the order of the slices, and `need` how many they are
 

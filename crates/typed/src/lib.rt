@@ -1,10 +1,17 @@
-// What the typed C entries share: answers as the number that an entry returns, with the counts of an accepted call in a lent slice. A
-// refusal writes nothing. An inner crate: its callers meet what it asks.
+// What the typed C entries share: their calls at either width, the columns that these take, and answers as the number that an entry
+// returns, with the counts of an accepted call in a lent slice. A refusal writes nothing. An inner crate: its callers meet what it asks.
 #![tactic(auto)]
 
+pub mod calls;
+pub mod columns;
+pub mod graded;
+pub mod hashed;
 pub mod lengths;
+pub mod measures;
+pub mod stations;
 pub mod tallies;
-pub mod windows;
+pub mod viewed;
+pub mod windowed;
 
 ghost use Rattle.std.specs.Prelude.{◌≤◌, length, ◌≡◌};
 ghost use Rattle.model.specs.Contract.{told, told_grade, told_repeat, told_value};

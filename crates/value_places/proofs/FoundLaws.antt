@@ -10,7 +10,7 @@ use lib.IntN.{ℤ, pos, negsuc}
 use lib.ListN.{get_or}
 use Rattle.model.specs.Basics.{pick, tab}
 use Rattle.model.specs.Bitmap.{Bits, valid_at}
-use Rattle.model.specs.Column.{Elem, nul, val, Row, null_row, list_row, Column, elem_at, row_at}
+use Rattle.model.specs.Column.{Elem, nul, val, Row, null_row, list_row, Column, Arguments, elem_at, row_at}
 use Rattle.model.specs.Elements.{first_valid, element_at}
 use Rattle.model.specs.Form.{is_val}
 use Rattle.model.specs.Limits.{Limits}
@@ -109,12 +109,12 @@ bound_place_lem unfit a n = refl
 bound_place_lem outside a n = refl
 bound_place_lem (place p) a n = refl
 
-module _ (L : Limits) (is : List ℤ) (ib : Bits) (r a n : ℕ) where
-  pub place_null : valid_at ib r ≡ false → element_place L (elem_at is ib r) a n ≡ a + n
+module _ (L : Limits) (is : Arguments) (r a n : ℕ) where
+  pub place_null : valid_at is.bits r ≡ false → element_place L (elem_at is.values is.bits r) a n ≡ a + n
   unfolding element_place elem_at
   place_null h = rw h
 
-  pub place_valid : valid_at ib r ≡ true → element_place L (elem_at is ib r) a n ≡ bound_place (index_bound L n (get_or is r (pos 0))) a n
+  pub place_valid : valid_at is.bits r ≡ true → element_place L (elem_at is.values is.bits r) a n ≡ bound_place (index_bound L n (get_or is.values r (pos 0))) a n
   unfolding element_place elem_at
   place_valid h = rw h
 
@@ -127,27 +127,15 @@ four_cases L true true false es z e = rw e
 four_cases L true false f es z e = refl
 four_cases L false u f es z e = refl
 
-pub four_at_lem : (L : Limits) (c : Column) (is : List ℤ) (ib : Bits) (r : ℕ) → element_refusal L (row_at c r) (elem_at is ib r) ≡ four_at L c.rows is ib r
+pub four_at_lem : (L : Limits) (c : Column) (is : Arguments) (r : ℕ) → element_refusal L (row_at c r) (elem_at is.values is.bits r) ≡ four_at L c.rows is r
 unfolding row_at elem_at unfit_at
-four_at_lem L c is ib r = four_cases L (valid_at c.rows r) (valid_at ib r) (fits L (get_or is r (pos 0))) _ (get_or is r (pos 0)) refl
+four_at_lem L c is r = four_cases L (valid_at c.rows r) (valid_at is.bits r) (fits L (get_or is.values r (pos 0))) _ (get_or is.values r (pos 0)) refl
 
-module _ (L : Limits) (rb : Bits) (is : List ℤ) (ib : Bits) (r : ℕ) where
-  pub unfit_null : valid_at rb r ≡ false → unfit_at L rb is ib r ≡ false
-  unfolding unfit_at
-  unfit_null h = rw h
-
-  pub unfit_index_null : valid_at rb r ≡ true → valid_at ib r ≡ false → unfit_at L rb is ib r ≡ false
-  unfolding unfit_at
-  unfit_index_null h k = rw (h, k)
-
-  pub unfit_valid : valid_at rb r ≡ true → valid_at ib r ≡ true → unfit_at L rb is ib r ≡ not (fits L (get_or is r (pos 0)))
-  unfolding unfit_at
-  unfit_valid h k = rw (h, k)
-
-  pub four_yes : unfit_at L rb is ib r ≡ true → four_at L rb is ib r ≡ 4
+module _ (L : Limits) (rb : Bits) (is : Arguments) (r : ℕ) where
+  pub four_yes : unfit_at L rb is r ≡ true → four_at L rb is r ≡ 4
   four_yes h = rw h
 
-  pub four_no : unfit_at L rb is ib r ≡ false → four_at L rb is ib r ≡ 0
+  pub four_no : unfit_at L rb is r ≡ false → four_at L rb is r ≡ 0
   four_no h = rw h
 
 never_unfit : (t u : Bool) → pick {A = ℕ} (t && u && not true) 4 0 ≡ 0
@@ -156,12 +144,12 @@ never_unfit true false = refl
 never_unfit false u = refl
 
 -- where every index fits, no row gives 4
-module _ (L : Limits) (every : L.every ≡ true) (rb : Bits) (is : List ℤ) (ib : Bits) where
-  four_never : (r : ℕ) → four_at L rb is ib r ≡ 0
+module _ (L : Limits) (every : L.every ≡ true) (rb : Bits) (is : Arguments) where
+  four_never : (r : ℕ) → four_at L rb is r ≡ 0
   unfolding unfit_at fits
-  four_never r = rw every (never_unfit (valid_at rb r) (valid_at ib r))
+  four_never r = rw every (never_unfit (valid_at rb r) (valid_at is.bits r))
 
-  pub no_fours : (r n : ℕ) → first_of (tab (four_at L rb is ib) r n) ≡ 0
+  pub no_fours : (r n : ℕ) → first_of (tab (four_at L rb is) r n) ≡ 0
   unfolding tab first_of
   no_fours r zero = refl
   no_fours r (suc n) = rw (four_never r) (no_fours (suc r) n)

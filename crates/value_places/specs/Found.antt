@@ -1,8 +1,8 @@
 -- A place that was looked for in a row, and refusal 4 of a row.
-use Rattle.std.specs.Prelude.{ℕ, ◌+◌, ◌≤◌, ◌≡◌, Bool, not, ◌&&◌, List, ltb, ℤ, pos, get_or}
+use Rattle.std.specs.Prelude.{ℕ, ◌+◌, ◌≤◌, ◌≡◌, Bool, not, ◌&&◌, ltb, pos, get_or}
 use Rattle.model.specs.Basics.{pick, tab}
 use Rattle.model.specs.Bitmap.{Bits, valid_at}
-use Rattle.model.specs.Column.{Elem, nul, val}
+use Rattle.model.specs.Column.{Elem, nul, val, Arguments}
 use Rattle.model.specs.Elements.{first_valid}
 use Rattle.model.specs.Limits.{Limits}
 use Rattle.model.specs.Slice.{Bound, unfit, outside, place, fits}
@@ -28,9 +28,9 @@ element_place L nul a n = a + n
 element_place L (val z) a n = bound_place (index_bound L n z) a n
 
 -- list and index valid, and the index does not fit
-unfoldable pub unfit_at : Limits → Bits → List ℤ → Bits → ℕ → Bool
-unfit_at L rb is ib r = valid_at rb r && valid_at ib r && not (fits L (get_or is r (pos 0)))
+unfoldable pub unfit_at : Limits → Bits → Arguments → ℕ → Bool
+unfit_at L rb is r = valid_at rb r && valid_at is.bits r && not (fits L (get_or is.values r (pos 0)))
 
 -- refusal 4 for row r, or 0
-abbrev pub four_at : Limits → Bits → List ℤ → Bits → ℕ → ℕ
-four_at L rb is ib r = pick (unfit_at L rb is ib r) 4 0
+abbrev pub four_at : Limits → Bits → Arguments → ℕ → ℕ
+four_at L rb is r = pick (unfit_at L rb is r) 4 0

@@ -9,7 +9,7 @@ use lib.Dec.{eqb}
 use lib.ListN.{length}
 use Rattle.model.specs.Basics.{pick}
 use Rattle.model.specs.Bitmap.{bytes_for}
-use Rattle.model.specs.Column.{Elem, Column, Arguments, rows_of, shown_by, row_count}
+use Rattle.model.specs.Column.{Elem, Column, rows_of, shown_by, row_count}
 use Rattle.model.specs.Form.{ValueRoom}
 use Rattle.model.specs.Lengths.{value_room_for, room_of_values, any_value_lengths_shown, any_value_lengths, element_lengths_shown, element_lengths}
 use Rattle.model.specs.Limits.{Limits}
@@ -17,6 +17,9 @@ use Rattle.model.specs.Outcome.{Outcome, refused, made, gate, columns_refusal, f
 use Rattle.model.specs.Rows.{any_value_of}
 use Rattle.model.proofs.ColumnLaws.{length-rows}
 use Rattle.model.proofs.TabLaws.{length-map, length-tab}
+use Rattle.column.specs.Columns.{values_in}
+use Rattle.column.specs.declared.elements.ValueColumn.{ValueColumn}
+use Rattle.value_places.proofs.ValueLaws.{length-made}
 use Rattle.value_places.specs.Values.{values_made, ElementChecked}
 use Rattle.value_places.specs.declared.ValueOp.TheVariants as V'
 
@@ -43,21 +46,19 @@ unfolding fitted_values rooms
 fits es n e = rw (e, le-leb n n (omega arith), le-leb (bytes_for n) (bytes_for n) (omega arith), e)
 
 -- a call in a room that is exact tells the lengths
-module _ (L : Limits) (c : Column) (a : Arguments) where
+module _ (L : Limits) (c : Column) (is : ValueColumn) where
   abbrev n : ℕ
   n = row_count c.offsets
 
-  length-elements : length (elements_made (rows_of c) (shown_by a)) ≡ n
+  length-elements : length (elements_made (rows_of c) (shown_by (values_in is))) ≡ n
   unfolding elements_made
   length-elements = length-tab _ 0 (length (rows_of c)) ∙ length-rows c
 
-  length-values : length (values_made V'.Element c a) ≡ n
-  unfolding values_made
-  length-values = length-tab _ 0 n
-
-  asked : element_lengths L c a ≡ rooms (element_outcome L c a (value_room_for n))
+  asked : element_lengths L c (values_in is) ≡ rooms (element_outcome L c (values_in is) (value_room_for n))
   unfolding element_lengths element_lengths_shown element_outcome element_shown
-  asked = rw (rooms_gate, rooms_gate, rooms_gate, fits (elements_made (rows_of c) (shown_by a)) n length-elements, length-elements)
+  asked = rw (rooms_gate, rooms_gate, rooms_gate, fits (elements_made (rows_of c) (shown_by (values_in is))) n length-elements, length-elements)
 
-  pub element-lengths : (k : ℕ) → ElementChecked L c a k → element_lengths L c a ≡ gate k (made (value_room_for n))
-  element-lengths k h = asked ∙ ap rooms (h.outcome (value_room_for n)) ∙ rooms_gate k (fitted_values (values_made V'.Element c a) (value_room_for n)) ∙ ap (gate k) (fits (values_made V'.Element c a) n length-values)
+  pub element-lengths : (k : ℕ) → ElementChecked L c is k → element_lengths L c (values_in is) ≡ gate k (made (value_room_for n))
+  element-lengths k h =
+      asked ∙ ap rooms (h.outcome (value_room_for n)) ∙ rooms_gate k (fitted_values (values_made (V'.Element is) c) (value_room_for n))
+      ∙ ap (gate k) (fits (values_made (V'.Element is) c) n (length-made (V'.Element is) c))

@@ -24,12 +24,18 @@ or_true : (b : Bool) → b || true ≡ true
 or_true true = refl
 or_true false = refl
 
-pub outside-size : (x y z : Bool) → y ≡ true → true ≡ x || y || z
+outside-size : (x y z : Bool) → y ≡ true → true ≡ x || y || z
 outside-size true y z h = refl
 outside-size false y z h = rw h
 
-pub outside_below : (n : ℕ) (y : ℤ) → lt_z y (pos 0) ≡ true → outside_of n y ≡ true
-outside_below n y h = rw h
+module _ (c : View) (r : ℕ) where
+  pub offset_below : lt_z (get_or c.offsets r (pos 0)) (pos 0) ≡ true → true ≡ view_outside c r
+  unfolding view_outside
+  offset_below h = rw h
+
+  pub size_below : lt_z (get_or c.sizes r (pos 0)) (pos 0) ≡ true → true ≡ view_outside c r
+  unfolding view_outside
+  size_below h = outside-size (outside_of (length c.values) (get_or c.offsets r (pos 0))) _ _ (rw h)
 
 sum_beyond : (n a b : ℕ) (t : Bool) → ltb n (a + b) ≡ t → t ≡ ltb n a || ltb n b || t
 sum_beyond n a b true e = sym (or_true (ltb n a || ltb n b))

@@ -1,37 +1,23 @@
 -- Laws of the rows that a view shows: one row between two counts, how long it is, and how many elements there are in all.
-use mathlib.Core.Path.{◌≡◌, refl, sym, ◌∙◌}
+use mathlib.Core.Path.{◌≡◌, refl, sym, ap, ◌∙◌}
 use mathlib.Core.Bool.{Bool, true, false}
 use Prim.Native.Nat.{ℕ, ◌+◌, ◌-◌, ◌≤◌, ◌<◌}
 use native.Mathlib.Omega.{arith}
 use borrow.Author.Tests.{lt-ltb, le-ltb}
 use lib.ListN.{length}
+use Rattle.std.specs.Prelude.{None, Some}
 use Rattle.model.specs.Basics.{tab, pick}
 use Rattle.model.specs.Bitmap.{valid_at}
 use Rattle.model.specs.Column.{Elem, Row, null_row, list_row, offset_at, elem_at}
 use Rattle.model.specs.Form.{elems_of, flat}
 use Rattle.model.specs.View.{View, view_at, view_rows, size_at}
 use Rattle.model.proofs.TabLaws.{length-tab}
-use Rattle.column.specs.Rows.{row_from, len_from, ReadableRowˡ}
+use Rattle.column.specs.Rows.{len_from}
 use Rattle.column.proofs.RowLaws.{length-step}
 use Rattle.column.proofs.WalkLaws.{Summing}
-use Rattle.view_checks.specs.Views.{ReadableView, counted_to}
+use Rattle.view_checks.specs.Views.{counted_within}
 
 -- ---- one row
-
-pub view-from : (c : View) (r a k : ℕ) → a ≡ offset_at c.offsets r → k ≡ size_at c r → row_from c.rows (elem_at c.values c.elements) r a (a + k) ≡ view_at c r
-unfolding view_at row_from
-view-from c r a k ea ek =
-    let d : a + k - a ≡ k = omega arith in
-    rw (d, ea, ek)
-
-pub view_read : (c : View) (n r a k : ℕ) → ReadableView c → n ≡ length c.offsets → r < n → a ≡ offset_at c.offsets r → k ≡ size_at c r → ReadableRowˡ c.rows n c.values c.elements r a (a + k)
-view_read c n r a k w e h ea ek = rw (e, ea, ek) (record {
-  there = omega arith;
-  rises = omega arith;
-  inside = w.inside r (omega arith);
-  rows = w.rows;
-  elements = w.elements;
-})
 
 row_length : (b : Bool) (f : ℕ → Elem) (a n : ℕ) → pick b (n - 0) 0 ≡ length (elems_of (pick b (list_row (tab f a n)) null_row))
 unfolding elems_of
@@ -45,12 +31,12 @@ view-length c r k size es e = e ∙ rw es (row_length (valid_at c.rows r) (elem_
 -- ---- in all
 
 -- one more row would pass top
-pub counted_past : (W : ℕ → Row) (n top : ℕ) {low found r left : ℕ} (k : ℕ) → Summing W n low top found r left → 0 < left → k ≡ length (elems_of (W r)) → top < found + k → top + 1 ≡ counted_to top (tab W 0 n)
+pub counted_past : (W : ℕ → Row) (n top : ℕ) {low found r left : ℕ} (k : ℕ) → Summing W n low top found r left → 0 < left → k ≡ length (elems_of (W r)) → top < found + k → None ≡ counted_within top (tab W 0 n)
 counted_past W n top {low} {found} {r} {left} k s h e p = rw (lt-ltb top (length (flat (tab W 0 n))) (omega (arith, s.sum, length-step W r left h)))
 
 -- all rows are within it
-pub counted_all : (W : ℕ → Row) (n top found : ℕ) → found ≡ length (flat (tab W 0 n)) → found ≤ top → found ≡ counted_to top (tab W 0 n)
-counted_all W n top found e h = rw (le-ltb top (length (flat (tab W 0 n))) (omega arith)) e
+pub counted_all : (W : ℕ → Row) (n top found : ℕ) → found ≡ length (flat (tab W 0 n)) → found ≤ top → Some found ≡ counted_within top (tab W 0 n)
+counted_all W n top found e h = rw (le-ltb top (length (flat (tab W 0 n))) (omega arith)) (ap Some e)
 
 pub shown-rows : (c : View) (n : ℕ) → n ≡ length c.offsets → tab (view_at c) 0 n ≡ view_rows c
 unfolding view_rows

@@ -1,25 +1,21 @@
--- How a contract names the view in its slices, with the bits that its bitmaps begin at, and what reading one asks. A `requires` names a slice
--- as it is then, `now`; an `ensures` as the call began, `lent`.
-use Rattle.std.specs.Prelude.{ℕ, ◌+◌, ◌<◌, ◌≤◌, ◌≡◌, Bool, ◌||◌, List, ltb, ℤ, pos, length, get_or}
-use Rattle.std.specs.Borrow.{Bor}
+-- How a clause names what a ListView column holds, and what reading one asks: a `requires` says `view_in v`, an `ensures` says `view_in v.entry`.
+use Rattle.std.specs.Prelude.{ℕ, ◌+◌, ◌<◌, ◌≤◌, ◌≡◌, List, ltb, length, Option, None, Some}
 use Rattle.model.specs.Basics.{pick}
 use Rattle.model.specs.Column.{Row, offset_at}
-use Rattle.model.specs.Contract.{Slice}
+use Rattle.model.specs.Contract.{view_room}
 use Rattle.model.specs.Form.{flat}
-use Rattle.model.specs.Inner.{now_bits}
-use Rattle.model.specs.View.{View, view, outside_of, size_at}
+use Rattle.model.specs.View.{View, ViewRoom, view, size_at}
 use Rattle.bitmap.specs.Push.{Covers}
+use Rattle.bitmap.specs.Reads.{bits_in}
+use Rattle.view_checks.specs.declared.ViewColumn.{ViewColumn}
+use Rattle.view_checks.specs.declared.ViewOutput.{ViewOutput}
 
--- offsets, sizes, row bitmap and its first bit, values, element bitmap and its first bit
-abbrev pub now_view : Bor (List ℤ) → Bor (List ℤ) → Bor (List ℕ) → ℕ → Bor (List ℤ) → Bor (List ℕ) → ℕ → View
-now_view o s r i v e j = view o.now s.now (now_bits r i) v.now (now_bits e j)
+abbrev pub view_in : ViewColumn → View
+view_in v = view v.offsets.now v.sizes.now (bits_in v.rows) v.elements.values.now (bits_in v.elements.bits)
 
-abbrev pub lent_view : Slice ℤ → Slice ℤ → Slice ℕ → ℕ → Slice ℤ → Slice ℕ → ℕ → View
-lent_view o s r i v e j = now_view o.entry s.entry r.entry i v.entry e.entry j
-
--- whether the view of row r, by offsets and sizes alone, lies outside n values
-abbrev pub outside_at : List ℤ → List ℤ → ℕ → ℕ → Bool
-outside_at o s n r = outside_of n (get_or o r (pos 0)) || outside_of n (get_or s r (pos 0)) || ltb n (offset_at o r + offset_at s r)
+-- the lengths of the slices
+abbrev pub view_room_in : ViewOutput → ViewRoom
+view_room_in o = view_room (length o.offsets.now) (length o.sizes.now) (length o.rows.now) (length o.elements.now.values.now) (length o.elements.now.bits.now)
 
 -- a view that refusals 13, 2, 3 and 11 don't apply to
 pub record ReadableView (c : View) : Type 0 where
@@ -28,6 +24,6 @@ pub record ReadableView (c : View) : Type 0 where
   pub rows : Covers c.rows (length c.offsets)
   pub elements : Covers c.elements (length c.values)
 
--- the number of elements of the rows, or the number after top where they are more than top
-abbrev pub counted_to : ℕ → List Row → ℕ
-counted_to top ws = pick (ltb top (length (flat ws))) (top + 1) (length (flat ws))
+-- the number of elements of the rows, unless they are more than top
+abbrev pub counted_within : ℕ → List Row → Option ℕ
+counted_within top ws = pick (ltb top (length (flat ws))) None (Some (length (flat ws)))

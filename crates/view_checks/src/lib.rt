@@ -1,129 +1,116 @@
-// What refuses a ListView column, how many elements it copies, and what an export needs. An inner crate: its callers meet what it asks.
+// ListView columns and the slices that one is written into: what refuses a view, how many elements it copies, and what an export needs. An
+// inner crate: its callers meet what it asks.
 #![tactic(auto)]
 
-ghost use Rattle.std.specs.Prelude.{◌<◌, length, ◌||◌, ◌≡◌};
 ghost use Rattle.model.specs.Answers.{refused_by};
 ghost use Rattle.model.specs.Basics.{pick};
-ghost use Rattle.model.specs.Bitmap.{short_bits};
-ghost use Rattle.model.specs.Contract.{view_room};
-ghost use Rattle.model.specs.Inner.{lent_bits};
 ghost use Rattle.model.specs.Limits.{narrow};
-ghost use Rattle.model.specs.View.{fits_view, refusal11, view_refusal, view_rows};
-ghost use Rattle.view_checks.specs.Views.{ReadableView, counted_to, lent_view, now_view, outside_at};
+ghost use Rattle.model.specs.View.{fits_view, refusal11, view_outside, view_refusal, view_rows};
+ghost use Rattle.std.specs.Prelude.{◌<◌, length, ◌≡◌};
+ghost use Rattle.view_checks.specs.Views.{ReadableView, counted_within, view_in, view_room_in};
 
+use bitmap::Validity;
+use column::elements::{ValueColumn, ValueOutput};
 use column::offsets;
 use model::Refusal;
 
-// Whether the view of row r lies outside n values: where its sum is within them, so are its offset and its size.
-fn is_outside(offsets: &[i32], sizes: &[i32], r: usize, n: usize) -> bool
-    requires r_in_bounds { r < length offsets.now }
-    requires r_in_bounds_2 { r < length sizes.now }
-    ensures { result ≡ outside_at offsets.now sizes.now n r }
-{
-    if offsets::below(offsets, r, 0) || offsets::below(sizes, r, 0) {
-        return true;
-    }
-    let a = offsets::offset_at(offsets, r);
-    let size = offsets::offset_at(sizes, r);
-    n < a + size
+// A ListView column: row r has so many elements as its size, from its offset on.
+#[derive(Clone, Copy)]
+pub struct ViewColumn<'a> {
+    pub offsets: &'a [i32],
+    pub sizes: &'a [i32],
+    pub rows: Validity<'a>,
+    pub elements: ValueColumn<'a>,
 }
 
-// Whether a view lies outside the values, one of a null row too.
-fn are_outside(
-    offsets: &[i32],
-    sizes: &[i32],
-    rows: &[u8],
-    rstart: usize,
-    values: &[i64],
-    elements: &[u8],
-    estart: usize,
-) -> bool
-    requires { length sizes.now ≡ length offsets.now }
-    ensures { result ≡ refusal11 (lent_view offsets sizes rows rstart values elements estart) }
-{
-    for r in 0..offsets.len() {
-        if is_outside(offsets, sizes, r, values.len()) {
+// The slices that a ListView column is written into.
+#[derive(Drop)]
+pub struct ViewOutput<'a, 'b> {
+    pub offsets: &'a mut [i32],
+    pub sizes: &'a mut [i32],
+    pub rows: &'a mut [u8],
+    pub elements: &'a mut ValueOutput<'b>,
+}
+
+impl ViewColumn<'_> {
+    // Whether the view of row r lies outside the values: where its sum is within them, so are its offset and its size.
+    fn is_outside(self, r: usize) -> bool
+        requires r_in_bounds { r < length self.offsets.now }
+        requires r_in_bounds_2 { r < length self.sizes.now }
+        ensures { result ≡ view_outside (view_in self.entry) r }
+    {
+        if self.offsets[r] < 0 || self.sizes[r] < 0 {
             return true;
         }
+        let a = offsets::offset_at(self.offsets, r);
+        let size = offsets::offset_at(self.sizes, r);
+        self.elements.values.len() < a + size
     }
-    false
-}
 
-// Whether a bitmap is too short, of n rows and m values.
-fn are_short(rows: &[u8], rstart: usize, n: usize, elements: &[u8], estart: usize, m: usize) -> bool
-    requires rstart_bound { rstart < 8 }
-    requires estart_bound { estart < 8 }
-    ensures { result ≡ short_bits (lent_bits rows rstart) n || short_bits (lent_bits elements estart) m }
-{
-    bitmap::is_short(rows, rstart, n) || bitmap::is_short(elements, estart, m)
-}
-
-// What refuses a view.
-pub fn view_refusal(
-    offsets: &[i32],
-    sizes: &[i32],
-    rows: &[u8],
-    rstart: usize,
-    values: &[i64],
-    elements: &[u8],
-    estart: usize,
-) -> Result<(), Refusal>
-    ensures { refused_by result ≡ view_refusal (lent_view offsets sizes rows rstart values elements estart) }
-{
-    if checks::is_start_over(rstart, estart) {
-        return Err(Refusal::BadStartingBit);
-    }
-    if are_short(rows, rstart, offsets.len(), elements, estart, values.len()) {
-        return Err(Refusal::ShortBitmap);
-    }
-    if sizes.len() != offsets.len() {
-        return Err(Refusal::RowCountsDiffer);
-    }
-    if are_outside(offsets, sizes, rows, rstart, values, elements, estart) {
-        return Err(Refusal::ViewOutside);
-    }
-    Ok(())
-}
-
-// The number of elements that the view copies, none of a null row; 2147483648 where there are more than 2147483647.
-pub fn measure_view(
-    offsets: &[i32],
-    sizes: &[i32],
-    rows: &[u8],
-    rstart: usize,
-    values: &[i64],
-    elements: &[u8],
-    estart: usize,
-) -> usize
-    requires { ReadableView (now_view offsets sizes rows rstart values elements estart) }
-    ensures { result ≡ counted_to narrow.offset (view_rows (lent_view offsets sizes rows rstart values elements estart)) }
-{
-    let n = offsets.len();
-    let mut found: usize = 0;
-    for r in 0..n {
-        let size = offsets::offset_at(sizes, r);
-        let len = column::rows::row_len(rows, rstart, n, r, 0, size);
-        if 2147483647 - found < len {
-            return 2147483648;
+    // Whether a view lies outside the values, one of a null row too.
+    fn has_outside(self) -> bool
+        requires { length self.sizes.now ≡ length self.offsets.now }
+        ensures { result ≡ refusal11 (view_in self.entry) }
+    {
+        for r in 0..self.offsets.len() {
+            if self.is_outside(r) {
+                return true;
+            }
         }
-        found += len;
+        false
     }
-    found
+
+    // What refuses the view.
+    pub fn refusal(self) -> Result<(), Refusal>
+        ensures { refused_by result ≡ view_refusal (view_in self.entry) }
+    {
+        if self.rows.is_start_over() || self.elements.bits.is_start_over() {
+            return Err(Refusal::BadStartingBit);
+        }
+        if self.rows.is_short(self.offsets.len()) {
+            return Err(Refusal::ShortBitmap);
+        }
+        if self.elements.bits.is_short(self.elements.values.len()) {
+            return Err(Refusal::ShortBitmap);
+        }
+        if self.sizes.len() != self.offsets.len() {
+            return Err(Refusal::RowCountsDiffer);
+        }
+        if self.has_outside() {
+            return Err(Refusal::ViewOutside);
+        }
+        Ok(())
+    }
+
+    // The number of elements that the view copies, none of a null row; None where there are more than an offset can count.
+    pub fn measure(self) -> Option<usize>
+        requires { ReadableView (view_in self) }
+        ensures { result ≡ counted_within narrow.offset (view_rows (view_in self.entry)) }
+    {
+        let n = self.offsets.len();
+        let mut found = 0;
+        for r in 0..n {
+            let size = offsets::offset_at(self.sizes, r);
+            found += column::rows::row_len(self.rows, n, r, 0, size);
+            if 2147483647 < found {
+                return None;
+            }
+        }
+        Some(found)
+    }
 }
 
-// Whether n rows and m elements, as a view, fit outputs of these lengths.
-pub fn has_view_room(
-    n: usize,
-    m: usize,
-    lo: usize,
-    ls: usize,
-    lr: usize,
-    lv: usize,
-    le: usize,
-) -> bool
-    ensures { result ≡ fits_view n m (view_room lo ls lr lv le) }
-{
-    n <= lo && n <= ls && bitmap::bytes_for(n) <= lr && m <= lv && bitmap::bytes_for(m) <= le
+impl ViewOutput<'_, '_> {
+    // Whether n rows and m elements, as a view, fit.
+    pub fn has_room(&self, n: usize, m: usize) -> bool
+        ensures { result ≡ fits_view n m (view_room_in self.now) }
+    {
+        n <= self.offsets.len()
+            && n <= self.sizes.len()
+            && bitmap::bytes_for(n) <= self.rows.len()
+            && m <= self.elements.values.len()
+            && bitmap::bytes_for(m) <= self.elements.bits.len()
+    }
 }
 
 // The offset of a row that begins at a place: 0 of a null row.

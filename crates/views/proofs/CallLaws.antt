@@ -2,9 +2,8 @@
 use mathlib.Core.Path.{◌≡◌, refl, sym, ◌∙◌}
 use mathlib.Core.Bool.{Bool, true, false, ◌&&◌}
 use mathlib.Core.List.{List, [], ◌∷◌}
-use Prim.Native.Nat.{ℕ, ◌+◌, ◌≤◌, ◌<◌}
-use native.Mathlib.Omega.{arith}
-use borrow.Author.Tests.{leb-true, ltb-false}
+use Prim.Native.Nat.{ℕ}
+use borrow.Author.Tests.{leb-true}
 use lib.Dec.{leb, ltb}
 use lib.IntN.{ℤ}
 use lib.ListN.{length}
@@ -19,14 +18,14 @@ use Rattle.model.specs.Outcome.{Outcome, refused, made, gate, fitted, columns_re
 use Rattle.model.specs.View.{View, ViewRoom, fits_view, export_shown, export_outcome, import_shown, import_outcome, view_refusal, view_rows}
 use Rattle.model.specs.Answers.{ListAnswer, number_of}
 use Rattle.model.specs.declared.Refusal.{Refusal}
-use Rattle.std.specs.Prelude.{Err}
-use Rattle.model.proofs.BoolLaws.{and_true}
+use Rattle.std.specs.Prelude.{None, Some, Err}
+use Rattle.model.proofs.BoolLaws.{never, and_true}
 use Rattle.model.proofs.OutcomeLaws.{gate_open, gate_shut}
 use Rattle.model.proofs.TabLaws.{length-tab}
 use Rattle.column.specs.Answers.{list_answer_from}
 use Rattle.column.specs.Put.{Fillsˡ}
 use Rattle.column.proofs.AnswerLaws.{list-made}
-use Rattle.view_checks.specs.Views.{counted_to}
+use Rattle.view_checks.specs.Views.{counted_within}
 use Rattle.views.specs.ViewOutputs.{ViewRoomInˡ, FillsViewˡ}
 
 -- ---- the refusals that come first
@@ -50,22 +49,22 @@ module _ {k : ℕ} where
 
 -- ---- import: 8
 
-module _ (K : Limits) (ws : List Row) (m : ℕ) (e : m ≡ counted_to K.offset ws) where
-  pub too_many : (l : Room) → K.offset < m → import_shown K ws l ≡ refused 8
+module _ (K : Limits) (ws : List Row) where
+  pub too_many : (l : Room) → None ≡ counted_within K.offset ws → import_shown K ws l ≡ refused 8
   unfolding import_shown gate
-  too_many l h = go (ltb K.offset (length (flat ws))) refl e
+  too_many l e = go (ltb K.offset (length (flat ws))) refl e
     where
-      go : (t : Bool) → ltb K.offset (length (flat ws)) ≡ t → m ≡ pick t (K.offset + 1) (length (flat ws)) → import_shown K ws l ≡ refused 8
+      go : (t : Bool) → ltb K.offset (length (flat ws)) ≡ t → None ≡ pick t None (Some (length (flat ws))) → import_shown K ws l ≡ refused 8
       go true q d = rw q
-      go false q d = let a = ltb-false K.offset (length (flat ws)) q in let z : ⊥ = omega arith in absurd z
+      go false q d = never cc
 
-  pub not_many : m ≤ K.offset → (m ≡ length (flat ws)) × ((l : Room) → import_shown K ws l ≡ fitted ws l)
+  pub not_many : (m : ℕ) → Some m ≡ counted_within K.offset ws → (m ≡ length (flat ws)) × ((l : Room) → import_shown K ws l ≡ fitted ws l)
   unfolding import_shown gate
-  not_many h = go (ltb K.offset (length (flat ws))) refl e
+  not_many m e = go (ltb K.offset (length (flat ws))) refl e
     where
-      go : (t : Bool) → ltb K.offset (length (flat ws)) ≡ t → m ≡ pick t (K.offset + 1) (length (flat ws)) → (m ≡ length (flat ws)) × ((l : Room) → import_shown K ws l ≡ fitted ws l)
-      go true q d = let z : ⊥ = omega arith in absurd z
-      go false q d = (d, λ l. rw q)
+      go : (t : Bool) → ltb K.offset (length (flat ws)) ≡ t → Some m ≡ pick t None (Some (length (flat ws))) → (m ≡ length (flat ws)) × ((l : Room) → import_shown K ws l ≡ fitted ws l)
+      go true q d = never cc
+      go false q d = (cc, λ l. rw q)
 
 pub length-shown-rows : (c : View) → length (view_rows c) ≡ length c.offsets
 unfolding view_rows

@@ -1,24 +1,60 @@
 -- Laws of the walk that writes a view. Values and bitmaps are written as in result form, beside offsets that are thought of and not kept;
 -- offsets and sizes are stored place after place.
 use mathlib.Core.Path.{◌≡◌, refl, ap, ◌∙◌}
+use mathlib.Core.Bool.{Bool, true, false}
 use mathlib.Core.List.{List, [], ◌∷◌}
 use Prim.Native.Nat.{ℕ, ◌+◌, ◌-◌, ◌≤◌, ◌<◌}
 use native.Mathlib.Omega.{arith}
 use lib.IntN.{ℤ, pos}
 use lib.ListN.{length, set, replicate, length-set, length-replicate}
 use Rattle.model.specs.Basics.{tab, pick}
-use Rattle.model.specs.Column.{Row, Column, row_at, rows_of, row_count}
-use Rattle.model.specs.Form.{is_row, length_of, flat}
-use Rattle.model.specs.View.{view_offsets_from, view_offsets, view_sizes}
+use Rattle.model.specs.Bitmap.{valid_at}
+use Rattle.model.specs.Column.{Elem, Row, null_row, list_row, Column, elem_at, offset_at, row_at, rows_of, row_count}
+use Rattle.model.specs.Form.{is_row, elems_of, length_of, flat}
+use Rattle.model.specs.View.{View, size_at, view_at, view_offsets_from, view_offsets, view_sizes}
 use Rattle.model.proofs.TabLaws.{tab-step, tab-none, length-tab, length-map}
 use Rattle.model.proofs.ViewLaws.{length-view}
-use Rattle.column.specs.Put.{RoomInˡ}
+use Rattle.bitmap.specs.Push.{push_bit}
+use Rattle.column.specs.Put.{RoomInˡ, RoomForElemsˡ, Writesˡ}
 use Rattle.column.specs.Rows.{RoomForRowˡ, WritesRowˡ}
 use Rattle.column.proofs.PutLaws.{sets_over}
 use Rattle.column.proofs.WalkLaws.{Walking, walk_begun, walk_room, walk_small, walk_more, walk_done}
 use Rattle.copy_rows.proofs.CopyLaws.{rows_at}
 use Rattle.stores.proofs.StoreLaws as store
 use Rattle.views.specs.ViewOutputs.{ViewRoomInˡ, FillsViewˡ}
+
+-- ---- one row: its bit and its elements, none of a null row
+
+abbrev pub shown : Bool → List Elem → Row
+shown valid es = pick valid (list_row es) null_row
+
+pub view_row : (c : View) (r a k : ℕ) {v : Bool} → v ≡ valid_at c.rows r → a ≡ offset_at c.offsets r → k ≡ size_at c r → shown v (tab (elem_at c.values c.elements) a k) ≡ view_at c r
+unfolding view_at
+view_row c r a k ev ea ek = rw (ev, ea, ek)
+
+pub column_row : (c : Column) (r a b : ℕ) {v : Bool} → v ≡ valid_at c.rows r → a ≡ offset_at c.offsets r → b ≡ offset_at c.offsets (r + 1) → shown v (tab (elem_at c.values c.elements) a (b - a)) ≡ row_at c r
+unfolding row_at
+column_row c r a b ev ea eb = rw (ev, ea, eb)
+
+pub shown-bit : (v : Bool) (es : List Elem) → is_row (shown v es) ≡ v
+unfolding is_row
+shown-bit true es = refl
+shown-bit false es = refl
+
+shown_elems : (v : Bool) (es : List Elem) → elems_of (shown v es) ≡ pick v es []
+unfolding elems_of
+shown_elems true es = refl
+shown_elems false es = refl
+
+-- where there is room for the row, there is for its elements
+pub shown_room : (v : Bool) (es : List Elem) {r at lr lv le : ℕ} → RoomForRowˡ (shown v es) r at lr lv le → RoomForElemsˡ (pick v es []) at lv le
+shown_room v es m = rw (← shown_elems v es) (record { values = m.values; elements = m.elements })
+
+-- its bit and its elements make it
+pub shown_put : (v : Bool) (es : List Elem) {r at k : ℕ} {ro ro' : List ℕ} {vo vo' : List ℤ} {eo eo' : List ℕ} → ro' ≡ push_bit ro r v → Writesˡ (pick v es []) at vo vo' eo eo' k → WritesRowˡ (shown v es) r at ro ro' vo vo' eo eo' k
+shown_put v es p w = record { rows = rw (shown-bit v es) p; values = rw (shown_elems v es) w.values; elements = rw (shown_elems v es) w.elements; place = rw (shown_elems v es) w.next }
+
+-- ---- the rows
 
 abbrev zeros : ℕ → List ℤ
 zeros n = replicate (n + 1) (pos 0)
@@ -64,12 +100,6 @@ module _ (W : ℕ → Row) (n : ℕ) where
     module _ (m : ViewRoomInˡ n (length (flat (tab W 0 n))) (length oo₀) (length so₀) (length d₂) (length d₃) (length d₄)) where
       pub show_room : RoomForRowˡ w r at (length ro) (length v) (length e)
       show_room = walk_room W n w h same_row s.walk (thought_room (length (zeroed n)) (length_zeroed n) m)
-
-      pub show_slots : (r < length oo) × (r < length so)
-      show_slots = (
-        store.room s.offsets _ _ (next-offset r at left h) (omega (arith, m.offsets, all_offsets)),
-        store.room s.sizes _ _ (next-size r left h) (omega (arith, m.sizes, all_sizes)),
-      )
 
     module _ {ro' : List ℕ} {v' : List ℤ} {e' : List ℕ} {k : ℕ} (p : WritesRowˡ w r at ro ro' v v' e e' k) where
       pub show_small : k ≤ length (flat (tab W 0 n))

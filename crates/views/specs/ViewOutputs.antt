@@ -1,11 +1,19 @@
--- What writing a view asks and does: room in five slices, and what they hold afterwards.
+-- What writing a view asks and does, said of its output: a `requires` speaks of it as it is then, `out.old`, an `ensures` of it at entry and at
+-- exit, `out.old` and `out.new`.
 use Rattle.std.specs.Prelude.{ℕ, ◌≤◌, ◌≡◌, List, ℤ, length}
-use Rattle.std.specs.Borrow.{MutBor}
+use Rattle.model.specs.Answers.{ListAnswer}
 use Rattle.model.specs.Bitmap.{bytes_for}
 use Rattle.model.specs.Column.{Row}
-use Rattle.model.specs.Contract.{MutSlice}
+use Rattle.model.specs.Contract.{ViewMeets}
 use Rattle.model.specs.Form.{flat, over, form_rows, form_values, form_elements}
-use Rattle.model.specs.View.{view_offsets, view_sizes}
+use Rattle.model.specs.Outcome.{Outcome}
+use Rattle.model.specs.View.{ViewRoom, view_offsets, view_sizes}
+use Rattle.view_checks.specs.Views.{view_room_in}
+use Rattle.view_checks.specs.declared.ViewOutput.{ViewOutput}
+
+-- the numbers of 32-bit offsets
+abbrev pub itself : List ℤ → List ℤ
+itself l = l
 
 -- room in outputs of these lengths for n rows and k elements
 pub record ViewRoomInˡ (n k lo ls lr lv le : ℕ) : Type 0 where
@@ -23,10 +31,25 @@ pub record FillsViewˡ (ws : List Row) (oo oo' so so' : List ℤ) (ro ro' : List
   pub values : vo' ≡ over (form_values (flat ws)) vo
   pub elements : eo' ≡ over (form_elements (flat ws)) eo
 
--- the same of slices: as they are then, and at entry and at exit
-abbrev pub ViewRoomIn : ℕ → ℕ → MutBor (List ℤ) → MutBor (List ℤ) → MutBor (List ℕ) → MutBor (List ℤ) → MutBor (List ℕ) → Type 0
-ViewRoomIn n k o s r v e = ViewRoomInˡ n k (length o.now) (length s.now) (length r.now) (length v.now) (length e.now)
+-- the slices are those that they were, whatever they hold
+pub record SameViews (o o' : ViewOutput) : Type 0 where
+  pub offsets : o'.offsets.ghost_name ≡ o.offsets.ghost_name
+  pub sizes : o'.sizes.ghost_name ≡ o.sizes.ghost_name
+  pub rows : o'.rows.ghost_name ≡ o.rows.ghost_name
+  pub elements : o'.elements.ghost_name ≡ o.elements.ghost_name
+  pub values : o'.elements.now.values.ghost_name ≡ o.elements.now.values.ghost_name
+  pub bits : o'.elements.now.bits.ghost_name ≡ o.elements.now.bits.ghost_name
 
-abbrev pub FillsView : List Row → MutSlice ℤ → MutSlice ℤ → MutSlice ℕ → MutSlice ℤ → MutSlice ℕ → Type 0
-FillsView ws o s r v e =
-    FillsViewˡ ws o.entry.now o.exit.now s.entry.now s.exit.now r.entry.now r.exit.now v.entry.now v.exit.now e.entry.now e.exit.now
+-- there is room for n rows and k elements
+abbrev pub ViewRoomFor : ℕ → ℕ → ViewOutput → Type 0
+ViewRoomFor n k o = ViewRoomInˡ n k (length o.offsets.now) (length o.sizes.now) (length o.rows.now) (length o.elements.now.values.now) (length o.elements.now.bits.now)
+
+-- the rows ws are written as a view, over what was there
+pub record FillsView (ws : List Row) (o o' : ViewOutput) : Type 0 where
+  pub filled : FillsViewˡ ws o.offsets.now o'.offsets.now o.sizes.now o'.sizes.now o.rows.now o'.rows.now o.elements.now.values.now o'.elements.now.values.now o.elements.now.bits.now o'.elements.now.bits.now
+  pub same : SameViews o o'
+
+-- the contract of export: the answer and the outputs are what f gives for the lengths lent
+pub record ViewAnswers (f : ViewRoom → Outcome (List Row)) (a : ListAnswer) (o o' : ViewOutput) : Type 0 where
+  pub meets : ViewMeets (f (view_room_in o)) a o.offsets.now o'.offsets.now o.sizes.now o'.sizes.now o.rows.now o'.rows.now o.elements.now.values.now o'.elements.now.values.now o.elements.now.bits.now o'.elements.now.bits.now
+  pub same : SameViews o o'

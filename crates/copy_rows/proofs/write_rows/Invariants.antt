@@ -1,11 +1,15 @@
 use Rattle.std.proofs.Common.{◌-◌}
 use Rattle.column.proofs.WalkLaws.{Walking}
-use Rattle.model.specs.Bitmap.{from}
-use Rattle.model.specs.Column.{column, row_at}
-use Rattle.model.specs.Widths.{used}
+use Rattle.column.specs.Columns.{column_in}
+use Rattle.column.specs.Outputs.{SameLists}
+use Rattle.model.specs.Column.{row_at}
 use Rattle.copy_rows.proofs.write_rows.Given as goal
 
 abbrev pub invariant-loop-r : goal.invariant-loop-r
-invariant-loop-r l =
-    let rows = row_at (column (used l.width l.offsets l.large) (from l.rstart l.rows) l.values (from l.estart l.elements)) in
-    Walking rows l.n (used l.width l.initial.out_offsets l.initial.out_large) l.fn.out_rows l.fn.out_values l.fn.out_elements (used l.width l.out_offsets l.out_large) l.out_rows l.out_values l.out_elements l.r l.at (l.n - l.r)
+invariant-loop-r g l =
+    let numbers = g.O.Offset.numbers in
+    let was = l.fn.out in
+    let o = l.out in
+    Walking (row_at (column_in numbers l.list)) l.n (numbers l.initial.out.offsets.now) was.rows.now was.elements.now.values.now was.elements.now.bits.now
+    (numbers o.offsets.now) o.rows.now o.elements.now.values.now o.elements.now.bits.now l.r l.at (l.n - l.r)
+    × SameLists was o

@@ -10,7 +10,10 @@ use Rattle.hash_walk.proofs.after_three.Goals as goal
 
 pub returns-then-is_short : goal.returns-then-is_short
 returns-then-is_short c = record {
-  list_answers = list-refused ShortArea (after-short c.args.op _ _ _ _ c.is_short.ensures c.most_needed-longest.ensures.value c.if-is_short.true);
+  list_answers = record {
+    meets = list-refused ShortArea (after-short c.args.op _ _ _ _ c.is_short.ensures c.most_needed-longest.ensures.value c.if-is_short.true);
+    same = record { offsets = refl; rows = refl; elements = refl; values = refl; bits = refl };
+  };
   clean_from = c.requires.clean;
 }
 
@@ -22,7 +25,10 @@ pub returns-in_err-op_refusal : goal.returns-in_err-op_refusal
 returns-in_err-op_refusal c =
     let e = c.in_err-op_refusal.ensures ∙ ap (op_refusal c.args.op) c.measure_pairs-m.ensures.value in
     rw (handed_on _ _ c.from_residual.ensures) (record {
-      list_answers = list-refused _ (after_eight c.args.op _ _ _ _ c.is_short.ensures c.most_needed-longest.ensures.value c.if-is_short.false e (number_positive _));
+      list_answers = record {
+        meets = list-refused _ (after_eight c.args.op _ _ _ _ c.is_short.ensures c.most_needed-longest.ensures.value c.if-is_short.false e (number_positive _));
+        same = record { offsets = refl; rows = refl; elements = refl; values = refl; bits = refl };
+      };
       clean_from = c.measure_pairs-m.ensures.clean_from;
     })
 
@@ -32,7 +38,10 @@ returns-then-not-has_room c =
     let n = c.row_count-n.ensures ∙ sym (length_hashes c.args.op _ _) in
     let h = c.has_room.ensures ∙ same_fit _ n c.measure_pairs-m.ensures.value in
     record {
-      list_answers = list-refused ShortOutput (after_goes c.args.op _ _ _ _ c.is_short.ensures c.most_needed-longest.ensures.value c.if-is_short.false e refl ∙ fitted_short _ _ (sym h ∙ c.if-not-has_room.true));
+      list_answers = record {
+        meets = list-refused ShortOutput (after_goes c.args.op _ _ _ _ c.is_short.ensures c.most_needed-longest.ensures.value c.if-is_short.false e refl ∙ fitted_short _ _ (sym h ∙ c.if-not-has_room.true));
+        same = record { offsets = refl; rows = refl; elements = refl; values = refl; bits = refl };
+      };
       clean_from = c.measure_pairs-m.ensures.clean_from;
     }
 
@@ -52,6 +61,9 @@ returns c =
     let n = c.row_count-n.ensures ∙ sym (length_hashes c.args.op _ _) in
     let h = c.has_room.ensures ∙ same_fit _ n c.measure_pairs-m.ensures.value in
     record {
-      list_answers = list-made _ _ _ (after_goes c.args.op _ _ _ _ c.is_short.ensures c.most_needed-longest.ensures.value c.if-is_short.false e refl ∙ fitted-made _ _ (sym h ∙ c.if-not-has_room.false)) n c.measure_pairs-m.ensures.value c.write_pairs.ensures.fills c.list_answer.ensures;
+      list_answers = record {
+        meets = list-made _ _ _ (after_goes c.args.op _ _ _ _ c.is_short.ensures c.most_needed-longest.ensures.value c.if-is_short.false e refl ∙ fitted-made _ _ (sym h ∙ c.if-not-has_room.false)) n c.measure_pairs-m.ensures.value c.write_pairs.ensures.fills.filled c.list_answer.ensures;
+        same = c.write_pairs.ensures.fills.same;
+      };
       clean_from = c.write_pairs.ensures.clean_from;
     }

@@ -1,46 +1,27 @@
 -- A turn adds the elements made of one pair of rows.
-use Rattle.std.proofs.Common.{sym, ◌∙◌, arith}
-use Rattle.model.specs.Bitmap.{from}
-use Rattle.model.specs.Column.{column}
-use Rattle.column.proofs.WalkLaws.{between, sum_done}
+use Rattle.std.proofs.Common.{◌∙◌, arith}
+use Rattle.column.specs.Columns.{column_in}
+use Rattle.column.proofs.WalkLaws.{sum_done}
+use Rattle.hash_checks.specs.Narrow.{narrow_numbers}
 use Rattle.hash_walk.specs.Hashes.{hash_rows}
 use Rattle.hash_walk.proofs.WalkingLaws.{hash_more, hash_small, need_fits}
 use Rattle.hash_walk.proofs.measure_pairs.Goals as goal
 
-pub measure_pair-len-requires-clause-left : goal.measure_pair-len-requires-clause-left
-measure_pair-len-requires-clause-left c =
-    between _ _ c.loop-r.r _ _ c.requires.left c.row_count-n.ensures (omega arith) c.offset_at-a.ensures.value c.offset_at-b.ensures.value
-
-pub measure_pair-len-requires-clause-right : goal.measure_pair-len-requires-clause-right
-measure_pair-len-requires-clause-right c =
-    between _ c.row_count-n.result c.loop-r.r _ _ c.requires.right (c.row_count-n.ensures ∙ sym c.requires.equal) (omega arith) c.offset_at-c.ensures.value c.offset_at-d.ensures.value
-
-pub measure_pair-len-requires-clause-room : goal.measure_pair-len-requires-clause-room
-measure_pair-len-requires-clause-room c =
-    let a = c.args in
-    let C = column a.loffsets.now (from a.l_rstart a.lrows.now) a.lvalues.now (from a.l_estart a.lelements.now) in
-    let D = column a.roffsets.now (from a.r_rstart a.rrows.now) a.rvalues.now (from a.r_estart a.relements.now) in
-    rw c.loop-r.auto.area (need_fits a.op C D c.row_count-n.result c.loop-r.r _ _ _ _ _ c.row_count-n.ensures (omega arith) c.offset_at-a.ensures.value c.offset_at-b.ensures.value c.offset_at-c.ensures.value c.offset_at-d.ensures.value c.requires.room)
+pub measure_pair-found-requires-clause-room : goal.measure_pair-found-requires-clause-room
+measure_pair-found-requires-clause-room c =
+    rw c.loop-r.auto.area (need_fits c.args.op (column_in narrow_numbers c.args.left) (column_in narrow_numbers c.args.right) c.loop-r.r _ (omega (arith, c.row_count-r-end.ensures)) c.requires.room)
 
 pub overflow_add-found : goal.overflow_add-found
 overflow_add-found c =
-    let a = c.args in
-    let C = column a.loffsets.now (from a.l_rstart a.lrows.now) a.lvalues.now (from a.l_estart a.lelements.now) in
-    let D = column a.roffsets.now (from a.r_rstart a.rrows.now) a.rvalues.now (from a.r_estart a.relements.now) in
-    let left = between C _ c.loop-r.r _ _ c.requires.left c.row_count-n.ensures (omega arith) c.offset_at-a.ensures.value c.offset_at-b.ensures.value in
-    let right = between D c.row_count-n.result c.loop-r.r _ _ c.requires.right (c.row_count-n.ensures ∙ sym c.requires.equal) (omega arith) c.offset_at-c.ensures.value c.offset_at-d.ensures.value in
-    let more = hash_more a.op C D _ _ c.measure_pair-len.result _ _ _ _ c.loop-r.invariant.0 (omega arith) c.offset_at-a.ensures.value c.offset_at-b.ensures.value c.offset_at-c.ensures.value c.offset_at-d.ensures.value left.rises right.rises c.offset_at-b.ensures.upper_bound c.offset_at-d.ensures.upper_bound c.measure_pair-len.ensures.value in
-    omega (arith, more.small, hash_small a.op)
+    let m = c.measure_pair-found.ensures in
+    let more = hash_more c.args.op (column_in narrow_numbers c.args.left) (column_in narrow_numbers c.args.right) _ _ c.measure_pair-found.result c.requires.begun c.row_count-r-end.ensures c.loop-r.invariant.0 (omega arith) m.left_end m.right_end m.value in
+    omega (arith, more.small, hash_small c.args.op)
 
 pub loop-r-preserved : goal.loop-r-preserved
 loop-r-preserved c =
-    let a = c.args in
-    let C = column a.loffsets.now (from a.l_rstart a.lrows.now) a.lvalues.now (from a.l_estart a.lelements.now) in
-    let D = column a.roffsets.now (from a.r_rstart a.rrows.now) a.rvalues.now (from a.r_estart a.relements.now) in
-    let left = between C _ c.loop-r.r _ _ c.requires.left c.row_count-n.ensures (omega arith) c.offset_at-a.ensures.value c.offset_at-b.ensures.value in
-    let right = between D c.row_count-n.result c.loop-r.r _ _ c.requires.right (c.row_count-n.ensures ∙ sym c.requires.equal) (omega arith) c.offset_at-c.ensures.value c.offset_at-d.ensures.value in
-    (hash_more a.op C D _ _ c.measure_pair-len.result _ _ _ _ c.loop-r.invariant.0 (omega arith) c.offset_at-a.ensures.value c.offset_at-b.ensures.value c.offset_at-c.ensures.value c.offset_at-d.ensures.value left.rises right.rises c.offset_at-b.ensures.upper_bound c.offset_at-d.ensures.upper_bound c.measure_pair-len.ensures.value, c.measure_pair-len.ensures.clean_from)
+    let m = c.measure_pair-found.ensures in
+    (hash_more c.args.op (column_in narrow_numbers c.args.left) (column_in narrow_numbers c.args.right) _ _ c.measure_pair-found.result c.requires.begun c.row_count-r-end.ensures c.loop-r.invariant.0 (omega arith) m.left_end m.right_end m.value, m.clean_from)
 
 pub returns-clause-value : goal.returns-clause-value
 unfolding hash_rows
-returns-clause-value c = sum_done _ _ _ c.loop-r.invariant.0 (omega arith) ∙ rw c.row_count-n.ensures
+returns-clause-value c = sum_done _ _ _ c.loop-r.invariant.0 (omega arith) ∙ rw c.row_count-r-end.ensures

@@ -1,3 +1,5 @@
+use Rattle.column.proofs.SameLaws.{wrote}
+use Rattle.bitmap.specs.Reads.{bits_in}
 use Rattle.std.proofs.Common.{◌+◌, ◌*◌, ℤ, List, ap, ◌∙◌, arith}
 use Rattle.model.proofs.TabLaws.{length-tab}
 use Rattle.model.specs.Basics.{tab}
@@ -9,20 +11,22 @@ use Rattle.nullable_runs.proofs.SpanLaws.{covered}
 use Rattle.nullable_runs.proofs.write_forward.Goals as goal
 
 pub copy_values-requires-clause-n_in_bounds_2 : goal.copy_values-requires-clause-n_in_bounds_2
-copy_values-requires-clause-n_in_bounds_2 c = omega (arith, c.requires.room.values, length-tab (elem_at c.args.values.now (from c.args.estart c.args.elements.now)) c.args.a c.args.n)
+copy_values-requires-clause-n_in_bounds_2 c = omega (arith, c.requires.room.values, length-tab (elem_at c.args.elements.values.now (bits_in c.args.elements.bits)) c.args.a c.args.n)
 
 pub put_bits-requires-clause-n_in_bounds : goal.put_bits-requires-clause-n_in_bounds
-put_bits-requires-clause-n_in_bounds c = let a = c.args in covered a.elements.now a.estart _ a.a a.n _ _ c.requires.column.bits c.requires.bits c.requires.column.inside (omega arith)
+put_bits-requires-clause-n_in_bounds c = let a = c.args in covered a.elements.bits.bytes.now a.elements.bits.start _ a.a a.n _ _ c.requires.column.bits c.requires.bits c.requires.column.inside (omega arith)
 
 pub put_bits-requires-clause-n_in_bounds_2 : goal.put_bits-requires-clause-n_in_bounds_2
-put_bits-requires-clause-n_in_bounds_2 c = omega (arith, c.requires.room.values, length-tab (elem_at c.args.values.now (from c.args.estart c.args.elements.now)) c.args.a c.args.n, c.copy_values.auto.out)
+put_bits-requires-clause-n_in_bounds_2 c = omega (arith, c.requires.room.values, length-tab (elem_at c.args.elements.values.now (bits_in c.args.elements.bits)) c.args.a c.args.n, c.copy_values.auto.out)
 
 pub put_bits-requires-clause-n_in_bounds_3 : goal.put_bits-requires-clause-n_in_bounds_3
-put_bits-requires-clause-n_in_bounds_3 c = omega (arith, c.requires.room.elements, length-tab (elem_at c.args.values.now (from c.args.estart c.args.elements.now)) c.args.a c.args.n)
+put_bits-requires-clause-n_in_bounds_3 c = omega (arith, c.requires.room.elements, length-tab (elem_at c.args.elements.values.now (bits_in c.args.elements.bits)) c.args.a c.args.n)
 
 pub returns : goal.returns
 returns c =
     let a = c.args in
-    nullable_written a.values.now a.elements.now a.estart c.byte_from-byte.result c.start_from-first.result a.a (λ z. omega arith) (omega arith) a.n a.at
-    (c.put_bits.ensures.out_values_after ∙ ap (λ (r : List ℤ). nulled r a.at (tab (bit_at a.elements.now) (8 * c.byte_from-byte.result + c.start_from-first.result) a.n)) c.copy_values.ensures)
-    c.put_bits.ensures.out_elements_after
+    wrote
+    (nullable_written a.elements.values.now a.elements.bits.bytes.now a.elements.bits.start c.byte_from-byte.result c.start_from-first.result a.a (λ z. omega arith) (omega arith) a.n a.at
+    (c.put_bits.ensures.values_after ∙ ap (λ (r : List ℤ). nulled r a.at (tab (bit_at a.elements.bits.bytes.now) (8 * c.byte_from-byte.result + c.start_from-first.result) a.n)) c.copy_values.ensures)
+    c.put_bits.ensures.bits_after)
+    c.put_bits.ensures.same.values c.put_bits.ensures.same.bits

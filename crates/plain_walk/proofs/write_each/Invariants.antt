@@ -1,17 +1,21 @@
 use Rattle.std.proofs.Common.{◌≡◌, ◌-◌}
+use Rattle.column.specs.Columns.{column_in}
+use Rattle.column.specs.Outputs.{SameLists}
 use Rattle.column.proofs.WalkLaws.{Walking}
-use Rattle.model.specs.Bitmap.{from}
-use Rattle.model.specs.Column.{column, offset_at}
-use Rattle.model.specs.Widths.{used, limits_at}
+use Rattle.model.specs.Column.{offset_at}
 use Rattle.plain_walk.proofs.PlainLaws.{plain_at}
 use Rattle.plain_walk.proofs.write_each.Given as goal
 
 -- the rows before r are written, and row r begins at a
 abbrev pub invariant-loop-r : goal.invariant-loop-r
-invariant-loop-r l =
-    let O = used l.width l.offsets l.large in
-    let C = column O (from l.rstart l.rows) l.values (from l.estart l.elements) in
+invariant-loop-r g l =
+    let numbers = g.O.Offset.numbers in
+    let C = column_in numbers l.list in
+    let was = l.fn.out in
+    let o = l.out in
     record {
-      walking : Walking (plain_at (limits_at l.width) l.op C) l.n (used l.width l.initial.out_offsets l.initial.out_large) l.initial.out_rows l.initial.out_values l.initial.out_elements (used l.width l.out_offsets l.out_large) l.out_rows l.out_values l.out_elements l.r l.at (l.n - l.r);
-      place : l.a ≡ offset_at O l.r;
+      walking : Walking (plain_at g.O.Offset.LIMITS l.op C) l.n (numbers l.initial.out.offsets.now) was.rows.now was.elements.now.values.now was.elements.now.bits.now
+          (numbers o.offsets.now) o.rows.now o.elements.now.values.now o.elements.now.bits.now l.r l.at (l.n - l.r);
+      place : l.a ≡ offset_at C.offsets l.r;
+      same : SameLists was o;
     }

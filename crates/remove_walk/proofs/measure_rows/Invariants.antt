@@ -1,16 +1,18 @@
-use Rattle.std.proofs.Common.{◌≡◌, ◌-◌, ◌<◌}
-use Rattle.model.specs.Bitmap.{from}
-use Rattle.model.specs.Column.{column, arguments, offset_at}
-use Rattle.model.specs.Widths.{used, limits_at}
+use Rattle.std.proofs.Common.{◌≡◌, ◌-◌}
 use Rattle.column.proofs.WalkLaws.{Summing}
-use Rattle.ops.specs.declared.ListOp.TheVariants as L
-use Rattle.match_rows.specs.Limits.{none}
+use Rattle.column.specs.Columns.{column_in, values_in}
 use Rattle.made_rows.specs.Made.{row_made_at}
+use Rattle.match_rows.specs.Limits.{none}
+use Rattle.model.specs.Column.{offset_at}
+use Rattle.ops.specs.declared.ListOp.TheVariants as L
 use Rattle.remove_walk.proofs.measure_rows.Given as goal
 
 -- what was found of the rows before r, and where row r begins
 abbrev pub invariant-loop-r : goal.invariant-loop-r
-invariant-loop-r l = record {
-  rows : Summing (row_made_at (limits_at l.width) L.Remove (column (used l.width l.offsets l.large) (from l.rstart l.rows) l.values (from l.estart l.elements)) (arguments l.xs (from l.xstart l.xbits)) (arguments l.ys (from l.ystart l.ybits)) none) l.n l.a (limits_at l.width).offset l.found l.r (l.n - l.r);
-  place : l.r < l.n → l.a ≡ offset_at (used l.width l.offsets l.large) l.r;
-}
+invariant-loop-r g l =
+    let C = column_in g.O.Offset.numbers l.list in
+    let N = g.O.Offset.LIMITS in
+    record {
+      rows : Summing (row_made_at N L.Remove C (values_in l.xs) (values_in l.ys) none) l.n l.a N.offset l.found l.r (l.n - l.r);
+      place : l.a ≡ offset_at C.offsets l.r;
+    }

@@ -1,11 +1,16 @@
-use Prim.Native.Nat.{◌+◌, ◌-◌}
-use Rattle.model.specs.Bitmap.{from}
-use Rattle.model.specs.Column.{elem_at}
-use Rattle.model.specs.Widths.{used, limits_at}
-use Rattle.column.specs.Rows.{row_from}
+-- The copies from the row on are left to write.
+use Rattle.std.proofs.Common.{◌+◌, ◌-◌}
+use Rattle.model.specs.Column.{row_at}
+use Rattle.column.specs.Columns.{column_in}
+use Rattle.column.specs.Outputs.{SameLists}
 use Rattle.repeat_walk.proofs.OuterLaws.{Copying}
 use Rattle.repeat_walk.proofs.put_copies.Given as goal
 
 abbrev pub invariant-loop-i : goal.invariant-loop-i
-invariant-loop-i l =
-    Copying (limits_at l.width) (row_from (from l.rstart l.rows) (elem_at l.values (from l.estart l.elements)) l.r l.a l.b) l.first l.place l.times (used l.width l.initial.inner_offsets l.initial.inner_large) l.initial.inner_rows l.initial.out_values l.initial.out_elements (used l.width l.inner_offsets l.inner_large) l.inner_rows l.out_values l.out_elements l.i l.at (l.first + l.times - l.i)
+invariant-loop-i g l =
+    let numbers = g.O.Offset.numbers in let was = l.fn.out in let o = l.out in
+    record {
+      copying : Copying g.O.Offset.LIMITS (row_at (column_in numbers l.list) l.r) l.first l.place l.times (numbers was.offsets.now) was.rows.now was.elements.now.values.now was.elements.now.bits.now
+          (numbers o.offsets.now) o.rows.now o.elements.now.values.now o.elements.now.bits.now l.i l.at (l.first + l.times - l.i);
+      same : SameLists was o;
+    }

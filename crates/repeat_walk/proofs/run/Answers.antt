@@ -1,36 +1,38 @@
 -- The early refusals, then the sums: 8, or what is made.
-use mathlib.Core.Path.{refl}
+use Rattle.std.proofs.Common.{refl}
 use Rattle.checks.proofs.RefusedLaws.{handed_on, number_positive}
-use Rattle.model.specs.Bitmap.{from}
-use Rattle.model.specs.Column.{column, arguments}
-use Rattle.model.specs.Widths.{used, limits_at}
-use Rattle.repeat_sums.proofs.SumLaws.{rising}
+use Rattle.column.specs.Columns.{column_in, values_in}
+use Rattle.column.specs.Outputs.{repeat_room_in}
 use Rattle.repeat_walk.proofs.AnswerLaws.{repeat_refused}
 use Rattle.repeat_walk.proofs.RepeatLaws.{sums_are, run_early, run_eight, run_fits}
 use Rattle.repeat_walk.proofs.run.Goals as goal
 
 pub returns-in_err-early : goal.returns-in_err-early
-returns-in_err-early c =
+returns-in_err-early g c =
     rw (handed_on _ _ c.from_residual.ensures)
-    (repeat_refused _ (run_early _ _ _ _ c.in_err-early.ensures.value _ (number_positive c.in_err-early.field-0.0)))
-
-pub sum_repeats-requires : goal.sum_repeats-requires
-sum_repeats-requires c = let b = c.in_ok-early.ensures.begun refl in record { rising = rising _ b.list; covers = b.list.rows; covers_2 = b.bits; counts_len = b.equal }
+    (record {
+      meets = repeat_refused _ (run_early _ _ (values_in c.args.counts) _ c.in_err-early.ensures.value _ (number_positive c.in_err-early.field-0.0));
+      outer = record { offsets = refl; rows = refl };
+      lists = record { offsets = refl; rows = refl; elements = refl; values = refl; bits = refl };
+    })
 
 pub returns-in_err-sums : goal.returns-in_err-sums
-returns-in_err-sums c =
+returns-in_err-sums g c =
     rw (handed_on _ _ c.from_residual-in_err-sums.ensures)
-    (repeat_refused _ (run_eight _ _ _ _ c.in_ok-early.ensures.value refl (c.in_ok-early.ensures.begun refl).equal _ c.in_err-sums.ensures _))
+    (record {
+      meets = repeat_refused _ (run_eight _ _ (values_in c.args.counts) _ c.in_ok-early.ensures.value refl (c.in_ok-early.ensures.begun refl).equal _ c.in_err-sums.ensures _);
+      outer = record { offsets = refl; rows = refl };
+      lists = record { offsets = refl; rows = refl; elements = refl; values = refl; bits = refl };
+    })
 
-pub fill-requires : goal.fill-requires
-fill-requires c =
-    let a = c.args in
-    let C = column (used a.width a.offsets.now a.large.now) (from a.rstart a.rows.now) a.values.now (from a.estart a.elements.now) in
-    let A = arguments a.counts.now (from a.cstart a.count_bits.now) in
-    let b = c.in_ok-early.ensures.begun refl in
-    let m = sums_are (limits_at a.width) C A _ c.in_ok-sums.ensures in
-    record { list = b.list; bits = b.bits; equal = b.equal; lists = m.0; elements = m.1; few = m.2; small = m.3 }
+pub fill-requires-clause-sized : goal.fill-requires-clause-sized
+fill-requires-clause-sized g c = sums_are g.O.Offset.LIMITS (column_in g.O.Offset.numbers c.args.list) (values_in c.args.counts) _ c.in_ok-sums.ensures
 
 pub returns : goal.returns
-returns c =
-    rw (run_fits _ _ _ _ c.in_ok-early.ensures.value refl (c.in_ok-early.ensures.begun refl).equal _ c.in_ok-sums.ensures _) c.fill.ensures
+returns g c =
+    let w = c.fill.ensures in
+    record {
+      meets = rw (run_fits _ (column_in g.O.Offset.numbers c.args.list) (values_in c.args.counts) _ c.in_ok-early.ensures.value refl (c.in_ok-early.ensures.begun refl).equal _ c.in_ok-sums.ensures (repeat_room_in c.args.out.now c.args.inner.now)) w.meets;
+      outer = w.outer;
+      lists = w.lists;
+    }

@@ -1,21 +1,22 @@
 use Rattle.std.proofs.Common.{◌≡◌, ◌-◌}
 use Rattle.column.proofs.WalkLaws.{Walking}
+use Rattle.column.specs.Columns.{column_in, values_in}
+use Rattle.column.specs.Outputs.{SameLists}
 use Rattle.made_rows.specs.Made.{row_made_at}
-use Rattle.model.specs.Bitmap.{from}
-use Rattle.model.specs.Column.{column, arguments, offset_at}
-use Rattle.model.specs.Widths.{used, limits_at}
+use Rattle.model.specs.Column.{offset_at}
 use Rattle.ops.specs.declared.ListOp.TheVariants as L
 use Rattle.replace_walk.proofs.write_rows.Given as goal
 
 -- what was written of the rows before r, and where row r begins
 abbrev pub invariant-loop-r : goal.invariant-loop-r
-invariant-loop-r l =
-    let O = used l.width l.offsets l.large in
-    let C = column O (from l.rstart l.rows) l.values (from l.estart l.elements) in
-    let X = arguments l.xs (from l.xstart l.xbits) in
-    let Y = arguments l.ys (from l.ystart l.ybits) in
-    let Z = arguments l.zs (from l.zstart l.zbits) in
+invariant-loop-r g l =
+    let numbers = g.O.Offset.numbers in
+    let C = column_in numbers l.list in
+    let W = row_made_at g.O.Offset.LIMITS L.Replace C (values_in l.xs) (values_in l.ys) (values_in l.zs) in
+    let was = l.fn.out in
+    let o = l.out in
     record {
-      walking : Walking (row_made_at (limits_at l.width) L.Replace C X Y Z) l.n (used l.width l.initial.out_offsets l.initial.out_large) l.initial.out_rows l.initial.out_values l.initial.out_elements (used l.width l.out_offsets l.out_large) l.out_rows l.out_values l.out_elements l.r l.at (l.n - l.r);
-      place : l.a ≡ offset_at O l.r;
+      walking : Walking W l.n (numbers l.initial.out.offsets.now) was.rows.now was.elements.now.values.now was.elements.now.bits.now (numbers o.offsets.now) o.rows.now o.elements.now.values.now o.elements.now.bits.now l.r l.at (l.n - l.r);
+      same : SameLists was o;
+      place : l.a ≡ offset_at C.offsets l.r;
     }

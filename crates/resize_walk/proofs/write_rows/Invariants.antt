@@ -1,15 +1,16 @@
 use Rattle.std.proofs.Common.{◌-◌}
 use Rattle.column.proofs.WalkLaws.{Walking}
-use Rattle.model.specs.Bitmap.{from}
-use Rattle.model.specs.Column.{column, arguments}
-use Rattle.model.specs.Widths.{used}
+use Rattle.column.specs.Columns.{column_in, values_in}
+use Rattle.column.specs.Outputs.{SameLists}
+use Rattle.resize_walk.specs.Resized.{fills_in}
 use Rattle.resize_walk.proofs.ResizedLaws.{resized_at}
 use Rattle.resize_walk.proofs.write_rows.Given as goal
 
 -- what was written of the rows before r
 abbrev pub invariant-loop-r : goal.invariant-loop-r
-invariant-loop-r l =
-    let C = column (used l.width l.offsets l.large) (from l.rstart l.rows) l.values (from l.estart l.elements) in
-    let X = arguments l.xs (from l.xstart l.xbits) in
-    let Y = arguments l.ys (from l.ystart l.ybits) in
-    Walking (resized_at C X l.filled Y) l.n (used l.width l.initial.out_offsets l.initial.out_large) l.initial.out_rows l.initial.out_values l.initial.out_elements (used l.width l.out_offsets l.out_large) l.out_rows l.out_values l.out_elements l.r l.at (l.n - l.r)
+invariant-loop-r g l =
+    let N = g.O.Offset.numbers in
+    record {
+      walking : Walking (resized_at (column_in N l.list) (values_in l.xs) (fills_in l.fills)) l.n (N l.initial.out.offsets.now) l.fn.out.rows.now l.fn.out.elements.now.values.now l.fn.out.elements.now.bits.now (N l.out.offsets.now) l.out.rows.now l.out.elements.now.values.now l.out.elements.now.bits.now l.r l.at (l.n - l.r);
+      same : SameLists l.fn.out l.out;
+    }

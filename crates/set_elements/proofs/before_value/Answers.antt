@@ -2,7 +2,7 @@ use Rattle.std.proofs.Common.{◌≡◌, ◌+◌, ◌-◌, ℤ, true, false, tak
 use borrow.Author.Tests.{tests}
 use Rattle.std.specs.Ordering.{int_eq}
 use Rattle.std.proofs.lemmas.Iterator.{IsFirst-from_position, YieldsList-from_slice}
-use Rattle.column.proofs.OffsetLaws.{back64}
+use Rattle.model.proofs.SignedLaws.{back64}
 use Rattle.set_elements.proofs.SearchLaws.{before_position}
 use Rattle.set_elements.proofs.before_value.Goals as goal
 

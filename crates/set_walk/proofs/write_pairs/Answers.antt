@@ -1,51 +1,43 @@
 -- A turn writes the row that is made of one pair of rows, and its offset.
-use Rattle.std.proofs.Common.{◌≡◌, ◌+◌, ◌-◌, refl, sym, ◌∙◌, arith}
-use Rattle.model.specs.Bitmap.{from}
-use Rattle.model.specs.Column.{column}
-use Rattle.model.specs.Widths.{used}
-use Rattle.model.specs.Elements.{set_elems}
-use Rattle.column.proofs.WalkLaws.{put_keeps, between, walk_room, walk_small, walk_more, walk_done}
+use Rattle.std.proofs.Common.{◌≡◌, ◌+◌, ◌-◌, refl, ◌∙◌, arith}
+use Rattle.column.specs.Columns.{column_in}
+use Rattle.column.proofs.SameLaws.{lists_on}
+use Rattle.column.proofs.WalkLaws.{put_keeps, walk_room, walk_small, walk_more, walk_done}
 use Rattle.set_walk.specs.Pairs.{pair_at}
-use Rattle.set_walk.proofs.SetLaws.{same_pair, room_at, rows_at}
+use Rattle.set_walk.proofs.SetLaws.{room_at, rows_at}
 use Rattle.set_walk.proofs.write_pairs.Goals as goal
 
-pub put_pair-at-requires-clause-left : goal.put_pair-at-requires-clause-left
-put_pair-at-requires-clause-left c =
-    between _ _ c.loop-r.r _ _ c.requires.left c.row_count-n.ensures (omega arith) c.offset_at-a.ensures.value c.offset_at-b.ensures.value
-
-pub put_pair-at-requires-clause-right : goal.put_pair-at-requires-clause-right
-put_pair-at-requires-clause-right c =
-    between _ c.row_count-n.result c.loop-r.r _ _ c.requires.right (c.row_count-n.ensures ∙ sym c.requires.equal) (omega arith) c.offset_at-c.ensures.value c.offset_at-d.ensures.value
-
 pub put_pair-at-requires-clause-room : goal.put_pair-at-requires-clause-room
-put_pair-at-requires-clause-room c =
-    let a = c.args in
-    let C = column (used a.width a.loffsets.now a.llarge.now) (from a.l_rstart a.lrows.now) a.lvalues.now (from a.l_estart a.lelements.now) in
-    let D = column (used a.width a.roffsets.now a.rlarge.now) (from a.r_rstart a.rrows.now) a.rvalues.now (from a.r_estart a.relements.now) in
-    walk_room (pair_at a.op C D) c.row_count-n.result _ (omega arith) (same_pair (set_elems a.op) C D c.loop-r.r _ _ _ _ c.offset_at-a.ensures.value c.offset_at-b.ensures.value c.offset_at-c.ensures.value c.offset_at-d.ensures.value) c.loop-r.invariant (room_at a.op C D c.row_count-n.result c.row_count-n.ensures c.requires.room (put_keeps _ 0 0 c.put_offset.ensures))
+put_pair-at-requires-clause-room g c =
+    let C = column_in g.O.Offset.numbers c.args.left in
+    let D = column_in g.O.Offset.numbers c.args.right in
+    let o = c.args.out.now.offsets.now in
+    walk_room (pair_at c.args.op C D) _ _ (omega arith) refl c.loop-r.invariant.0 (room_at c.args.op C D _ c.row_count-r-end.ensures c.requires.room (put_keeps (g.O.Offset.numbers o) 0 0 c.put_offset.ensures ∙ g.met.O.Offset.numbers_length o))
 
-pub put_offset-requires-in-loop-r-clause-v_bound : goal.put_offset-requires-in-loop-r-clause-v_bound
-put_offset-requires-in-loop-r-clause-v_bound c =
-    let a = c.args in
-    let C = column (used a.width a.loffsets.now a.llarge.now) (from a.l_rstart a.lrows.now) a.lvalues.now (from a.l_estart a.lelements.now) in
-    let D = column (used a.width a.roffsets.now a.rlarge.now) (from a.r_rstart a.rrows.now) a.rvalues.now (from a.r_estart a.relements.now) in
-    let k = walk_small (pair_at a.op C D) c.row_count-n.result _ (omega arith) (same_pair (set_elems a.op) C D c.loop-r.r _ _ _ _ c.offset_at-a.ensures.value c.offset_at-b.ensures.value c.offset_at-c.ensures.value c.offset_at-d.ensures.value) c.loop-r.invariant c.put_pair-at.ensures in
-    omega (arith, c.requires.small, rw (rows_at a.op C D c.row_count-n.result c.row_count-n.ensures) at k)
+pub put_offset-requires-in-loop-r-clause-v_le_offset : goal.put_offset-requires-in-loop-r-clause-v_le_offset
+put_offset-requires-in-loop-r-clause-v_le_offset g c =
+    let C = column_in g.O.Offset.numbers c.args.left in
+    let D = column_in g.O.Offset.numbers c.args.right in
+    let k = walk_small (pair_at c.args.op C D) _ _ (omega arith) refl c.loop-r.invariant.0 c.put_pair-at.ensures.written in
+    omega (arith, c.requires.small, rw (rows_at c.args.op C D _ c.row_count-r-end.ensures) at k)
 
 pub loop-r-preserved : goal.loop-r-preserved
-loop-r-preserved c =
-    let a = c.args in
-    let C = column (used a.width a.loffsets.now a.llarge.now) (from a.l_rstart a.lrows.now) a.lvalues.now (from a.l_estart a.lelements.now) in
-    let D = column (used a.width a.roffsets.now a.rlarge.now) (from a.r_rstart a.rrows.now) a.rvalues.now (from a.r_estart a.relements.now) in
-    let n = c.row_count-n.result in
-    let m : n - (c.loop-r.r + 1) ≡ n - c.loop-r.r - 1 = omega arith in
-    rw m (walk_more (pair_at a.op C D) n _ (omega arith) (same_pair (set_elems a.op) C D c.loop-r.r _ _ _ _ c.offset_at-a.ensures.value c.offset_at-b.ensures.value c.offset_at-c.ensures.value c.offset_at-d.ensures.value) c.loop-r.invariant c.put_pair-at.ensures c.put_offset-in-loop-r.ensures)
+loop-r-preserved g c =
+    let C = column_in g.O.Offset.numbers c.args.left in
+    let D = column_in g.O.Offset.numbers c.args.right in
+    let n = c.row_count-r-end.result in
+    let z : n - (c.loop-r.r + 1) ≡ n - c.loop-r.r - 1 = omega arith in (
+      rw z (walk_more (pair_at c.args.op C D) _ _ (omega arith) refl c.loop-r.invariant.0 c.put_pair-at.ensures.written (rw c.put_pair-at.ensures.offsets at c.put_offset-in-loop-r.ensures)),
+      lists_on (lists_on c.loop-r.invariant.1 c.put_pair-at.ensures.same) (record { offsets = refl; rows = refl; elements = refl; values = refl; bits = refl }),
+    )
 
 pub returns : goal.returns
-returns c =
-    let a = c.args in
-    let C = column (used a.width a.loffsets.now a.llarge.now) (from a.l_rstart a.lrows.now) a.lvalues.now (from a.l_estart a.lelements.now) in
-    let D = column (used a.width a.roffsets.now a.rlarge.now) (from a.r_rstart a.rrows.now) a.rvalues.now (from a.r_estart a.relements.now) in
-    let n = c.row_count-n.result in
-    rw (← rows_at a.op C D n c.row_count-n.ensures)
-    (walk_done (pair_at a.op C D) n (used a.width a.out_offsets.now a.out_large.now) c.loop-r.invariant (omega arith) c.put_offset.ensures (room_at a.op C D n c.row_count-n.ensures c.requires.room refl))
+returns g c =
+    let C = column_in g.O.Offset.numbers c.args.left in
+    let D = column_in g.O.Offset.numbers c.args.right in
+    let o = c.args.out.now.offsets.now in
+    rw (← rows_at c.args.op C D _ c.row_count-r-end.ensures)
+    (record {
+      filled = walk_done (pair_at c.args.op C D) _ (g.O.Offset.numbers o) c.loop-r.invariant.0 (omega arith) c.put_offset.ensures (room_at c.args.op C D _ c.row_count-r-end.ensures c.requires.room (g.met.O.Offset.numbers_length o));
+      same = c.loop-r.invariant.1;
+    })

@@ -1,23 +1,20 @@
 use Rattle.std.proofs.Common.{◌≡◌, ◌-◌}
-use Rattle.bit_words.specs.Words.{low_bits}
 use Rattle.column.proofs.WalkLaws.{Walking}
+use Rattle.column.specs.Columns.{column_in, values_in}
+use Rattle.column.specs.Outputs.{SameLists}
 use Rattle.made_rows.specs.Made.{row_made_at}
-use Rattle.model.specs.Basics.{tab}
-use Rattle.model.specs.Bitmap.{from}
-use Rattle.model.specs.Column.{column, arguments, offset_at}
-use Rattle.model.specs.Widths.{used, limits_at}
-use Rattle.slice_rows.specs.Sliced.{op_by, all_valid}
+use Rattle.model.specs.Column.{offset_at}
+use Rattle.slice_rows.specs.Columns.{Held, slice_in}
+use Rattle.slice_rows.specs.Sliced.{all_valid}
 use Rattle.slice_walk.proofs.write_rows.Given as goal
 
 abbrev pub invariant-loop-r : goal.invariant-loop-r
-invariant-loop-r l =
-    let O = used l.width l.offsets l.large in
-    let C = column O (from l.rstart l.rows) l.values (from l.estart l.elements) in
-    let X = arguments l.xs (from l.xstart l.xbits) in
-    let Y = arguments l.ys (from l.ystart l.ybits) in
-    let Z = arguments l.zs (from l.zstart l.zbits) in
+invariant-loop-r g l =
+    let N = g.O.Offset.numbers in
+    let C = column_in N l.list in
     record {
-      walking : Walking (row_made_at (limits_at l.width) (op_by l.by) C X Y Z) l.n (used l.width l.initial.out_offsets l.initial.out_large) l.initial.out_rows l.initial.out_values l.initial.out_elements (used l.width l.out_offsets l.out_large) l.out_rows l.out_values l.out_elements l.r l.at (l.n - l.r);
-      place : l.a ≡ offset_at O l.r;
-      bits : low_bits l.word l.known ≡ tab (all_valid l.by C.rows X.bits Y.bits Z.bits) l.r l.known;
+      walking : Walking (row_made_at g.O.Offset.LIMITS l.fn.op C (values_in l.xs) (values_in l.ys) (values_in l.zs)) l.n (N l.initial.out.offsets.now) l.fn.out.rows.now l.fn.out.elements.now.values.now l.fn.out.elements.now.bits.now (N l.out.offsets.now) l.out.rows.now l.out.elements.now.values.now l.out.elements.now.bits.now l.r l.at (l.n - l.r);
+      place : l.a ≡ offset_at C.offsets l.r;
+      held : Held (all_valid C.rows (slice_in l.columns)) l.r l.next;
+      same : SameLists l.fn.out l.out;
     }

@@ -2,4 +2,4 @@ use Rattle.steps.proofs.+steps.Given as goal
 
 -- proposed from what the function passes where it calls itself
 abbrev pub decreases-steps : goal.decreases-steps
-decreases-steps l = l.left
+decreases-steps g l = l.left

@@ -1,6 +1,6 @@
 use Rattle.std.proofs.Common.{arith, rules, to_z, of_z, w64, ℕ, ◌+◌, ◌-◌, ◌≡◌, ℤ, List, refl, pos, get_or, length, ap, sym, ◌∙◌}
 use Rattle.std.proofs.Math.Seq.{length-sets}
-use Rattle.column.proofs.OffsetLaws.{back64}
+use Rattle.model.proofs.SignedLaws.{back64}
 use Rattle.model.specs.Basics.{tab}
 use Rattle.model.proofs.TabLaws.{length-tab, get_or-tab}
 use Rattle.std.proofs.lemmas.List.Edits.{sets}

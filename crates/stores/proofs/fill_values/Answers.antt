@@ -1,5 +1,5 @@
 use Rattle.std.proofs.Common.{arith}
-use Rattle.column.proofs.OffsetLaws.{back64}
+use Rattle.model.proofs.SignedLaws.{back64}
 use Rattle.stores.proofs.StoreLaws.{part_filled}
 use Rattle.stores.proofs.fill_values.Goals as goal
 

@@ -1,6 +1,6 @@
 use Rattle.std.proofs.Common.{arith, rules, to_z, of_z, w64, ℕ, ◌+◌, ◌-◌, ◌≡◌, ℤ, refl, pos, get_or, length, sym, ap, ◌∙◌}
 use Rattle.std.proofs.lemmas.List.{get_or-reverse}
-use Rattle.column.proofs.OffsetLaws.{back64}
+use Rattle.model.proofs.SignedLaws.{back64}
 use Rattle.model.specs.Basics.{tab}
 use Rattle.model.proofs.TabLaws.{length-tab, get_or-tab}
 use Rattle.stores.proofs.StoreLaws.{next_stored, all_stored, length_back}

@@ -1,4 +1,4 @@
-use Rattle.column.proofs.OffsetLaws.{back64}
+use Rattle.model.proofs.SignedLaws.{back64}
 use Rattle.model.specs.Refusals.{plus}
 use Rattle.sums.specs.Sums.{summed, count_if}
 use Rattle.sums.proofs.SumLaws.{plus_negative, plus_checked}

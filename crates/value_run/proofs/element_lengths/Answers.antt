@@ -10,12 +10,12 @@ use Rattle.value_run.proofs.element_lengths.Goals as goal
 
 pub returns-in_err-element_refusal : goal.returns-in_err-element_refusal
 unfolding asked_values
-returns-in_err-element_refusal c =
+returns-in_err-element_refusal g c =
     rw (handed_on _ _ c.from_residual.ensures)
-    (sym (element-lengths _ _ _ _ c.in_err-element_refusal.ensures ∙ gate_shut _ _ (number_positive _)))
+    (sym (element-lengths _ _ c.args.indexes _ c.in_err-element_refusal.ensures ∙ gate_shut _ _ (number_positive _)))
 
 pub returns : goal.returns
-returns c =
+returns g c =
     c.value_lengths_for.ensures
     ∙ ap (λ (n : ℕ). made (value_room_for n)) c.row_count.ensures
-    ∙ sym (element-lengths _ _ _ _ c.in_ok-element_refusal.ensures ∙ gate_open _ _ refl)
+    ∙ sym (element-lengths _ _ c.args.indexes _ c.in_ok-element_refusal.ensures ∙ gate_open _ _ refl)

@@ -1,4 +1,3 @@
-use mathlib.Core.Path.{refl}
 use borrow.Author.Tests.{ne_eqb}
 use Rattle.model.specs.Answers.{number_of}
 use Rattle.checks.proofs.RefusedLaws.{handed_on, number_positive}

@@ -1,8 +1,8 @@
--- No station is named: the call is the window's own.
-use Rattle.model.specs.Outcome.{gate}
-use Rattle.model.specs.Recipe.{stationed}
+use Rattle.copies.proofs.TrayLaws.{clears_on}
 use Rattle.windows.proofs.run_window.Goals as goal
 
-pub returns-clause-list_answers : goal.returns-clause-list_answers
-unfolding stationed gate
-returns-clause-list_answers c = c.attempt-answer.ensures
+pub returns-clause-clears : goal.returns-clause-clears
+returns-clause-clears g c = let k = c.attempt-answer.ensures.one in clears_on k.same k.room c.clear.ensures
+
+pub returns-clause-clears_2 : goal.returns-clause-clears_2
+returns-clause-clears_2 g c = let k = c.attempt-answer.ensures.two in clears_on k.same k.room c.clear-2.ensures

@@ -5,7 +5,9 @@ use Rattle.arguments.proofs.taken.is_short_if.Goals as goal
 
 pub is_short-requires : goal.is_short-requires
 unfolding over_if
-is_short-requires c = let e : ltb 7 c.args.start ≡ false = rw c.if-on.true at c.requires in omega (arith, ltb-false 7 c.args.start e)
+is_short-requires c =
+    let e : ltb 7 c.args.column.bits.start ≡ false = rw c.if-on.true at c.requires in
+    omega (arith, ltb-false 7 c.args.column.bits.start e)
 
 pub returns-then-on : goal.returns-then-on
 unfolding short_if refusal2ᵃ

@@ -1,6 +1,7 @@
 use Rattle.std.proofs.Common.{length, sym, ap, ◌∙◌, arith}
 use Rattle.std.proofs.lemmas.List.{length-map}
-use Rattle.column.proofs.OffsetLaws.{back64, bad_falls, falls_now, falls_on, falls-end, number_at}
+use Rattle.model.proofs.SignedLaws.{back64}
+use Rattle.column.proofs.OffsetLaws.{bad_falls, falls_now, falls_on, falls-end, number_at}
 use Rattle.column.proofs.offsets.are_bad.Goals as goal
 
 pub loop-offset-init : goal.loop-offset-init

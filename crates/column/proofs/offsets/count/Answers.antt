@@ -4,7 +4,7 @@ use lib.IntN.{nat_abs}
 use Rattle.std.specs.Int.{FitsUnsignedBits}
 use Rattle.std.specs.Result.{OkIff, result_unwrap_or}
 use Rattle.model.specs.Column.{count}
-use Rattle.column.proofs.OffsetLaws.{back64}
+use Rattle.model.proofs.SignedLaws.{back64}
 use Rattle.column.proofs.offsets.count.Goals as goal
 
 counted : {E : Type 0} (x : ℤ) (r : Result ℕ E) → mag x < 2 ^ 63 → OkIff r (FitsUnsignedBits 64 x) (nat_abs x) → result_unwrap_or r 0 ≡ count x

@@ -3,7 +3,7 @@ use mathlib.Core.Path.{subst}
 use lib.Signed.{lt_z}
 use lib.Dec.{T, ltb}
 use Rattle.model.specs.Column.{count}
-use Rattle.column.proofs.OffsetLaws.{back64}
+use Rattle.model.proofs.SignedLaws.{back64}
 use Rattle.column.proofs.offsets.is_below.Goals as goal
 
 counted : (x : ℤ) (v : ℕ) → lt_z x (pos 0) ≡ false → ltb (count x) v ≡ lt_z x (pos v)

@@ -1,4 +1,4 @@
-use Rattle.column.proofs.OffsetLaws.{back64}
+use Rattle.model.proofs.SignedLaws.{back64}
 use Rattle.rows.specs.Cells.{elem_of}
 use Rattle.fills.proofs.resize.write_fill.Goals as goal
 

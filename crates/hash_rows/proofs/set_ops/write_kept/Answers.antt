@@ -1,10 +1,10 @@
 -- An element is written where it is kept.
-use Rattle.std.proofs.Common.{◌≡◌, ◌+◌, ◌-◌, ◌∙◌, arith}
-use Rattle.model.specs.Basics.{tab}
-use Rattle.model.specs.Bitmap.{from}
-use Rattle.model.specs.Column.{elem_at}
+use Rattle.std.proofs.Common.{◌≡◌, ◌+◌, ◌-◌, refl, arith}
+use Rattle.column.specs.Columns.{elem_in}
+use Rattle.column.proofs.SameLaws.{values_on}
 use Rattle.column.proofs.WriteLaws.{begun, written, skipped, room, done}
 use Rattle.hash_tables.proofs.TableLaws.{table_none, table_before, within_none, within_more}
+use Rattle.set_rows.specs.Runs.{run_elems}
 use Rattle.set_rows.proofs.SetLaws.{kept_all, kept-none, kept-taken, kept_passed}
 use Rattle.hash_rows.proofs.set_ops.write_kept.Goals as goal
 use Rattle.hash_rows.proofs.set_ops.write_kept.Goals.{then-is_kept, else-is_kept}
@@ -12,50 +12,47 @@ use Rattle.hash_rows.proofs.set_ops.write_kept.Goals.{then-is_kept, else-is_kept
 pub loop-k-init : goal.loop-k-init
 loop-k-init c =
     let a = c.args in
-    let O = tab (elem_at a.others.now (from a.ostart a.oelements.now)) a.b a.m in
-    let E = elem_at a.values.now (from a.estart a.elements.now) in
-    let e : a.n - 0 ≡ a.n = omega arith in
-    (rw e (begun _ (kept_all a.shared O E a.a a.n)), table_none _ _ _ _ _ c.requires.room c.requires.clean, within_none _)
+    let e : a.row.count - 0 ≡ a.row.count = omega arith in
+    (rw e (begun _ (kept_all a.shared (run_elems a.others) (elem_in a.row.column) a.row.from a.row.count)), table_none _ _ _ _ _ c.requires.room c.requires.clean, within_none _, record { values = refl; bits = refl })
 
 pub is_kept-requires-clause-listed : goal.is_kept-requires-clause-listed
 is_kept-requires-clause-listed c = table_before c.requires.listed c.loop-k.invariant.2 c.loop-k.auto.area
 
-pub write_elem-requires-clause-k_in_bounds : goal.write_elem-requires-clause-k_in_bounds
-write_elem-requires-clause-k_in_bounds c =
+pub put_elem-requires-clause-k_in_bounds : goal.put_elem-requires-clause-k_in_bounds
+put_elem-requires-clause-k_in_bounds c =
     let l = c.loop-k in
     let a = c.args in
-    let O = tab (elem_at a.others.now (from a.ostart a.oelements.now)) a.b a.m in
-    let E = elem_at a.values.now (from a.estart a.elements.now) in
-    (room l.invariant.0 _ _ (kept-taken a.shared O E a.a l.k (a.n - l.k) (omega arith) c.is_kept.ensures.value c.if-is_kept.true) c.requires.place).0
+    (room l.invariant.0 _ _ (kept-taken a.shared (run_elems a.others) (elem_in a.row.column) a.row.from l.k (a.row.count - l.k) (omega arith) c.is_kept.ensures.value c.if-is_kept.true) c.requires.place).0
 
-pub write_elem-requires-clause-k_in_bounds_2 : goal.write_elem-requires-clause-k_in_bounds_2
-write_elem-requires-clause-k_in_bounds_2 c =
+pub put_elem-requires-clause-k_in_bounds_2 : goal.put_elem-requires-clause-k_in_bounds_2
+put_elem-requires-clause-k_in_bounds_2 c =
     let l = c.loop-k in
     let a = c.args in
-    let O = tab (elem_at a.others.now (from a.ostart a.oelements.now)) a.b a.m in
-    let E = elem_at a.values.now (from a.estart a.elements.now) in
-    (room l.invariant.0 _ _ (kept-taken a.shared O E a.a l.k (a.n - l.k) (omega arith) c.is_kept.ensures.value c.if-is_kept.true) c.requires.place).1
+    (room l.invariant.0 _ _ (kept-taken a.shared (run_elems a.others) (elem_in a.row.column) a.row.from l.k (a.row.count - l.k) (omega arith) c.is_kept.ensures.value c.if-is_kept.true) c.requires.place).1
 
 pub loop-k-preserved : goal.loop-k-preserved
 loop-k-preserved c =
     let l = c.loop-k in
     let a = c.args in
-    let O = tab (elem_at a.others.now (from a.ostart a.oelements.now)) a.b a.m in
-    let E = elem_at a.values.now (from a.estart a.elements.now) in
-    let e : a.n - (l.k + 1) ≡ a.n - l.k - 1 = omega arith in
-    let h = c.is_kept.ensures in (
-      rw e (elim c.if-is_kept.branch [
-        | then-is_kept w ↦ rw w.p-is (written l.invariant.0 _ _ (kept-taken a.shared O E a.a l.k (a.n - l.k) (omega arith) h.value w.if-is_kept.true) (w.out_values-is ∙ w.write_elem.ensures.out_values_after) (w.out_elements-is ∙ w.write_elem.ensures.out_elements_after))
-        | else-is_kept w ↦ rw (w.out_values-is, w.out_elements-is, w.p-is) (skipped l.invariant.0 _ (kept_passed a.shared O E a.a l.k (a.n - l.k) (omega arith) h.value w.if-is_kept.false))
-      ]),
-      h.table_2,
-      within_more l.invariant.2 h.within,
-    )
+    let n = a.row.count in
+    let O = run_elems a.others in
+    let E = elem_in a.row.column in
+    let e : n - l.k - 1 ≡ n - (l.k + 1) = omega arith in
+    let h = c.is_kept.ensures in
+    elim c.if-is_kept.branch [
+      | then-is_kept w ↦
+          rw (w.out-is, w.p-is)
+          (written l.invariant.0 _ _ (rw e at (kept-taken a.shared O E a.row.from l.k (n - l.k) (omega arith) h.value w.if-is_kept.true)) w.put_elem.ensures.values_after w.put_elem.ensures.bits_after, h.table_2, within_more l.invariant.2 h.within, values_on l.invariant.3 w.put_elem.ensures.same)
+      | else-is_kept w ↦
+          rw (w.out-is, w.p-is)
+          (skipped l.invariant.0 _ (rw e at (kept_passed a.shared O E a.row.from l.k (n - l.k) (omega arith) h.value w.if-is_kept.false)), h.table_2, within_more l.invariant.2 h.within, l.invariant.3)
+    ]
 
 pub returns-clause-writes : goal.returns-clause-writes
 returns-clause-writes c =
     let l = c.loop-k in
     let a = c.args in
-    let O = tab (elem_at a.others.now (from a.ostart a.oelements.now)) a.b a.m in
-    let E = elem_at a.values.now (from a.estart a.elements.now) in
-    done l.invariant.0 (kept-none a.shared O E a.a l.k (a.n - l.k) (omega arith))
+    record {
+      written = done l.invariant.0 (kept-none a.shared (run_elems a.others) (elem_in a.row.column) a.row.from l.k (a.row.count - l.k) (omega arith));
+      same = l.invariant.3;
+    }

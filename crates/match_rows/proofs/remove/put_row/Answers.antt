@@ -1,19 +1,22 @@
-use Rattle.column.proofs.OffsetLaws.{back64}
-use Rattle.match_rows.proofs.MatchLaws.{unlimited, unmatched, matched, null_made, removed-made, null_put, list_put, list-room}
+use Rattle.std.proofs.Common.{refl}
+use Rattle.match_rows.proofs.MatchLaws.{removed_null, removed-made, null_put, list_put, list-room}
 use Rattle.match_rows.proofs.remove.put_row.Goals as goal
 
-pub write_removed-next-requires-clause-room : goal.write_removed-next-requires-clause-room
-write_removed-next-requires-clause-room c =
-    let row = removed-made _ _ _ _ (matched _ _ _ _ _ c.in-Some-element.is c.in-Some.is (rw (back64 _ c.in-Some.known_told-1-own.given.0.1) at c.limit_of.ensures)) in
-    list-room _ _ _ _ row c.requires.room
+pub write_removed-requires-clause-room : goal.write_removed-requires-clause-room
+write_removed-requires-clause-room g c = list-room _ _ _ _ (removed-made _ _ _ c.in-Some.is) c.requires.room
 
 pub returns-in-None : goal.returns-in-None
-returns-in-None c = null_put _ _ _ _ _ (null_made _ _ (unlimited _ _ c.in-None.is)) c.push_bit.ensures
+returns-in-None g c = record {
+  written = null_put _ _ _ _ _ _ (removed_null _ _ c.in-None.is) (rw c.in-None.is at c.is_some.ensures) c.push_bit.ensures;
+  offsets = refl;
+  same = record { offsets = refl; rows = refl; elements = refl; values = refl; bits = refl };
+}
 
-pub returns-in-None-element : goal.returns-in-None-element
-returns-in-None-element c = null_put _ _ _ _ _ (null_made _ _ (unmatched _ _ c.in-None-element.is)) c.push_bit-in-None-element.ensures
-
-pub returns-in-Some-element : goal.returns-in-Some-element
-returns-in-Some-element c =
-    let row = removed-made _ _ _ _ (matched _ _ _ _ _ c.in-Some-element.is c.in-Some.is (rw (back64 _ c.in-Some.known_told-1-own.given.0.1) at c.limit_of.ensures)) in
-    list_put _ _ _ _ row c.push_bit-in-Some-element.ensures c.write_removed-next.ensures
+pub returns-in-Some : goal.returns-in-Some
+returns-in-Some g c =
+    let w = c.write_removed.ensures in
+    record {
+      written = list_put _ _ _ _ (removed-made _ _ _ c.in-Some.is) _ (rw c.in-Some.is at c.is_some.ensures) c.push_bit.ensures w.written;
+      offsets = refl;
+      same = record { offsets = refl; rows = refl; elements = refl; values = w.same.values; bits = w.same.bits };
+    }

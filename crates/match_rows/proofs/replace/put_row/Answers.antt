@@ -1,16 +1,22 @@
-use Rattle.column.proofs.OffsetLaws.{back64}
+use Rattle.std.proofs.Common.{refl}
 use Rattle.match_rows.proofs.MatchLaws.{replaced_null, replaced-made, null_put, list_put, list-room}
 use Rattle.match_rows.proofs.replace.put_row.Goals as goal
 
-pub write_replaced-next-requires-clause-room : goal.write_replaced-next-requires-clause-room
-write_replaced-next-requires-clause-room c =
-    let row = replaced-made _ _ _ _ _ _ c.in-Some.is (rw (back64 _ c.in-Some.known_told-1-own.given.0.1) at c.limit_of.ensures) in
-    list-room _ _ _ _ row c.requires.room
+pub write_replaced-requires-clause-room : goal.write_replaced-requires-clause-room
+write_replaced-requires-clause-room g c = list-room _ _ _ _ (replaced-made _ _ _ c.in-Some.is) c.requires.room
 
 pub returns-in-None : goal.returns-in-None
-returns-in-None c = null_put _ _ _ _ _ (replaced_null _ _ _ _ c.in-None.is) c.push_bit.ensures
+returns-in-None g c = record {
+  written = null_put _ _ _ _ _ _ (replaced_null _ _ c.in-None.is) (rw c.in-None.is at c.is_some.ensures) c.push_bit.ensures;
+  offsets = refl;
+  same = record { offsets = refl; rows = refl; elements = refl; values = refl; bits = refl };
+}
 
 pub returns-in-Some : goal.returns-in-Some
-returns-in-Some c =
-    let row = replaced-made _ _ _ _ _ _ c.in-Some.is (rw (back64 _ c.in-Some.known_told-1-own.given.0.1) at c.limit_of.ensures) in
-    list_put _ _ _ _ row c.push_bit-in-Some.ensures c.write_replaced-next.ensures
+returns-in-Some g c =
+    let w = c.write_replaced.ensures in
+    record {
+      written = list_put _ _ _ _ (replaced-made _ _ _ c.in-Some.is) _ (rw c.in-Some.is at c.is_some.ensures) c.push_bit.ensures w.written;
+      offsets = refl;
+      same = record { offsets = refl; rows = refl; elements = refl; values = w.same.values; bits = w.same.bits };
+    }

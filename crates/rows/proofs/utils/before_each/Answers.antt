@@ -1,4 +1,4 @@
-use Rattle.column.proofs.OffsetLaws.{back64}
+use Rattle.model.proofs.SignedLaws.{back64}
 use Rattle.rows.proofs.utils.before_each.Goals as goal
 
 pub returns-in-None : goal.returns-in-None

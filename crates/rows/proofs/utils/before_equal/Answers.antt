@@ -1,5 +1,5 @@
 use Rattle.std.proofs.Common.{arith, sym, ◌∙◌, below_more}
-use Rattle.column.proofs.OffsetLaws.{back64}
+use Rattle.model.proofs.SignedLaws.{back64}
 use Rattle.rows.specs.Cells.{elem_of}
 use Rattle.rows.proofs.CellLaws.{none_more}
 use Rattle.rows.proofs.utils.before_equal.Goals as goal

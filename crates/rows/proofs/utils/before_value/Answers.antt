@@ -1,6 +1,6 @@
 use Rattle.std.proofs.Common.{arith, sym, ◌∙◌, below_more}
 use borrow.Author.Tests.{eq-eqb, ne_eqb}
-use Rattle.column.proofs.OffsetLaws.{back64}
+use Rattle.model.proofs.SignedLaws.{back64}
 use Rattle.set_elements.proofs.ElementLaws.{eq_bits}
 use Rattle.rows.proofs.utils.before_value.Goals as goal
 

@@ -1,6 +1,6 @@
 use mathlib.Core.Path.{sym, ◌∙◌}
 use borrow.Author.Tests.{not-true, not-false}
-use Rattle.column.proofs.OffsetLaws.{back64}
+use Rattle.model.proofs.SignedLaws.{back64}
 use Rattle.column.proofs.RowLaws.{elem_valid, elem_null, is_val_elem}
 use Rattle.rows.specs.Cells.{elem_of}
 use Rattle.rows.proofs.CellLaws.{same_null, null_same, value_same}

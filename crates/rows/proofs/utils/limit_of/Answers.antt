@@ -3,7 +3,7 @@ use Rattle.std.specs.Int.{int_max}
 use borrow.Author.Tests.{lt-ltb}
 use lib.IntN.{nat_abs}
 use lib.Signed.{mag}
-use Rattle.column.proofs.OffsetLaws.{back64}
+use Rattle.model.proofs.SignedLaws.{back64}
 use Rattle.model.specs.Column.{count}
 use Rattle.rows.proofs.utils.limit_of.Goals as goal
 

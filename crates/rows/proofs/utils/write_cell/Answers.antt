@@ -1,10 +1,10 @@
-use Rattle.column.proofs.OffsetLaws.{back64}
+use Rattle.model.proofs.SignedLaws.{back64}
 use Rattle.rows.specs.Cells.{elem_of}
 use Rattle.rows.proofs.utils.write_cell.Goals as goal
 
 pub returns-in-None : goal.returns-in-None
 unfolding elem_of
-returns-in-None c = rw c.in-None.is c.write_null.ensures
+returns-in-None c = rw c.in-None.is c.put_null.ensures
 
 pub returns-in-Some : goal.returns-in-Some
 unfolding elem_of

@@ -1,14 +1,12 @@
 -- So many of the elements so far are kept.
 use Rattle.std.proofs.Common.{◌≡◌, ◌+◌, ◌-◌, ◌≤◌, [], length}
-use Rattle.model.specs.Basics.{tab}
-use Rattle.model.specs.Bitmap.{from}
-use Rattle.model.specs.Column.{elem_at}
+use Rattle.column.specs.Columns.{elem_in}
 use Rattle.set_elements.specs.Pairs.{kept}
+use Rattle.set_rows.specs.Runs.{run_elems}
 use Rattle.set_rows.proofs.SetLaws.{kept_later}
 use Rattle.set_rows.proofs.set_ops.measure_kept.Given as goal
 
 abbrev pub invariant-loop-k : goal.invariant-loop-k
 invariant-loop-k l =
-    let O = tab (elem_at l.others (from l.ostart l.oelements)) l.b l.m in
-    let E = elem_at l.values (from l.estart l.elements) in
-    (l.len + length (kept_later l.shared O E l.a l.k (l.n - l.k)) ≡ length (kept l.shared O [] (tab E l.a l.n))) × (l.len ≤ l.k)
+    let n = l.row.count in
+    (l.len + length (kept_later l.shared (run_elems l.others) (elem_in l.row.column) l.row.from l.k (n - l.k)) ≡ length (kept l.shared (run_elems l.others) [] (run_elems l.row))) × (l.len ≤ l.k)

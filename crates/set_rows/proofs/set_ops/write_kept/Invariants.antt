@@ -1,15 +1,16 @@
 -- Those of the elements so far that are kept are written.
 use Rattle.std.proofs.Common.{◌-◌, []}
-use Rattle.model.specs.Basics.{tab}
-use Rattle.model.specs.Bitmap.{from}
-use Rattle.model.specs.Column.{elem_at}
+use Rattle.column.specs.Columns.{elem_in}
+use Rattle.column.specs.Outputs.{SameValues}
 use Rattle.column.proofs.WriteLaws.{Writing}
 use Rattle.set_elements.specs.Pairs.{kept}
+use Rattle.set_rows.specs.Runs.{run_elems}
 use Rattle.set_rows.proofs.SetLaws.{kept_later}
 use Rattle.set_rows.proofs.set_ops.write_kept.Given as goal
 
 abbrev pub invariant-loop-k : goal.invariant-loop-k
 invariant-loop-k l =
-    let O = tab (elem_at l.others (from l.ostart l.oelements)) l.b l.m in
-    let E = elem_at l.values (from l.estart l.elements) in
-    Writing (kept l.shared O [] (tab E l.a l.n)) l.at l.fn.out_values l.fn.out_elements (kept_later l.shared O E l.a l.k (l.n - l.k)) l.p l.out_values l.out_elements
+    let O = run_elems l.others in
+    let o = l.initial.out in
+    Writing (kept l.shared O [] (run_elems l.row)) l.at o.values.now o.bits.now (kept_later l.shared O (elem_in l.row.column) l.row.from l.k (l.row.count - l.k)) l.p l.out.values.now l.out.bits.now
+    × SameValues o l.out

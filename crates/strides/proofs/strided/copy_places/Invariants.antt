@@ -6,4 +6,6 @@ use Rattle.strides.proofs.strided.copy_places.Given as goal
 
 -- the walk of the values alone
 abbrev pub invariant-loop-j : goal.invariant-loop-j
-invariant-loop-j l = Going l.start l.stride l.count (tab (λ i. val (get_or l.values i (pos 0))) l.a l.n) l.at l.fn.out [] l.j l.out [] l.p
+invariant-loop-j l =
+    let s = l.steps in
+    Going s.start s.stride s.count (tab (λ i. val (get_or l.values i (pos 0))) l.a l.n) l.at l.fn.out [] l.j l.out [] l.p

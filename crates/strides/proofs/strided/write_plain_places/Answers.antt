@@ -1,6 +1,6 @@
-use Rattle.std.proofs.Common.{arith, w64}
-use Rattle.std.proofs.lemmas.Int.{to_z-of_z}
-use Rattle.model.specs.Bitmap.{from}
+use Rattle.std.proofs.Common.{refl, arith}
+use Rattle.bitmap.specs.Reads.{bits_in}
+use Rattle.column.proofs.SameLaws.{wrote}
 use Rattle.strides.proofs.StrideLaws.{places-room, plain-written}
 use Rattle.strides.proofs.strided.write_plain_places.Goals as goal
 
@@ -16,5 +16,6 @@ overflow_add-result c = omega (arith, (places-room _ _ _ _ c.requires.room).0, c
 pub returns : goal.returns
 returns c =
     let a = c.args in
-    plain-written a.values.now (from a.estart a.elements.now) c.requires.plain a.a a.n a.start a.stride a.count a.at c.requires.places.reach
-    (rw (to_z-of_z w64 a.stride c.ranges.stride) at c.copy_places.ensures) c.push_same.ensures
+    wrote
+    (plain-written a.elements.values.now (bits_in a.elements.bits) c.requires.plain a.a a.n a.steps.start a.steps.stride a.steps.count a.at c.requires.places.reach c.copy_places.ensures c.push_same.ensures)
+    refl refl

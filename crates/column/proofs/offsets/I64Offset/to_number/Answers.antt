@@ -1,6 +1,0 @@
-use Rattle.std.proofs.Common.{arith, w64}
-use Rattle.column.proofs.OffsetLaws.{count_small}
-use Rattle.column.proofs.offsets.I64Offset.to_number.Goals as goal
-
-pub returns-clause-upper_bound : goal.returns-clause-upper_bound
-returns-clause-upper_bound c = omega (arith, count_small w64 c.args.self c.ranges.self.sfits)

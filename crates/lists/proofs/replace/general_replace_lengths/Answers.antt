@@ -1,6 +1,0 @@
-use Rattle.ops.specs.Ops.{call_of}
-use Rattle.lists.proofs.replace.general_replace_lengths.Goals as goal
-
-pub returns : goal.returns
-unfolding call_of
-returns c = c.lengths.ensures

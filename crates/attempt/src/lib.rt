@@ -1,16 +1,17 @@
-// The call of a recipe, but for its station, its tally and the clearing of its trays. An inner crate: it asks nothing of its callers, who clear the trays.
+// The call of a recipe, but for its tally and the clearing of its trays. An inner crate: it asks nothing of its callers, who clear the trays.
 #![tactic(auto)]
 
 ghost use Rattle.attempt.specs.Going.{Going};
 ghost use Rattle.column.specs.Columns.{column_in, values_in};
 ghost use Rattle.column.specs.Outputs.{ListAnswers, room_in};
 ghost use Rattle.copies.specs.Trayed.{Kept};
+ghost use Rattle.model.specs.Recipe.{stationed};
 ghost use Rattle.model.specs.Window.{window_outcome};
 ghost use Rattle.recipe_refusal.specs.Refused.{recipe_in};
 
 use column::lists::ListOutput;
-use model::ListAnswer;
 use model::offsets::Offset;
+use model::{ListAnswer, Refusal};
 use one_list::ArgumentColumns;
 use recipe_refusal::{Inputs, Recipe};
 
@@ -47,9 +48,10 @@ fn take_steps<O: Offset>(
     steps::steps(taken, 0, steps, 0, two, one, out)
 }
 
-// Checks the recipe, the columns and whether rows begin up to end are there, and takes the steps on these rows. The run of a recipe is the
-// call for all rows.
+// Checks the station, the recipe, the columns and whether rows begin up to end are there, and takes the steps on these rows. The run of a
+// recipe is the call for all rows.
 pub fn attempt<O: Offset>(
+    station: u32,
     begin: usize,
     end: usize,
     recipe: Recipe,
@@ -58,10 +60,13 @@ pub fn attempt<O: Offset>(
     two: &mut ListOutput<O>,
     out: &mut ListOutput<O>,
 ) -> ListAnswer
-    ensures answers { ListAnswers O.numbers (window_outcome O.LIMITS (recipe_in recipe.entry) begin end (column_in O.numbers inputs.entry.list) (column_in O.numbers inputs.entry.second) (values_in inputs.entry.arguments) (room_in one.old) (room_in two.old)) result out.old out.new }
+    ensures answers { ListAnswers O.numbers (λ o. stationed station (window_outcome O.LIMITS (recipe_in recipe.entry) begin end (column_in O.numbers inputs.entry.list) (column_in O.numbers inputs.entry.second) (values_in inputs.entry.arguments) (room_in one.old) (room_in two.old) o)) result out.old out.new }
     ensures one { Kept one.old one.new }
     ensures two { Kept two.old two.new }
 {
+    if station > 15 {
+        return Err(Refusal::NoSuchStation);
+    }
     let first = recipe_refusal::refusal(recipe, inputs);
     let n = inputs.list.row_count();
     window::refusal_after(first, begin, end, n)?;

@@ -49,7 +49,7 @@ grades κs k k' c g a h = grade_column_run h
 pub graded_recipes : (κs : Lfts 12) (t t' : Tally) (k k' s s' : ℕ) (p : Passed D.Recipe) (i : Passed (Inputs ℤ)) (l m o : MutPassed (ListOutput ℤ)) (g : MutSlice ℕ) (a : RecipeAnswer)
     → GradeRecipe.Post κs (t, (k, (s, (p.entry, (i.entry, (l.entry, (m.entry, (o.entry, (g.entry, tt))))))))) a (t', (k', (s', (p.exit, (i.exit, (l.exit, (m.exit, (o.exit, (g.exit, tt)))))))))
     → GradedRuns k s p.entry i.entry l m o g t a
-graded_recipes κs t t' k k' s s' p i l m o g a h = grade_recipe_run h.0.meets h.1.0.zeroed h.1.1.0.zeroed h.1.1.1.0 h.1.1.1.1
+graded_recipes κs t t' k k' s s' p i l m o g a h = (grade_recipe_run h.0.meets h.1.0.zeroed h.1.1.0.zeroed h.1.1.1.0 h.1.1.1.1, (h.1.0.same, h.1.1.0.same, h.0.same))
 
 -- "Unseen bytes change no grade": two gradings of columns that show equal rows, by one k into as many places, write the same grades
 pub same_grades : (k g : ℕ) {c d : Column} {e e' : End} → Run narrow (grade_column k c g) e → Run narrow (grade_column k d g) e' → WellFormed c → WellFormed d → EqualRows c d → e.grades ≡ e'.grades

@@ -40,12 +40,12 @@ use Rattle.claims.proofs.Typed.{list-served}
 -- c and d are the lists, o the output, w the work area, a the answer
 pub distinct-hashed : (κs : Lfts 5) (c : Passed (ListColumn ℤ)) (o : MutPassed (ListOutput ℤ)) (w : MutSlice ℕ) (a : ListAnswer)
     → Distinct.Post κs (c.entry, (o.entry, (w.entry, tt))) a (c.exit, (o.exit, (w.exit, tt))) → HashRuns (distinct_of (column_in itself c.entry)) a o w
-distinct-hashed κs c o w a h = hashed_run h.meets
+distinct-hashed κs c o w a h = (hashed_run h.meets, h.same)
 
 pub sets_hashed : (κs : Lfts 5) (k k' : SetOp) (c d : Passed (ListColumn ℤ)) (o : MutPassed (ListOutput ℤ)) (w : MutSlice ℕ) (a : ListAnswer)
     → Sets.Post κs (c.entry, (d.entry, (k, (o.entry, (w.entry, tt))))) a (c.exit, (d.exit, (k', (o.exit, (w.exit, tt)))))
     → HashRuns (H.set_of k (column_in itself c.entry) (column_in itself d.entry)) a o w
-sets_hashed κs k k' c d o w a h = hashed_run h.meets
+sets_hashed κs k k' c d o w a h = (hashed_run h.meets, h.same)
 
 -- a run with enough slots, and one of the plain operation: one answer, and the same written results
 pub hashed_as_plain : (L : Limits) {h : Hashed Column} {n : ℕ} {l : Room} {e e' : End} → Run L (hashed h n l) e → Run L (list (plain_of h) l) e' → short_area n (on_hashed rows_of h) ≡ false → (e.answer ≡ e'.answer) × ((e.numbers ≡ e'.numbers) × (e.bitmaps ≡ e'.bitmaps))

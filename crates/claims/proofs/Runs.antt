@@ -1,7 +1,9 @@
 -- Demand 3 over the code, in one place: `demand_3` is the claim, over any two runs at one width, whose limits are L; `sums_grow` is the claim
 -- over many calls. Each line after them says of a public function of `lists`, and of `run_recipe`, that what its contract, F.Post,
--- says of a call makes the call a run. If a contract said less of its answer, written results, trays or tally than the definitions, its line
--- would not hold. Each is of offsets of any width W, so of both (`widths`): Large.antt cites them at 64 bits. Entries.antt does the same for the C entries over bytes, Typed.antt for the typed ones.
+-- says of a call makes the call a run, its outputs and trays being as it returns the slices that were lent. If a contract said less of its
+-- answer, written results, trays or tally than the definitions, or let an output or a tray be exchanged, its line would not hold. Each is of
+-- offsets of any width W, so of both (`widths`): Large.antt cites them at 64 bits. Entries.antt does the same for the C entries over bytes, Typed.antt
+-- for the typed ones.
 use Prim.Native.Nat.{ℕ, ◌+◌, ◌-◌, ◌<◌}
 use mathlib.Core.Path.{◌≡◌, refl}
 use mathlib.Core.Bool.{true}
@@ -90,69 +92,69 @@ widths = ((refl, refl), (refl, refl))
 pub reverse : (W : Width) (κs : Lfts 5) (c : Passed (ListColumn (Offsets W))) (o : MutPassed (ListOutput (Offsets W))) (a : ListAnswer)
     → at W Reverse.Post κs (c.entry, (o.entry, tt)) a (c.exit, (o.exit, tt))
     → ListRuns (limits W) (numbers W) (unary U.Reverse (column_in (numbers W) c.entry)) a o
-reverse W κs c o a h = list_run h.meets
+reverse W κs c o a h = (list_run h.meets, h.same)
 
 pub distinct : (W : Width) (κs : Lfts 5) (c : Passed (ListColumn (Offsets W))) (o : MutPassed (ListOutput (Offsets W))) (a : ListAnswer)
     → at W Distinct.Post κs (c.entry, (o.entry, tt)) a (c.exit, (o.exit, tt))
     → ListRuns (limits W) (numbers W) (unary U.Distinct (column_in (numbers W) c.entry)) a o
-distinct W κs c o a h = list_run h.meets
+distinct W κs c o a h = (list_run h.meets, h.same)
 
 pub pop_front : (W : Width) (κs : Lfts 5) (c : Passed (ListColumn (Offsets W))) (o : MutPassed (ListOutput (Offsets W))) (a : ListAnswer)
     → at W PopFront.Post κs (c.entry, (o.entry, tt)) a (c.exit, (o.exit, tt))
     → ListRuns (limits W) (numbers W) (unary U.PopFront (column_in (numbers W) c.entry)) a o
-pop_front W κs c o a h = list_run h.meets
+pop_front W κs c o a h = (list_run h.meets, h.same)
 
 pub pop_back : (W : Width) (κs : Lfts 5) (c : Passed (ListColumn (Offsets W))) (o : MutPassed (ListOutput (Offsets W))) (a : ListAnswer)
     → at W PopBack.Post κs (c.entry, (o.entry, tt)) a (c.exit, (o.exit, tt))
     → ListRuns (limits W) (numbers W) (unary U.PopBack (column_in (numbers W) c.entry)) a o
-pop_back W κs c o a h = list_run h.meets
+pop_back W κs c o a h = (list_run h.meets, h.same)
 
 -- k is union or intersect, c and d are its two lists
 pub set-lists : (W : Width) (κs : Lfts 6) (k k' : SetOp) (c d : Passed (ListColumn (Offsets W))) (o : MutPassed (ListOutput (Offsets W))) (a : ListAnswer)
     → at W Sets.Post κs (c.entry, (d.entry, (k, (o.entry, tt)))) a (c.exit, (d.exit, (k', (o.exit, tt))))
     → ListRuns (limits W) (numbers W) (set_op_call k (column_in (numbers W) c.entry) (column_in (numbers W) d.entry)) a o
-set-lists W κs k k' c d o a h = list_run h.meets
+set-lists W κs k k' c d o a h = (list_run h.meets, h.same)
 
 -- z is the stride, if one is lent
 pub slices : (W : Width) (κs : Lfts 8) (c : Passed (ListColumn (Offsets W))) (x y : Passed ValueColumn) (z : Passed (Option ValueColumn)) (o : MutPassed (ListOutput (Offsets W))) (a : ListAnswer)
     → at W Sliced.Post κs (c.entry, (x.entry, (y.entry, (z.entry, (o.entry, tt))))) a (c.exit, (x.exit, (y.exit, (z.exit, (o.exit, tt)))))
     → ListRuns (limits W) (numbers W) (slice (column_in (numbers W) c.entry) (values_in x.entry) (values_in y.entry) (lent_in z.entry)) a o
-slices W κs c x y z o a h = list_run h.meets
+slices W κs c x y z o a h = (list_run h.meets, h.same)
 
 -- y is the fill, if one is lent
 pub resizes : (W : Width) (κs : Lfts 7) (c : Passed (ListColumn (Offsets W))) (x : Passed ValueColumn) (y : Passed (Option ValueColumn)) (o : MutPassed (ListOutput (Offsets W))) (a : ListAnswer)
     → at W Resize.Post κs (c.entry, (x.entry, (y.entry, (o.entry, tt)))) a (c.exit, (x.exit, (y.exit, (o.exit, tt))))
     → ListRuns (limits W) (numbers W) (resize (column_in (numbers W) c.entry) (values_in x.entry) (lent_in y.entry)) a o
-resizes W κs c x y o a h = list_run h.meets
+resizes W κs c x y o a h = (list_run h.meets, h.same)
 
 pub replaces : (W : Width) (κs : Lfts 8) (c : Passed (ListColumn (Offsets W))) (x y z : Passed ValueColumn) (o : MutPassed (ListOutput (Offsets W))) (a : ListAnswer)
     → at W Replace.Post κs (c.entry, (x.entry, (y.entry, (z.entry, (o.entry, tt))))) a (c.exit, (x.exit, (y.exit, (z.exit, (o.exit, tt)))))
     → ListRuns (limits W) (numbers W) (replace (column_in (numbers W) c.entry) (values_in x.entry) (values_in y.entry) (values_in z.entry)) a o
-replaces W κs c x y z o a h = list_run h.meets
+replaces W κs c x y z o a h = (list_run h.meets, h.same)
 
 pub removes : (W : Width) (κs : Lfts 7) (c : Passed (ListColumn (Offsets W))) (x y : Passed ValueColumn) (o : MutPassed (ListOutput (Offsets W))) (a : ListAnswer)
     → at W Remove.Post κs (c.entry, (x.entry, (y.entry, (o.entry, tt)))) a (c.exit, (x.exit, (y.exit, (o.exit, tt))))
     → ListRuns (limits W) (numbers W) (remove (column_in (numbers W) c.entry) (values_in x.entry) (values_in y.entry)) a o
-removes W κs c x y o a h = list_run h.meets
+removes W κs c x y o a h = (list_run h.meets, h.same)
 
 pub any_value_lem : (W : Width) (κs : Lfts 4) (c : Passed (ListColumn (Offsets W))) (o : MutPassed ValueOutput) (a : ValueAnswer)
     → at W AnyValue.Post κs (c.entry, (o.entry, tt)) a (c.exit, (o.exit, tt))
     → ValueRuns (limits W) (any_value (column_in (numbers W) c.entry)) a o
-any_value_lem W κs c o a h = any_value_run h.meets
+any_value_lem W κs c o a h = (any_value_run h.meets, h.same)
 
 pub elements : (W : Width) (κs : Lfts 5) (c : Passed (ListColumn (Offsets W))) (x : Passed ValueColumn) (o : MutPassed ValueOutput) (a : ValueAnswer)
     → at W Element.Post κs (c.entry, (x.entry, (o.entry, tt))) a (c.exit, (x.exit, (o.exit, tt)))
     → ValueRuns (limits W) (element (column_in (numbers W) c.entry) (values_in x.entry)) a o
-elements W κs c x o a h = element_run h.meets
+elements W κs c x o a h = (element_run h.meets, h.same)
 
 -- b is the output's outer lists, o its inner lists
 pub repeats : (W : Width) (κs : Lfts 8) (c : Passed (ListColumn (Offsets W))) (x : Passed ValueColumn) (b : MutPassed (OuterOutput (Offsets W))) (o : MutPassed (ListOutput (Offsets W))) (a : RepeatAnswer)
     → at W Repeat.Post κs (c.entry, (x.entry, (b.entry, (o.entry, tt)))) a (c.exit, (x.exit, (b.exit, (o.exit, tt))))
     → RepeatRuns (limits W) (numbers W) (list_repeat (column_in (numbers W) c.entry) (values_in x.entry)) a b o
-repeats W κs c x b o a h = repeat_run h.meets
+repeats W κs c x b o a h = (repeat_run h.meets, h.outer, h.lists)
 
 -- t is the tally that goes in, s the station, p the recipe, i what it reads, l and m the trays
 pub run_recipe : (W : Width) (κs : Lfts 12) (t t' : Tally) (s s' : ℕ) (p : Passed Recipe) (i : Passed (Inputs (Offsets W))) (l m o : MutPassed (ListOutput (Offsets W))) (a : RecipeAnswer)
     → at W Recipes.Post κs (t, (s, (p.entry, (i.entry, (l.entry, (m.entry, (o.entry, tt))))))) a (t', (s', (p.exit, (i.exit, (l.exit, (m.exit, (o.exit, tt)))))))
     → RecipeRuns (limits W) (numbers W) s p.entry i.entry l m o t a
-run_recipe W κs t t' s s' p i l m o a h = recipe_run h.0.meets h.1.0.zeroed h.1.1.0.zeroed h.1.1.1
+run_recipe W κs t t' s s' p i l m o a h = (recipe_run h.0.meets h.1.0.zeroed h.1.1.0.zeroed h.1.1.1, (h.1.0.same, h.1.1.0.same, h.0.same))

@@ -34,11 +34,11 @@ use Rattle.claims.proofs.Typed.{was_served, list-served}
 -- c is the view, or the list, o the output, a the answer
 pub imports : (κs : Lfts 4) (c : Passed ViewColumn) (o : MutPassed (ListOutput ℤ)) (a : ListAnswer)
     → Import.Post κs (c.entry, (o.entry, tt)) a (c.exit, (o.exit, tt)) → ImportRuns (view_in c.entry) a o
-imports κs c o a h = import_run h.meets
+imports κs c o a h = (import_run h.meets, h.same)
 
 pub exports : (κs : Lfts 4) (c : Passed (ListColumn ℤ)) (o : MutPassed ViewOutput) (a : ListAnswer)
     → Export.Post κs (c.entry, (o.entry, tt)) a (c.exit, (o.exit, tt)) → ExportRuns (column_in itself c.entry) a o
-exports κs c o a h = export_run h.meets
+exports κs c o a h = (export_run h.meets, h.same)
 
 -- ---- the typed entries: n is the number returned, cs are the counts
 

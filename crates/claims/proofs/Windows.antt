@@ -28,7 +28,7 @@ use Rattle.claims.proofs.Typed.{list-served}
 pub run_window : (W : Width) (κs : Lfts 12) (a a' b b' : ℕ) (p : Passed Recipe) (i : Passed (Inputs (Offsets W))) (l m o : MutPassed (ListOutput (Offsets W))) (w : ListAnswer)
     → at W Window.Post κs (a, (b, (p.entry, (i.entry, (l.entry, (m.entry, (o.entry, tt))))))) w (a', (b', (p.exit, (i.exit, (l.exit, (m.exit, (o.exit, tt)))))))
     → WindowRuns (limits W) (numbers W) p.entry a b i.entry l m o w
-run_window W κs a a' b b' p i l m o w h = window_run h.0.meets h.1.0.zeroed h.1.1.zeroed
+run_window W κs a a' b b' p i l m o w h = (window_run h.0.meets h.1.0.zeroed h.1.1.zeroed, (h.1.0.same, h.1.1.same, h.0.same))
 
 -- the typed entry: n is the number returned, cs are the counts
 pub typed_window : (κs : Lfts 3) (a a' b b' : ℕ) (ns : Slice ℕ) (k k' : ℕ) (c d : LentList) (x : LentValues) (l m o : Slices) (cs : MutSlice ℕ) (n : ℕ)

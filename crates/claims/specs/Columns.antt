@@ -1,5 +1,5 @@
--- What a public function takes, at entry and at exit, and what it means that a call is a run. A function over offsets of either width is
--- spoken of at any type of offsets (`Width`), so at both, `i32` and `i64`.
+-- What a public function takes, at entry and at exit, and what it means that a call is a run, written into the slices that were lent. A function over
+-- offsets of either width is spoken of at any type of offsets (`Width`), so at both, `i32` and `i64`.
 use Rattle.std.specs.Prelude.{List, ℕ, ℤ, length}
 use Rattle.std.specs.Borrow.{MutBor}
 use Rattle.std.specs.declared.clone.Clone as CloneOf
@@ -45,7 +45,7 @@ use Rattle.model.specs.Contract.{MutSlice}
 use Rattle.model.specs.Run.{Run, list_run_end, value_run_end, repeat_run_end, recipe_run_end, view_run_end, grade_run_end, graded_run_end, hashed_run_end}
 use Rattle.model.specs.Answers.{GradeAnswer, ListAnswer, RepeatAnswer, ValueAnswer}
 use Rattle.column.specs.Columns.{column_in, values_in}
-use Rattle.column.specs.Outputs.{room_in, value_room_in, repeat_room_in}
+use Rattle.column.specs.Outputs.{room_in, value_room_in, repeat_room_in, SameLists, SameOuters, SameValues}
 use Rattle.column.specs.declared.elements.ValueOutput.{ValueOutput}
 use Rattle.column.specs.declared.lists.ListOutput.{ListOutput}
 use Rattle.column.specs.declared.lists.OuterOutput.{OuterOutput}
@@ -54,6 +54,7 @@ use Rattle.recipe_refusal.specs.declared.Inputs.{Inputs}
 use Rattle.recipe_refusal.specs.declared.Recipe.{Recipe}
 use Rattle.view_checks.specs.Views.{view_room_in}
 use Rattle.view_checks.specs.declared.ViewOutput.{ViewOutput}
+use Rattle.views.specs.ViewOutputs.{SameViews}
 use Rattle.tally.specs.Tallies.{tally_of}
 use Rattle.tally.specs.declared.RecipeAnswer.{RecipeAnswer}
 use Rattle.tally.specs.declared.Tally.{Tally}
@@ -151,16 +152,17 @@ MutPassed A = Passed (MutBor A)
 abbrev pub itself : List ℤ → List ℤ
 itself l = l
 
--- a call of q that answered a and had o for its output is a run; L and n are the limits and the numbers of the width
+-- a call of q that answered a and had o for its output is a run, and o holds as it returns the slices that were lent in it; L and n are the limits
+-- and the numbers of the width
 abbrev pub list_ended : {A : Type 0} → (List A → List ℤ) → ListAnswer → ListOutput A → End
 list_ended n a o = list_run_end a (n o.offsets.now) o.rows.now o.elements.now.values.now o.elements.now.bits.now
 
 abbrev pub ListRuns : {A : Type 0} → Limits → (List A → List ℤ) → ListCall Column Arguments → ListAnswer → MutPassed (ListOutput A) → Type 0
-ListRuns L n q a o = Run L (list q (room_in o.entry.now)) (list_ended n a o.exit.now)
+ListRuns L n q a o = Run L (list q (room_in o.entry.now)) (list_ended n a o.exit.now) × SameLists o.entry.now o.exit.now
 
 -- the same with a value answer
 abbrev pub ValueRuns : Limits → (ValueRoom → Call Column Arguments View) → ValueAnswer → MutPassed ValueOutput → Type 0
-ValueRuns L q a o = Run L (q (value_room_in o.entry.now)) (value_run_end a o.exit.now.values.now o.exit.now.bits.now)
+ValueRuns L q a o = Run L (q (value_room_in o.entry.now)) (value_run_end a o.exit.now.values.now o.exit.now.bits.now) × SameValues o.entry.now o.exit.now
 
 -- and with list-repeat's, whose outer lists are b and inner lists o
 abbrev pub RepeatRuns : {A : Type 0} → Limits → (List A → List ℤ) → (RepeatRoom → Call Column Arguments View) → RepeatAnswer → MutPassed (OuterOutput A) → MutPassed (ListOutput A) → Type 0
@@ -168,6 +170,12 @@ RepeatRuns L n q a b o =
     Run L
     (q (repeat_room_in b.entry.now o.entry.now))
     (repeat_run_end a (n b.exit.now.offsets.now) b.exit.now.rows.now (n o.exit.now.offsets.now) o.exit.now.rows.now o.exit.now.elements.now.values.now o.exit.now.elements.now.bits.now)
+    × SameOuters b.entry.now b.exit.now
+    × SameLists o.entry.now o.exit.now
+
+-- the trays l and m and the output o hold, as a call returns, the slices that were lent in them
+abbrev pub SameThree : {A : Type 0} → MutPassed (ListOutput A) → MutPassed (ListOutput A) → MutPassed (ListOutput A) → Type 0
+SameThree l m o = SameLists l.entry.now l.exit.now × SameLists m.entry.now m.exit.now × SameLists o.entry.now o.exit.now
 
 -- a recipe p of station s on its inputs i, through the trays l and m into o; t is the tally that went in
 abbrev pub RecipeRuns : {A : Type 0} → Limits → (List A → List ℤ) → ℕ → Recipe → Inputs A → MutPassed (ListOutput A) → MutPassed (ListOutput A) → MutPassed (ListOutput A) → Tally → RecipeAnswer → Type 0
@@ -178,6 +186,7 @@ RecipeRuns L n s p i l m o t a =
     (n l.exit.now.offsets.now) l.exit.now.rows.now l.exit.now.elements.now.values.now l.exit.now.elements.now.bits.now
     (n m.exit.now.offsets.now) m.exit.now.rows.now m.exit.now.elements.now.values.now m.exit.now.elements.now.bits.now
     (given (tally_of a.tally)))
+    × SameThree l m o
 
 -- a recipe looked at for rows a up to b, which names no station and takes no tally
 abbrev pub WindowRuns : {A : Type 0} → Limits → (List A → List ℤ) → Recipe → ℕ → ℕ → Inputs A → MutPassed (ListOutput A) → MutPassed (ListOutput A) → MutPassed (ListOutput A) → ListAnswer → Type 0
@@ -188,21 +197,24 @@ WindowRuns L n p a b i l m o w =
     (n l.exit.now.offsets.now) l.exit.now.rows.now l.exit.now.elements.now.values.now l.exit.now.elements.now.bits.now
     (n m.exit.now.offsets.now) m.exit.now.rows.now m.exit.now.elements.now.values.now m.exit.now.elements.now.bits.now
     absent)
+    × SameThree l m o
 
 -- with a work area w
 abbrev pub HashRuns : Hashed Column → ListAnswer → MutPassed (ListOutput ℤ) → MutSlice ℕ → Type 0
 HashRuns h a o w =
     Run narrow (hashed h (length w.entry.now) (room_in o.entry.now))
     (hashed_run_end a o.exit.now.offsets.now o.exit.now.rows.now o.exit.now.elements.now.values.now o.exit.now.elements.now.bits.now w.exit.now)
+    × SameLists o.entry.now o.exit.now
 
 -- an import, and an export, that answered a
 abbrev pub ImportRuns : View → ListAnswer → MutPassed (ListOutput ℤ) → Type 0
-ImportRuns c a o = Run narrow (import_view c (room_in o.entry.now)) (list_ended itself a o.exit.now)
+ImportRuns c a o = Run narrow (import_view c (room_in o.entry.now)) (list_ended itself a o.exit.now) × SameLists o.entry.now o.exit.now
 
 abbrev pub ExportRuns : Column → ListAnswer → MutPassed ViewOutput → Type 0
 ExportRuns c a o =
     Run narrow (export_view c (view_room_in o.entry.now))
     (view_run_end a o.exit.now.offsets.now o.exit.now.sizes.now o.exit.now.rows.now o.exit.now.elements.now.values.now o.exit.now.elements.now.bits.now)
+    × SameViews o.entry.now o.exit.now
 
 -- a column graded by k that answered a, g being the grades
 abbrev pub GradeRuns : ℕ → Column → GradeAnswer → MutSlice ℕ → Type 0
@@ -217,3 +229,4 @@ GradedRuns k s p i l m o g t a =
     l.exit.now.offsets.now l.exit.now.rows.now l.exit.now.elements.now.values.now l.exit.now.elements.now.bits.now
     m.exit.now.offsets.now m.exit.now.rows.now m.exit.now.elements.now.values.now m.exit.now.elements.now.bits.now
     (tally_of a.tally) g.exit.now)
+    × SameThree l m o

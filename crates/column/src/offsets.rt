@@ -9,7 +9,7 @@ use model::offsets::Offset;
 fn count(x: i64) -> usize
     ensures { result ≡ count x }
 {
-    usize::try_from(x).unwrap_or(0)
+    x.max(0) as usize
 }
 
 // Whether a number is less than v.

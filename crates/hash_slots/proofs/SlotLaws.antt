@@ -45,6 +45,10 @@ head_of_lt n (val v) q = scaled_lt (folded (summed (of_z w64 v))) n (fold_lt (su
 
 -- ---- a clean area, as a list
 
+-- no slot is there from the length on
+pub clean_past : (t : List ℕ) → CleanFrom (length t) t
+clean_past t i p = get_or-eq_default t 0 {n = i} p
+
 pub clean_zeros : (t : List ℕ) → CleanFrom 0 t → t ≡ replicate (length t) 0
 clean_zeros t c =
     ext_get_or 0 t (replicate (length t) 0) (sym (length-replicate (length t) 0)) (λ i p. c i (omega arith) ∙ sym (get_or-replicate (length t) i 0 0 p))

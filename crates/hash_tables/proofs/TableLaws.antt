@@ -221,6 +221,9 @@ table_none E a n o t r c = record {
 pub table_before : {E : ℕ → Elem} {a n hi : ℕ} {t u : List ℕ} → Table E a n n 0 t → Within (n + n) hi t u → length u ≡ length t → Table E a n n 0 u
 table_before T w l = table_kept T (omega arith) _ (omega (arith, T.room, l)) (λ i p q. w.below i (omega arith))
 
+pub clean_after : {o lo hi : ℕ} {t u : List ℕ} → CleanFrom o t → Within lo hi t u → o ≤ hi → CleanFrom hi u
+clean_after c w l i p = w.above i p ∙ c i (omega arith)
+
 -- the table of k elements, k being n
 pub table_all : {E : ℕ → Elem} {a n k o : ℕ} {t : List ℕ} → Table E a n k o t → k ≡ n → Table E a n n o t
 table_all {E} {a} {n} {k} {o} {t} T e = subst (λ (j : ℕ). Table E a n j o t) e T

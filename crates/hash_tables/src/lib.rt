@@ -23,7 +23,9 @@ struct Chains<'a> {
 }
 
 impl Chains<'_> {
-    // Whether element i of a column is in the chain that begins at head.
+    // Whether element i of a column is in the chain that begins at head. Made in its place: a call would copy chains and column for each
+    // element.
+    #[inline(always)]
     fn is_chained(self, elements: ValueColumn, i: usize, head: usize) -> bool
         requires there { i < length elements.values.now }
         requires bits { Covers (bits_in elements.bits) (length elements.values.now) }
@@ -45,7 +47,8 @@ impl Chains<'_> {
     }
 }
 
-// Whether element i of one column is among m elements of another, whose table begins at slot o.
+// Whether element i of one column is among m elements of another, whose table begins at slot o. Made in its place, as is_chained.
+#[inline(always)]
 pub fn is_listed(
     elements: ValueColumn,
     i: usize,
@@ -77,7 +80,8 @@ pub fn is_listed(
     chains.is_chained(elements, i, s)
 }
 
-// Whether element k of a row is none of the elements before it; it is entered then.
+// Whether element k of a row is none of the elements before it; it is entered then. Made in its place, as is_chained.
+#[inline(always)]
 pub fn enter(
     elements: ValueColumn,
     a: usize,

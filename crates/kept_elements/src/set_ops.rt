@@ -9,7 +9,8 @@ ghost use Rattle.std.specs.Prelude.{◌+◌, ◌<◌, ltb, length, ◌≡◌};
 use column::elements::ValueColumn;
 
 // Whether element a + k is kept of its row: it is not among the k elements before it, and it is among the others where shared
-// ones are wanted, and is not where new ones are.
+// ones are wanted, and is not where new ones are. Made in its place: a call would copy both columns for each element.
+#[inline(always)]
 pub fn is_kept(
     elements: ValueColumn,
     a: usize,

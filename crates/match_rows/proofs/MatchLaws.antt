@@ -59,6 +59,10 @@ module _ (x y z z' : Arguments) where
     unfolding call_rows made_at made_from op_at row_op_of valid_op
     third-rows = refl
 
+    pub third_measure : rows_measure N L.Remove c x y z ≡ rows_measure N L.Remove c x y z'
+    unfolding rows_measure call_rows made_at made_from op_at row_op_of valid_op
+    third_measure = refl
+
 -- ---- what is done to a row
 
 replace_valid : (v : Bool) (f t k : Cell) → replace_op f t (pick v k None) ≡ pick v (replace_op f t k) R.Null

@@ -6,7 +6,7 @@ use Prim.Native.Nat.{ℕ, zero, suc, ◌+◌, ◌-◌, ◌*◌, ◌≤◌, ◌<�
 use native.Mathlib.Omega.{arith}
 use borrow.Author.Tests.{ne_eqb}
 use lib.IntN.{ℤ, pos}
-use lib.ListN.{length, get_or, set, replicate}
+use lib.ListN.{length, get_or, set, replicate, length-set}
 use lib.Seq.{sets, set-set, set_comm}
 use Rattle.bit_words.specs.Words.{low_bits}
 use Rattle.bitmap.specs.Push.{push_bits}
@@ -23,6 +23,15 @@ use Rattle.runs.proofs.PlainLaws.{both_written, map_back}
 use Rattle.stores.proofs.StoreLaws.{length_back}
 
 -- ---- bit after bit
+
+pub length-pick : (b : Bool) (d : List ℤ) (k : ℕ) → length (pick b d (set d k under_null)) ≡ length d
+length-pick true d k = refl
+length-pick false d k = length-set d k under_null
+
+pub length-nulled : (bs : List Bool) (d : List ℤ) (k : ℕ) → length (nulled d k bs) ≡ length d
+unfolding nulled
+length-nulled [] d k = refl
+length-nulled (b ∷ bs) d k = length-nulled bs (pick b d (set d k under_null)) (suc k) ∙ length-pick b d k
 
 -- bits after bits
 pub nulled-append : (xs ys : List Bool) (d : List ℤ) (k : ℕ) → nulled d k (xs ++ ys) ≡ nulled (nulled d k xs) (k + length xs) ys

@@ -95,6 +95,18 @@ module _ (ns : List ℕ) (k : ℕ) (c d : Column) (e : Arguments) where
           unfolding recipe_unequal
           refused-length n b q = then_three s ∙ rw (length-rows c, length-rows d, length-shown e, eq-eqb (row_count c.offsets) (row_count d.offsets) n, ← q)
 
+-- ---- a recipe that is not malformed has no more than eight columns
+
+third-none : (a b c d : Bool) → ((a || b) || c) || d ≡ false → c ≡ false
+third-none true b c d h = never_true h
+third-none false true c d h = never_true h
+third-none false false true d h = never_true h
+third-none false false false d h = refl
+
+pub few_lent : (ns : List ℕ) (k : ℕ) → malformed (recipe ns k) ≡ false → k ≤ 8
+unfolding malformed
+few_lent ns k h = ltb-false 8 k (third-none (not (eqb (length ns % 4) 0)) (ltb 32 (length ns / 4)) (ltb 8 k) (any (wrong_step k) (steps_of ns)) h)
+
 -- ---- nothing refuses
 
 pub record Passed (ns : List ℕ) (k : ℕ) (c d : Column) (e : Arguments) : Type 0 where

@@ -2,7 +2,6 @@
 #![tactic(auto)]
 
 ghost use Rattle.column.specs.Outputs.{Clears, ListAnswers, room_in};
-ghost use Rattle.copies.specs.Trayed.{Kept};
 ghost use Rattle.model.specs.Tally.{tallied};
 ghost use Rattle.recipes.specs.Recipes.{recipe_lent};
 ghost use Rattle.std.specs.Prelude.{◌≡◌};
@@ -10,28 +9,8 @@ ghost use Rattle.tally.specs.Tallies.{tally_of};
 
 use column::lists::ListOutput;
 use model::offsets::Offset;
-use model::{ListAnswer, Refusal};
 use recipe_refusal::{Inputs, Recipe};
 use tally::{RecipeAnswer, Tally};
-
-// What a recipe answers and writes for a station, its trays left as the steps leave them.
-fn answer_for<O: Offset>(
-    station: u32,
-    recipe: Recipe,
-    inputs: Inputs<O>,
-    one: &mut ListOutput<O>,
-    two: &mut ListOutput<O>,
-    out: &mut ListOutput<O>,
-) -> ListAnswer
-    ensures answers { ListAnswers O.numbers (recipe_lent O.numbers O.LIMITS station recipe.entry inputs.entry (room_in one.old) (room_in two.old)) result out.old out.new }
-    ensures one { Kept one.old one.new }
-    ensures two { Kept two.old two.new }
-{
-    if station > 15 {
-        return Err(Refusal::NoSuchStation);
-    }
-    attempt::attempt(0, inputs.list.row_count(), recipe, inputs, one, two, out)
-}
 
 // Runs a recipe for a station, 0 to 15: its numbers, four a step, on the first list; the second list serves union and intersect; the
 // argument columns, as many as the recipe says, lie one after another in one slice with one bitmap. The trays are zero afterwards, whatever comes.
@@ -49,7 +28,8 @@ pub fn run_recipe<O: Offset>(
     ensures clears_2 { Clears O.numbers two.old two.new }
     ensures tally_value { tally_of result.tally ≡ tallied station (recipe_lent O.numbers O.LIMITS station recipe.entry inputs.entry (room_in one.old) (room_in two.old) (room_in out.old)) (tally_of tally) }
 {
-    let answer = answer_for(station, recipe, inputs, one, two, out);
+    let n = inputs.list.row_count();
+    let answer = attempt::attempt(station, 0, n, recipe, inputs, one, two, out);
     copies::clear(one);
     copies::clear(two);
     tally::settle(tally, station, answer)

@@ -14,9 +14,20 @@ use Rattle.model.specs.Limits.{Limits}
 use Rattle.model.specs.Refusals.{times_of, total}
 use Rattle.model.proofs.TabLaws.{tab-step, tab-none}
 use Rattle.column.specs.Rows.{len_from}
-use Rattle.repeat_sums.specs.Counts.{times_at, repeated_at, sums}
+use Rattle.column.proofs.WalkLaws.{between}
+use Rattle.repeat_sums.specs.Counts.{Begun, Countable, times_at, repeated_at, sums}
 use Rattle.model.specs.declared.Refusal.TheVariants.{TooMany}
 use Rattle.std.specs.Prelude.{Ok, Err}
+
+-- ---- what can be read can be counted
+
+pub countable : (c : Column) (a : Arguments) → Begun c a → Countable c a
+countable c a b = record {
+  rising = record { step = λ r h. (between c _ r _ _ b.list refl h refl refl).rises };
+  rows = b.list.rows;
+  bits = b.bits;
+  equal = b.equal;
+}
 
 -- ---- one count
 

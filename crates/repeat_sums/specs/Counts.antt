@@ -1,5 +1,5 @@
 -- How often each row is repeated, and the sums that refusal 8 looks at.
-use Rattle.std.specs.Prelude.{ℕ, ◌+◌, ◌*◌, ◌≡◌, ◌||◌, length, ltb, Result, Ok, Err}
+use Rattle.std.specs.Prelude.{ℕ, ℤ, List, ◌+◌, ◌*◌, ◌<◌, ◌≤◌, ◌≡◌, ◌||◌, length, ltb, Result, Ok, Err}
 use Rattle.model.specs.Basics.{pick, tab}
 use Rattle.model.specs.Column.{Column, Arguments, elem_at, row_count, offset_at}
 use Rattle.model.specs.Limits.{Limits}
@@ -14,6 +14,17 @@ use Rattle.model.specs.declared.Refusal.TheVariants.{TooMany}
 -- 13, 1, 2 and 3 have passed: the list can be read, and so can a count for each row
 pub record Begun (c : Column) (a : Arguments) : Type 0 where
   pub list : Readable c
+  pub bits : Covers a.bits (length a.values)
+  pub equal : length a.values ≡ row_count c.offsets
+
+-- no offset is below the one before it
+pub record Rising (o : List ℤ) : Type 0 where
+  pub step : (r : ℕ) → r < row_count o → offset_at o r ≤ offset_at o (r + 1)
+
+-- what the sums look at can be read: offsets that don't fall, and a bit and a count for each row; no values and no bits of elements
+pub record Countable (c : Column) (a : Arguments) : Type 0 where
+  pub rising : Rising c.offsets
+  pub rows : Covers c.rows (row_count c.offsets)
   pub bits : Covers a.bits (length a.values)
   pub equal : length a.values ≡ row_count c.offsets
 

@@ -7,9 +7,10 @@ ghost use Rattle.bitmap.specs.Reads.{bits_in};
 ghost use Rattle.column.specs.Columns.{column_in, values_in};
 ghost use Rattle.column.specs.Outputs.{SameOuters};
 ghost use Rattle.model.specs.Bitmap.{valid_at};
-ghost use Rattle.repeat_sums.specs.Counts.{Begun, sums_of, times_at};
+ghost use Rattle.repeat_sums.specs.Counts.{Countable, sums_of, times_at};
 ghost use Rattle.std.specs.Prelude.{◌*◌, ◌+◌, ◌/◌, ◌<◌, ◌≤◌, ltb, pos, length, set, ◌≡◌};
 
+use bitmap::Validity;
 use column::elements::ValueColumn;
 use column::lists::{ListColumn, OuterOutput};
 use column::offsets;
@@ -45,7 +46,7 @@ fn is_product_over(times: usize, len: usize, most: usize) -> bool
 
 // Sums the outer lists, null ones among them, and the values that they repeat. A sum that exceeds its limit ends the walk.
 pub fn sum_repeats<O: Offset>(list: ListColumn<O>, counts: ValueColumn) -> Result<Sums, Refusal>
-    requires { Begun (column_in O.numbers list) (values_in counts) }
+    requires { Countable (column_in O.numbers list) (values_in counts) }
     ensures { result ≡ sums_of O.LIMITS (column_in O.numbers list.entry) (values_in counts.entry) }
 {
     let n = list.row_count();
@@ -69,17 +70,23 @@ pub fn sum_repeats<O: Offset>(list: ListColumn<O>, counts: ValueColumn) -> Resul
     Ok(Sums { lists, values })
 }
 
-// Writes outer row r, which ends after so many lists: its offset, and its bit, which is its count's.
-pub fn put_outer<O: Offset>(counts: ValueColumn, r: usize, lists: usize, out: &mut OuterOutput<O>)
-    requires bits { Covers (bits_in counts.bits) (length counts.values.now) }
-    requires there { r < length counts.values.now }
+// Writes outer row r of n, which ends after so many lists: its offset, and its bit, which is its count's.
+pub fn put_outer<O: Offset>(
+    count_bits: Validity,
+    n: usize,
+    r: usize,
+    lists: usize,
+    out: &mut OuterOutput<O>,
+)
+    requires bits { Covers (bits_in count_bits) n }
+    requires there { r < n }
     requires few { lists ≤ O.LIMITS.offset }
     requires slot { r + 1 < length out.old.offsets.now }
     requires bit { r / 8 < length out.old.rows.now }
     ensures offsets_after { O.numbers out.new.offsets.now ≡ set (O.numbers out.old.offsets.now) (r + 1) (pos lists) }
-    ensures rows_after { out.new.rows.now ≡ push_bit out.old.rows.now r (valid_at (bits_in counts.entry.bits) r) }
+    ensures rows_after { out.new.rows.now ≡ push_bit out.old.rows.now r (valid_at (bits_in count_bits.entry) r) }
     ensures same { SameOuters out.old out.new }
 {
-    bitmap::push_bit(out.rows, r, counts.bits.is_valid(r, counts.values.len()));
+    bitmap::push_bit(out.rows, r, count_bits.is_valid(r, n));
     offsets::put_offset(out.offsets, r + 1, lists);
 }

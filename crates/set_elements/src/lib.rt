@@ -19,7 +19,9 @@ pub fn same_value(a: i64, b: i64) -> bool
     a == b
 }
 
-// Whether element i of one column and element j of another are the same: two nulls, or one value.
+// Whether element i of one column and element j of another are the same: two nulls, or one value. Made in its place: a call would copy
+// both columns for each pair.
+#[inline(always)]
 #[tactic(auto, unfolding(model::specs::Elements::same_elem, model::specs::Column::elem_at))]
 pub fn same_elem(elements: ValueColumn, i: usize, others: ValueColumn, j: usize) -> bool
     requires i_in_bounds { i < length elements.values.now }
@@ -111,7 +113,8 @@ fn has_null(others: ValueColumn, a: usize, k: usize) -> bool
 }
 
 // Whether element i of one column is among the k elements from element a on of another: values alone where no element can be null, a value
-// among the valid ones, a null among the bits.
+// among the valid ones, a null among the bits. Made in its place, as same_elem.
+#[inline(always)]
 pub fn is_among(elements: ValueColumn, i: usize, others: ValueColumn, a: usize, k: usize) -> bool
     requires i_in_bounds { i < length elements.values.now }
     requires covers { Covers (bits_in elements.bits) (length elements.values.now) }

@@ -231,9 +231,12 @@ module _ (l r : List Elem) where
       by true e = let h = ltb-true _ _ e in rw (intersect_right l r h) (f h)
       by false e = let h = ltb-false _ _ e in rw (intersect_left l r h) (g h)
 
-  -- an intersection is no longer than the left row
+  -- an intersection is no longer than either row
   pub intersect_le_left : length (set_elems Intersect l r) ≤ length l
   intersect_le_left = either (λ n. n ≤ length l) (λ h. omega (arith, shared_le l [] r, unseen_le l [])) (λ h. kept_le true r [] l)
+
+  pub intersect_le_right : length (set_elems Intersect l r) ≤ length r
+  intersect_le_right = either (λ n. n ≤ length r) (λ h. kept_le true l [] r) (λ h. omega (arith, shared_le r [] l, unseen_le r []))
 
 pub set_le : (op : SetOp) (l r : List Elem) → length (set_elems op l r) ≤ length l + length r
 set_le Union l r = union_le l r

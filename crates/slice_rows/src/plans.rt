@@ -2,13 +2,14 @@
 ghost use Rattle.std.specs.Prelude.{◌<◌, ◌≤◌, ◌≡◌};
 ghost use Rattle.index.specs.Plan.{stride_in};
 ghost use Rattle.slice_rows.specs.Columns.{slice_in};
-ghost use Rattle.slice_rows.specs.Sliced.{HasRow, plan_at, steps_count, stride_at};
+ghost use Rattle.slice_rows.specs.Sliced.{HasRow, plan_at, plan_count, stride_at};
 
 use crate::SliceColumns;
-use index::slice::{SlicePlan, Steps};
+use index::slice::SlicePlan;
 use model::offsets::Offset;
 
 // The stride of row r, where the slice goes by one.
+#[inline(always)]
 #[tactic(auto, unfolding(crate::specs::Sliced::stride_at, index::specs::Plan::stride_in))]
 fn stride_at(columns: SliceColumns, r: usize) -> Option<i64>
     requires { HasRow (slice_in columns) r }
@@ -20,7 +21,9 @@ fn stride_at(columns: SliceColumns, r: usize) -> Option<i64>
     }
 }
 
-// The plan of row r, of len elements; an empty one where the row or an argument is null.
+// The plan of row r, of len elements; an empty one where the row or an argument is null. Made in its place: a call would copy the
+// columns for each row.
+#[inline(always)]
 #[tactic(auto, unfolding(crate::specs::Sliced::plan_at))]
 pub fn plan_at<O: Offset>(valid: bool, columns: SliceColumns, r: usize, len: usize) -> SlicePlan
     requires there { HasRow (slice_in columns) r }
@@ -38,10 +41,14 @@ pub fn plan_at<O: Offset>(valid: bool, columns: SliceColumns, r: usize, len: usi
     )
 }
 
-// The number of places of an accepted plan.
-#[tactic(auto, unfolding(crate::specs::Sliced::steps_count))]
-pub fn count_of(steps: Option<Steps>) -> usize
-    ensures { result ≡ steps_count steps }
+// The number of places of a plan: none where it is empty or refused.
+#[tactic(auto, unfolding(crate::specs::Sliced::plan_count, crate::specs::Sliced::steps_count))]
+pub fn count_of(plan: SlicePlan) -> usize
+    ensures { result ≡ plan_count plan }
 {
-    steps.map_or(0, |s| s.count)
+    match plan {
+        Ok(Some(steps)) => steps.count,
+        Ok(None) => 0,
+        Err(_) => 0,
+    }
 }

@@ -13,7 +13,7 @@ use bitmap::Validity;
 
 // The number of rows whose bits are read at once, where so many are left: 64, or one.
 #[tactic(auto, using(std::proofs::lemmas::Grind::common_steps), unfolding(crate::specs::Sliced::batch_of))]
-fn batch(left: usize) -> usize
+pub fn batch(left: usize) -> usize
     ensures value { result ≡ batch_of left }
     ensures lower_bound { 0 < result }
 {
@@ -37,7 +37,7 @@ fn word_at(bits: Validity, n: usize, r: usize) -> u64
 }
 
 // Which of these rows are valid, their from, their to and, where the slice goes by one, their stride too.
-fn valid_bits(rows: Validity, columns: SliceColumns, n: usize, r: usize) -> u64
+pub fn valid_bits(rows: Validity, columns: SliceColumns, n: usize, r: usize) -> u64
     requires known { Known n (bits_in rows) (slice_in columns) }
     requires there { r < n }
     ensures { low_bits result (batch_of (n - r)) ≡ tab (all_valid (bits_in rows.entry) (slice_in columns.entry)) r (batch_of (n - r)) }
@@ -67,6 +67,7 @@ impl NextBits {
     }
 
     // Reads the bits of the rows from row r of n on, where none are left.
+    #[inline(always)]
     fn read(&mut self, rows: Validity, columns: SliceColumns, n: usize, r: usize)
         requires known { Known n (bits_in rows) (slice_in columns) }
         requires there { r < n }
@@ -80,7 +81,9 @@ impl NextBits {
         }
     }
 
-    // Whether row r of n is valid, its from, its to and, where the slice goes by one, its stride too.
+    // Whether row r of n is valid, its from, its to and, where the slice goes by one, its stride too. Made in its place: a call would
+    // copy the columns for each row.
+    #[inline(always)]
     pub fn take(&mut self, rows: Validity, columns: SliceColumns, n: usize, r: usize) -> bool
         requires known { Known n (bits_in rows) (slice_in columns) }
         requires there { r < n }

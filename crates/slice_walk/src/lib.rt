@@ -45,7 +45,7 @@ pub fn measure_rows<O: Offset>(
         let b = list.offset_at(r + 1);
         let valid = next.take(list.rows, columns, n, r);
         let steps = plans::plan_at::<O>(valid, columns, r, b - a)?;
-        found += plans::count_of(steps);
+        found += plans::count_of(Ok(steps));
         a = b;
     }
     Ok(found)

@@ -1,5 +1,5 @@
 -- Laws of a chain of steps: what an answer tells of its outcome, and what a step leaves for the next.
-use Prim.Native.Nat.{ℕ, ◌+◌, ◌-◌, ◌≤◌, ◌<◌}
+use Prim.Native.Nat.{ℕ, ◌+◌, ◌-◌, ◌*◌, ◌≤◌, ◌<◌}
 use mathlib.Core.Path.{◌≡◌, refl, sym, ap, ◌∙◌}
 use mathlib.Core.Bool.{Bool, true, false}
 use mathlib.Core.List.{List, [], ◌∷◌, map}
@@ -223,6 +223,9 @@ same_room a b c d = rw (a, b, c, d)
 module _ {ns : List ℕ} {pitch n len k left : ℕ} (s : Steps ns pitch n len k left) where
   pub step_fits : StepFits (step_at ns k) pitch n len
   step_fits = let e : k + 0 ≡ k = omega arith in rw e at (s.fit 0 s.some)
+
+  pub step-there : 4 * k + 4 ≤ length ns
+  step-there = omega (arith, s.some, s.there)
 
   pub none_left : left ≡ 1 → tab (step_at ns) (k + 1) (left - 1) ≡ []
   none_left e = tab-none (step_at ns) (k + 1) (left - 1) (omega arith)

@@ -54,7 +54,18 @@ fn copy_short(values: &[i64], a: usize, n: usize, out: &mut [i64], at: usize)
     copy_four(values, a + last, out, at + last);
 }
 
-// Copies the n values from value a on, from place at on.
+// Copies eight values: all are read before one is written, so that they are moved at once.
+fn copy_eight(values: &[i64], p: usize, out: &mut [i64], k: usize)
+    requires p_in_bounds { p + 8 ≤ length values.now }
+    requires k_in_bounds { k + 8 ≤ length out.old }
+    ensures { out.new ≡ sets out.old k (tab (λ i. get_or values.now i (pos 0)) p 8) }
+{
+    let eight: [i64; 8] = *values[p..].first_chunk().unwrap();
+    out[k..k + 8].copy_from_slice(&eight);
+}
+
+// Copies the n values from value a on, from place at on: eight after eight, then the last eight, of which some may be copied already. A copy of
+// all at once would need memmove of whoever links the archives.
 pub fn copy_values(values: &[i64], a: usize, n: usize, out: &mut [i64], at: usize)
     requires n_in_bounds { a + n ≤ length values.now }
     requires n_in_bounds_2 { at + n ≤ length out.old }
@@ -64,7 +75,11 @@ pub fn copy_values(values: &[i64], a: usize, n: usize, out: &mut [i64], at: usiz
         copy_short(values, a, n, out, at);
         return;
     }
-    out[at..at + n].copy_from_slice(&values[a..a + n]);
+    for i in 0..n / 8 {
+        copy_eight(values, a + 8 * i, out, at + 8 * i);
+    }
+    let last = n - 8;
+    copy_eight(values, a + last, out, at + last);
 }
 
 // Copies fewer than eight values, last first.

@@ -16,7 +16,7 @@ use model::offsets::Offset;
 use recipe_refusal::{Inputs, Recipe};
 
 // The first row that is looked at: where the call cannot be told, it is after the last, so that the call only clears the trays.
-fn begin_for(counts: usize, begin: usize) -> usize
+pub fn begin_for(counts: usize, begin: usize) -> usize
     ensures { result ≡ pick (ltb counts 4) 1 begin }
 {
     if counts < 4 {
@@ -25,7 +25,7 @@ fn begin_for(counts: usize, begin: usize) -> usize
     begin
 }
 
-fn end_for(counts: usize, end: usize) -> usize
+pub fn end_for(counts: usize, end: usize) -> usize
     ensures { result ≡ pick (ltb counts 4) 0 end }
 {
     if counts < 4 {
@@ -35,7 +35,7 @@ fn end_for(counts: usize, end: usize) -> usize
 }
 
 // Tells the answer; 100 where the counts are too short, which then keep their content.
-fn settle(answer: ListAnswer, counts: &mut [u64]) -> u32
+pub fn settle(answer: ListAnswer, counts: &mut [u64]) -> u32
     ensures { Told (pick (short 4 counts) (refusal 100) (told answer)) result counts.old counts.new }
 {
     if counts.len() < 4 {

@@ -35,7 +35,7 @@ pub fn refusal_after(
 }
 
 // The offsets of rows a up to b, one more than the rows; of fewer offsets, those that there are.
-fn offsets_of<T>(offsets: &[T], a: usize, b: usize) -> &[T]
+pub fn offsets_of<T>(offsets: &[T], a: usize, b: usize) -> &[T]
     requires { a ≤ b }
     ensures { result.now ≡ take (b + 1 - a) (drop a offsets.now) }
 {
@@ -63,7 +63,7 @@ pub fn rows_of<'a, O: Offset>(list: ListColumn<'a, O>, a: usize, b: usize) -> Li
 }
 
 // Where the arguments of row a begin among len values: at row a of the first column, or at the end where there is none.
-fn first_argument(a: usize, len: usize) -> usize
+pub fn first_argument(a: usize, len: usize) -> usize
     ensures { result ≡ first_argument a len }
 {
     a.min(len)

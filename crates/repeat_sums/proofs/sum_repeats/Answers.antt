@@ -3,7 +3,6 @@ use Prim.Native.Nat.{◌+◌, ◌-◌, ◌*◌}
 use Rattle.std.proofs.Common.{◌≡◌, sym, ◌∙◌, arith}
 use borrow.Author.Tests.{ltb-true, ltb-false}
 use Rattle.column.specs.Columns.{column_in, values_in}
-use Rattle.column.proofs.WalkLaws.{between}
 use Rattle.repeat_sums.specs.Counts.{sums_of}
 use Rattle.repeat_sums.proofs.SumLaws.{sums-many, sums_large, sums-more, sums_done, repeated_is}
 use Rattle.repeat_sums.proofs.sum_repeats.Goals as goal
@@ -15,7 +14,7 @@ returns-then-limits-lists g c =
 
 pub row_len-len-requires-clause-a_le_b : goal.row_len-len-requires-clause-a_le_b
 row_len-len-requires-clause-a_le_b g c =
-    (between (column_in g.O.Offset.numbers c.args.list) _ c.loop-r.r _ _ c.requires.list c.row_count-n.ensures (omega arith) c.offset_at-a.ensures.value c.offset_at-b.ensures.value).rises
+    rw (c.offset_at-a.ensures.value, c.offset_at-b.ensures.value) (c.requires.rising.step c.loop-r.r (omega (arith, c.row_count-n.ensures)))
 
 pub returns-then-is_product_over : goal.returns-then-is_product_over
 unfolding sums_of

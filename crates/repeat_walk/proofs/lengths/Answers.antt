@@ -4,6 +4,7 @@ use Rattle.checks.proofs.RefusedLaws.{handed_on, number_positive}
 use Rattle.model.specs.Asked.{asked_repeat}
 use Rattle.column.specs.Columns.{column_in, values_in}
 use Rattle.repeat_walk.proofs.RepeatLaws.{sums_are, lengths_early, lengths_eight, lengths-made}
+use Rattle.repeat_sums.proofs.SumLaws.{countable}
 use Rattle.repeat_walk.proofs.lengths.Goals as goal
 
 pub returns-in_err-early : goal.returns-in_err-early
@@ -11,6 +12,9 @@ unfolding asked_repeat
 returns-in_err-early g c =
     rw (handed_on _ _ c.from_residual.ensures)
     (lengths_early _ _ (values_in c.args.counts) _ c.in_err-early.ensures.value (number_positive c.in_err-early.field-0.0))
+
+pub sum_repeats-requires : goal.sum_repeats-requires
+sum_repeats-requires g c = countable _ _ (c.in_ok-early.ensures.begun refl)
 
 pub returns-in_err-sums : goal.returns-in_err-sums
 unfolding asked_repeat

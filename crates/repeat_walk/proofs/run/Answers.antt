@@ -5,6 +5,7 @@ use Rattle.column.specs.Columns.{column_in, values_in}
 use Rattle.column.specs.Outputs.{repeat_room_in}
 use Rattle.repeat_walk.proofs.AnswerLaws.{repeat_refused}
 use Rattle.repeat_walk.proofs.RepeatLaws.{sums_are, run_early, run_eight, run_fits}
+use Rattle.repeat_sums.proofs.SumLaws.{countable}
 use Rattle.repeat_walk.proofs.run.Goals as goal
 
 pub returns-in_err-early : goal.returns-in_err-early
@@ -15,6 +16,9 @@ returns-in_err-early g c =
       outer = record { offsets = refl; rows = refl };
       lists = record { offsets = refl; rows = refl; elements = refl; values = refl; bits = refl };
     })
+
+pub sum_repeats-requires : goal.sum_repeats-requires
+sum_repeats-requires g c = countable _ _ (c.in_ok-early.ensures.begun refl)
 
 pub returns-in_err-sums : goal.returns-in_err-sums
 returns-in_err-sums g c =

@@ -4,6 +4,7 @@ use Rattle.column.specs.Columns.{column_in, values_in}
 use Rattle.column.proofs.WalkLaws.{between}
 use Rattle.made_rows.proofs.LoopLaws.{measuring_begun, measuring_done, rows_end}
 use Rattle.slice_rows.specs.Columns.{slice_in}
+use Rattle.slice_rows.specs.Sliced.{plan_count, steps_count}
 use Rattle.sums.specs.Sums.{let_through, measured}
 use Rattle.slice_walk.proofs.SliceLaws.{known, has_row, none_held, turn_measured, turn_stops}
 use Rattle.slice_walk.proofs.measure_rows.Goals as goal
@@ -44,6 +45,7 @@ returns-in_err-steps-clause-result_bound g c =
     rw p.1 (omega arith)
 
 pub overflow_add-found : goal.overflow_add-found
+unfolding plan_count steps_count
 overflow_add-found g c =
     let a = c.args in
     let C = column_in g.O.Offset.numbers a.list in
@@ -54,6 +56,7 @@ overflow_add-found g c =
     omega (arith, c.count_of-found.ensures, more.sums.small, g.met.O.Offset.limits_fit.offset)
 
 pub loop-r-preserved : goal.loop-r-preserved
+unfolding plan_count steps_count
 loop-r-preserved g c =
     let a = c.args in
     let C = column_in g.O.Offset.numbers a.list in

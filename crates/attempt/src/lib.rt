@@ -15,6 +15,9 @@ use model::{ListAnswer, Refusal};
 use one_list::ArgumentColumns;
 use recipe_refusal::{Inputs, Recipe};
 
+#[cfg(test)]
+mod tests;
+
 // Takes the steps on rows begin up to end of each column, which are cut out and not copied; no step writes them into the output.
 fn take_steps<O: Offset>(
     begin: usize,
@@ -50,7 +53,7 @@ fn take_steps<O: Offset>(
 
 // Checks the station, the recipe, the columns and whether rows begin up to end are there, and takes the steps on these rows. The run of a
 // recipe is the call for all rows.
-pub fn attempt<O: Offset>(
+pub fn attempt_at_station<O: Offset>(
     station: u32,
     begin: usize,
     end: usize,
@@ -71,4 +74,21 @@ pub fn attempt<O: Offset>(
     let n = inputs.list.row_count();
     window::refusal_after(first, begin, end, n)?;
     take_steps(begin, end, recipe, inputs, one, two, out)
+}
+
+// Checks the recipe, the columns and whether rows begin up to end are there, and takes the steps on these rows: the same call, for no station.
+pub fn attempt<O: Offset>(
+    begin: usize,
+    end: usize,
+    recipe: Recipe,
+    inputs: Inputs<O>,
+    one: &mut ListOutput<O>,
+    two: &mut ListOutput<O>,
+    out: &mut ListOutput<O>,
+) -> ListAnswer
+    ensures answers { ListAnswers O.numbers (window_outcome O.LIMITS (recipe_in recipe.entry) begin end (column_in O.numbers inputs.entry.list) (column_in O.numbers inputs.entry.second) (values_in inputs.entry.arguments) (room_in one.old) (room_in two.old)) result out.old out.new }
+    ensures one { Kept one.old one.new }
+    ensures two { Kept two.old two.new }
+{
+    attempt_at_station(0, begin, end, recipe, inputs, one, two, out)
 }

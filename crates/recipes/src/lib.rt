@@ -29,7 +29,7 @@ pub fn run_recipe<O: Offset>(
     ensures tally_value { tally_of result.tally ≡ tallied station (recipe_lent O.numbers O.LIMITS station recipe.entry inputs.entry (room_in one.old) (room_in two.old) (room_in out.old)) (tally_of tally) }
 {
     let n = inputs.list.row_count();
-    let answer = attempt::attempt(station, 0, n, recipe, inputs, one, two, out);
+    let answer = attempt::attempt_at_station(station, 0, n, recipe, inputs, one, two, out);
     copies::clear(one);
     copies::clear(two);
     tally::settle(tally, station, answer)

@@ -18,6 +18,9 @@ use model::Refusal;
 use model::offsets::Offset;
 use rows::utils;
 
+#[cfg(test)]
+mod tests;
+
 // What is summed: the outer lists and the values that they repeat.
 #[derive(Clone, Copy)]
 pub struct Sums {
@@ -70,8 +73,8 @@ pub fn sum_repeats<O: Offset>(list: ListColumn<O>, counts: ValueColumn) -> Resul
     Ok(Sums { lists, values })
 }
 
-// Writes outer row r of n, which ends after so many lists: its offset, and its bit, which is its count's.
-pub fn put_outer<O: Offset>(
+// Writes outer row r of n, which ends after so many lists: its offset, and its bit, which is its count's, of the counts' bits alone.
+pub fn put_outer_by_bits<O: Offset>(
     count_bits: Validity,
     n: usize,
     r: usize,
@@ -89,4 +92,18 @@ pub fn put_outer<O: Offset>(
 {
     bitmap::push_bit(out.rows, r, count_bits.is_valid(r, n));
     offsets::put_offset(out.offsets, r + 1, lists);
+}
+
+// Writes outer row r, which ends after so many lists: its offset, and its bit, which is its count's.
+pub fn put_outer<O: Offset>(counts: ValueColumn, r: usize, lists: usize, out: &mut OuterOutput<O>)
+    requires bits { Covers (bits_in counts.bits) (length counts.values.now) }
+    requires there { r < length counts.values.now }
+    requires few { lists ≤ O.LIMITS.offset }
+    requires slot { r + 1 < length out.old.offsets.now }
+    requires bit { r / 8 < length out.old.rows.now }
+    ensures offsets_after { O.numbers out.new.offsets.now ≡ set (O.numbers out.old.offsets.now) (r + 1) (pos lists) }
+    ensures rows_after { out.new.rows.now ≡ push_bit out.old.rows.now r (valid_at (bits_in counts.entry.bits) r) }
+    ensures same { SameOuters out.old out.new }
+{
+    put_outer_by_bits(counts.bits, counts.values.len(), r, lists, out);
 }

@@ -73,7 +73,7 @@ fn write_repeats<O: Offset>(
         let times = repeat_sums::repeat_count(counts, r);
         at = put_copies(list, r, times, lists, at, inner);
         lists += times;
-        repeat_sums::put_outer(counts.bits, counts.values.len(), r, lists, out);
+        repeat_sums::put_outer_by_bits(counts.bits, counts.values.len(), r, lists, out);
     }
 }
 

@@ -24,7 +24,7 @@ pub fn run_window<O: Offset>(
     ensures clears { Clears O.numbers one.old one.new }
     ensures clears_2 { Clears O.numbers two.old two.new }
 {
-    let answer = attempt::attempt(0, begin, end, recipe, inputs, one, two, out);
+    let answer = attempt::attempt_at_station(0, begin, end, recipe, inputs, one, two, out);
     copies::clear(one);
     copies::clear(two);
     answer

@@ -12,15 +12,15 @@ returns-clause-list_answers g c =
     let a = c.args in
     let i = a.inputs in
     let numbers = g.O.Offset.numbers in
-    let m = c.attempt-answer.ensures.answers in
+    let m = c.attempt_at_station-answer.ensures.answers in
     let whole = whole_call g.O.Offset.LIMITS (recipe_in a.recipe) (column_in numbers i.list) (column_in numbers i.second) (values_in i.arguments) (room_in a.one.now) (room_in a.two.now) (room_in a.out.now) c.row_count-n.ensures in
     record { meets = rw (c.settle.ensures.answer_value, ← whole) m.meets; same = m.same }
 
 pub returns-clause-clears : goal.returns-clause-clears
-returns-clause-clears g c = let k = c.attempt-answer.ensures.one in clears_on k.same k.room c.clear.ensures
+returns-clause-clears g c = let k = c.attempt_at_station-answer.ensures.one in clears_on k.same k.room c.clear.ensures
 
 pub returns-clause-clears_2 : goal.returns-clause-clears_2
-returns-clause-clears_2 g c = let k = c.attempt-answer.ensures.two in clears_on k.same k.room c.clear-2.ensures
+returns-clause-clears_2 g c = let k = c.attempt_at_station-answer.ensures.two in clears_on k.same k.room c.clear-2.ensures
 
 pub returns-clause-tally_value : goal.returns-clause-tally_value
 returns-clause-tally_value g c =
@@ -28,4 +28,4 @@ returns-clause-tally_value g c =
     let i = a.inputs in
     let numbers = g.O.Offset.numbers in
     let whole = whole_call g.O.Offset.LIMITS (recipe_in a.recipe) (column_in numbers i.list) (column_in numbers i.second) (values_in i.arguments) (room_in a.one.now) (room_in a.two.now) (room_in a.out.now) c.row_count-n.ensures in
-    rw (c.settle.ensures.tally_value, ← whole) (tallied_is _ _ _ _ c.attempt-answer.ensures.answers.meets.answer)
+    rw (c.settle.ensures.tally_value, ← whole) (tallied_is _ _ _ _ c.attempt_at_station-answer.ensures.answers.meets.answer)

@@ -35,25 +35,25 @@ overflow_add-lists g c =
     let few : c.loop-r.lists + length (replicate c.repeat_count-times.result w) ≤ g.O.Offset.LIMITS.outer = outer-few _ _ _ _ (omega (arith, c.row_count-r-end.ensures)) same c.loop-r.invariant.repeating in
     omega (arith, length-replicate c.repeat_count-times.result w, g.met.O.Offset.limits_fit.outer, g.met.O.Offset.limits_fit.offset)
 
-pub put_outer-requires-clause-few : goal.put_outer-requires-clause-few
-put_outer-requires-clause-few g c =
+pub put_outer_by_bits-requires-clause-few : goal.put_outer_by_bits-requires-clause-few
+put_outer_by_bits-requires-clause-few g c =
     let C = column_in g.O.Offset.numbers c.args.list in
     let w = row_at C c.loop-r.r in
     let same = copies_are C (values_in c.args.counts) c.loop-r.r _ c.repeat_count-times.ensures in
     let few : c.loop-r.lists + length (replicate c.repeat_count-times.result w) ≤ g.O.Offset.LIMITS.outer = outer-few _ _ _ _ (omega (arith, c.row_count-r-end.ensures)) same c.loop-r.invariant.repeating in
     omega (arith, length-replicate c.repeat_count-times.result w, g.met.O.Offset.limits_fit.outer)
 
-pub put_outer-requires-clause-slot : goal.put_outer-requires-clause-slot
+pub put_outer_by_bits-requires-clause-slot : goal.put_outer_by_bits-requires-clause-slot
 unfolding repeat_rows
-put_outer-requires-clause-slot g c =
+put_outer_by_bits-requires-clause-slot g c =
     let numbers = g.O.Offset.numbers in let o = c.args.out.now in
     let same = copies_are (column_in numbers c.args.list) (values_in c.args.counts) c.loop-r.r _ c.repeat_count-times.ensures in
     let m = room_as c.requires.room (put_keeps (numbers o.offsets.now) 0 0 c.put_offset.ensures) (put_keeps (numbers c.args.inner.now.offsets.now) 0 0 c.put_offset-2.ensures) in
     omega (arith, outer_slot _ _ _ _ (omega (arith, c.row_count-r-end.ensures)) same c.loop-r.invariant.repeating m, g.met.O.Offset.numbers_length c.loop-r.out.offsets.now)
 
-pub put_outer-requires-clause-bit : goal.put_outer-requires-clause-bit
+pub put_outer_by_bits-requires-clause-bit : goal.put_outer_by_bits-requires-clause-bit
 unfolding repeat_rows
-put_outer-requires-clause-bit g c =
+put_outer_by_bits-requires-clause-bit g c =
     let numbers = g.O.Offset.numbers in let o = c.args.out.now in
     let same = copies_are (column_in numbers c.args.list) (values_in c.args.counts) c.loop-r.r _ c.repeat_count-times.ensures in
     let m = room_as c.requires.room (put_keeps (numbers o.offsets.now) 0 0 c.put_offset.ensures) (put_keeps (numbers c.args.inner.now.offsets.now) 0 0 c.put_offset-2.ensures) in
@@ -68,8 +68,8 @@ loop-r-preserved g c =
     record {
       repeating =
           rw left
-          (outer-more _ _ _ _ (omega (arith, c.row_count-r-end.ensures)) same l.invariant.repeating _ _ (sym (length-replicate _ (row_at C l.r))) c.put_copies-at.ensures.written _ (outer_valid (row_at C l.r) A.values A.bits l.r) c.put_outer.ensures.rows_after c.put_outer.ensures.offsets_after);
-      outer = outers_on l.invariant.outer c.put_outer.ensures.same;
+          (outer-more _ _ _ _ (omega (arith, c.row_count-r-end.ensures)) same l.invariant.repeating _ _ (sym (length-replicate _ (row_at C l.r))) c.put_copies-at.ensures.written _ (outer_valid (row_at C l.r) A.values A.bits l.r) c.put_outer_by_bits.ensures.rows_after c.put_outer_by_bits.ensures.offsets_after);
+      outer = outers_on l.invariant.outer c.put_outer_by_bits.ensures.same;
       lists = lists_on l.invariant.lists c.put_copies-at.ensures.same;
     }
 
